@@ -1,0 +1,159 @@
+#!/usr/bin/env python3
+"""Times `openapi_clean` on inputs that it makes itself, and tells the peak memory of each run.
+
+usage: bench/run.py [--sizes 1,4,16] [--runs N] [--command tag] [--only NAME] [--other PROGRAM] [--instructions]
+                    [PROGRAM]
+
+PROGRAM is the program to measure, by default the one that `./openapi_clean` built. A second program may be given by
+`--other`: it is run with the same argument on the same inputs in the same run. For each shape of input and each size
+in megabytes it prints the bytes read in a second (the best of the runs), the peak memory for each byte read, and how
+the time grew straight: the time for each byte at the largest size over that at the smallest. With `--instructions` and
+valgrind it counts the instructions for each byte too, at the two smallest sizes.
+"""
+import argparse
+import os
+import shutil
+import subprocess
+import sys
+import tempfile
+import time
+
+TOP = os.path.dirname(os.path.dirname(os.path.abspath(__file__)))
+BUILT = os.path.join(TOP, "crates", "openapi_clean", "out", "openapi_clean")
+MEGABYTE = 1_000_000
+
+
+def tag(value):
+    """A tag with the value under an extension."""
+    return '{"name":"t","x-v":' + value + "}"
+
+
+def many(size, piece):
+    """Pieces, numbered, until they are that long together."""
+    pieces, length, number = [], 0, 0
+    while length < size:
+        text = piece(number)
+        pieces.append(text)
+        length += len(text) + 1
+        number += 1
+    return ",".join(pieces)
+
+
+def wide(size):
+    """One object with many members."""
+    return tag("{" + many(size, lambda i: f'"member-{i:07}":{i}') + "}")
+
+
+def deep(size):
+    """Objects in objects, 120 levels, over and over."""
+    level = '{"name":"level","marks":[12,345,6789],"next":'
+    return tag("[" + many(size, lambda i: level * 120 + str(i) + "}" * 120) + "]")
+
+
+def texts(size):
+    """Long texts, with what has to be escaped."""
+    return tag("[" + many(size, lambda i: '"' + f"line {i} \\u00e9 \\n " * 400 + '"') + "]")
+
+
+def objects(size):
+    """Many small objects."""
+    small = '"known":true,"text":"a few words","none":null'
+    return tag("[" + many(size, lambda i: f'{{"id":{i},"name":"object {i}",{small}}}') + "]")
+
+
+def numbers(size):
+    """Long lists of numbers."""
+    return tag("[" + many(size, lambda i: "[" + ",".join(str(i * 37 + j) for j in range(1000)) + "]") + "]")
+
+
+TAGS = [wide, deep, texts, objects, numbers]
+SHAPES = {"tag": TAGS}
+
+
+def make(shape, size, path):
+    """Writes an input, in a process of its own: the peak memory of this one counts as that of what it starts."""
+    child = os.fork()
+    if child == 0:
+        with open(path, "w") as file:
+            file.write(shape(size))
+        os._exit(0)
+    if os.waitpid(child, 0)[1] != 0:
+        sys.exit(f"could not make {path}")
+
+
+def measured(program, command, path):
+    """Seconds of processor time and peak bytes of one run."""
+    with open(path, "rb") as source, open(os.devnull, "wb") as sink:
+        child = subprocess.Popen([program, command], stdin=source, stdout=sink)
+        _, status, usage = os.wait4(child.pid, 0)
+        child.returncode = os.waitstatus_to_exitcode(status)
+    if child.returncode != 0:
+        sys.exit(f"{program} {command} ended with status {child.returncode} on {path}")
+    return usage.ru_utime + usage.ru_stime, usage.ru_maxrss * 1024
+
+
+def instructions(program, command, path):
+    """Instructions of one run, as valgrind counts them."""
+    with open(path, "rb") as source, tempfile.NamedTemporaryFile() as out:
+        run = subprocess.run(
+            ["valgrind", "--tool=callgrind", f"--callgrind-out-file={out.name}", program, command],
+            stdin=source, stdout=subprocess.DEVNULL, stderr=subprocess.PIPE, text=True, check=True)
+    for line in run.stderr.splitlines():
+        if "Collected" in line:
+            return int(line.split(":")[1])
+    return 0
+
+
+def report(label, program, arguments, shape, folder):
+    """Runs one program on one shape of input, at each size."""
+    rates = []
+    for megabytes in arguments.sizes:
+        path = os.path.join(folder, f"{shape.__name__}-{megabytes}.json")
+        if not os.path.exists(path):
+            make(shape, int(megabytes * MEGABYTE), path)
+        size = os.path.getsize(path)
+        runs = [measured(program, arguments.command, path) for _ in range(arguments.runs)]
+        seconds, peak = min(run[0] for run in runs), max(run[1] for run in runs)
+        rates.append(seconds / size)
+        print(f"{label:6} {shape.__name__:8} {size / MEGABYTE:6.1f} MB  {size / seconds / MEGABYTE:7.1f} MB/s"
+              f"  {peak / size:6.1f} bytes of memory a byte", flush=True)
+    if len(rates) > 1:
+        print(f"{label:6} {shape.__name__:8} growth {rates[-1] / rates[0]:.2f}", flush=True)
+    if arguments.instructions and shutil.which("valgrind"):
+        report_instructions(label, program, arguments, shape, folder)
+
+
+def report_instructions(label, program, arguments, shape, folder):
+    """Counts the instructions for each byte at the two smallest sizes, which no other work on the machine disturbs."""
+    counts = []
+    for megabytes in arguments.sizes[:2]:
+        path = os.path.join(folder, f"{shape.__name__}-{megabytes}.json")
+        counts.append(instructions(program, arguments.command, path) / os.path.getsize(path))
+    growth = f", growth {counts[-1] / counts[0]:.2f}" if len(counts) > 1 else ""
+    print(f"{label:6} {shape.__name__:8} {counts[0]:.0f} instructions a byte{growth}", flush=True)
+
+
+def main():
+    parser = argparse.ArgumentParser(description="times openapi_clean")
+    parser.add_argument("program", nargs="?", default=BUILT)
+    parser.add_argument("--other")
+    parser.add_argument("--command", default="tag", choices=sorted(SHAPES))
+    parser.add_argument("--sizes", default="1,4,16", type=lambda text: [float(word) for word in text.split(",")])
+    parser.add_argument("--runs", default=3, type=int)
+    parser.add_argument("--only")
+    parser.add_argument("--instructions", action="store_true")
+    arguments = parser.parse_args()
+    if not os.access(arguments.program, os.X_OK):
+        sys.exit(f"no program at {arguments.program}: run ./openapi_clean once, which builds it")
+    programs = [("this", arguments.program)] + ([("other", arguments.other)] if arguments.other else [])
+    started = time.time()
+    with tempfile.TemporaryDirectory() as folder:
+        for shape in SHAPES[arguments.command]:
+            if arguments.only in (None, shape.__name__):
+                for label, program in programs:
+                    report(label, program, arguments, shape, folder)
+    print(f"{time.time() - started:.0f} seconds in all")
+
+
+if __name__ == "__main__":
+    main()

@@ -1,0 +1,29 @@
+-- What a refusal that is no want of memory says.
+use Rattle.std.proofs.Common.{◌≡◌, ◌≢◌, false, refl}
+use Rattle.openapi_node.specs.Tree.{Tree}
+use Rattle.openapi_node.specs.declared.fault.Cause.{Cause}
+use Rattle.openapi_node.specs.declared.fault.Cause.TheVariants.{
+  Missing,
+  MissingEither,
+  WrongKind,
+  NotAllowed,
+  UnknownVariant,
+  NameNotWritable,
+  NotWhole,
+  Memory,
+}
+use Rattle.openapi_tables.specs.Kind.{Kind}
+use Rattle.openapi_tables.specs.Tables.{final_tables}
+use Rattle.openapi_tables.specs.Conforms.{conforms}
+use Rattle.openapi_records.specs.Gives.{RefusesBy}
+
+pub not_conforming : (k : Kind) (t : Tree) (c : Cause) → c ≢ Memory → RefusesBy c k t
+    → conforms final_tables k t ≡ false
+not_conforming k t (Missing n) other refuses = refuses
+not_conforming k t (MissingEither n m) other refuses = refuses
+not_conforming k t (WrongKind e) other refuses = refuses
+not_conforming k t NotAllowed other refuses = refuses
+not_conforming k t UnknownVariant other refuses = refuses
+not_conforming k t NameNotWritable other refuses = refuses
+not_conforming k t NotWhole other refuses = refuses
+not_conforming k t Memory other refuses = absurd (other refl)

@@ -1,0 +1,22 @@
+-- What the words of the command line mean.
+use Rattle.std.specs.Prelude.{◌≡◌, ◌≢◌, ℕ, List, Result, Ok, Err, codes}
+use Rattle.openapi_tables.specs.Kind.{Kind, by, tag}
+use Rattle.openapi_clean.specs.declared.command.Command.{Command}
+use Rattle.openapi_clean.specs.declared.command.Command.TheVariants.{Tag}
+
+-- the word of a command
+abbrev pub word_of : Command → List ℕ
+word_of Tag = codes "tag"
+
+-- the kind of object that a command reads and writes
+abbrev pub kind_of : Command → Kind
+kind_of Tag = by tag
+
+-- the command has that word, or no command has it
+abbrev pub IsCommandOf : List ℕ → Result Command (Unit {0}) → Type 0
+IsCommandOf word (Ok c) = word ≡ word_of c
+IsCommandOf word (Err e) = (c : Command) → word ≢ word_of c
+
+-- the line for wrong arguments
+abbrev pub usage_line : List ℕ
+usage_line = codes "usage: openapi_clean tag|schema|document|settle|operations"

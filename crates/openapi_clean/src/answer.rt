@@ -1,0 +1,189 @@
+//! The line that answers an input. Each step lets go of what the step before it made, so that no more than two forms of
+//! the input stand at a time: its value, its tree, the object that was read, the cleaned tree, the cleaned value, the
+//! line.
+ghost use Rattle.std.specs.Prelude.{◌≡◌, ◌≢◌, ◌⊎◌, ◌++◌, ◌∷◌, [], string_bytes, IfOk, IfErr, Some, true, false};
+ghost use Rattle.openapi_clean.specs.Commands.{kind_of};
+ghost use Rattle.openapi_clean.specs.Output.{IsAnswer, IsJsonOf, IsNoJson, IsRefusalOf, HoldsFraction};
+ghost use Rattle.openapi_clean.specs.Output.{IsUnwhole, Explains};
+ghost use Rattle.openapi_node.specs.Json.{IsTreeOf, data_of};
+ghost use Rattle.openapi_tables.specs.Conforms.{conforms};
+ghost use Rattle.openapi_tables.specs.Print.{print, clean};
+ghost use Rattle.openapi_tables.specs.Read.{form};
+ghost use Rattle.openapi_tables.specs.Tables.{final_tables};
+ghost use Rattle.serde_json.specs.Read.{read};
+ghost use Rattle.serde_json.specs.View.{view};
+ghost use Rattle.serde_json.specs.Written.{has_float, compact_text};
+
+use crate::command::Command;
+use crate::fault::RunFault;
+use openapi_node::{Cause, Fault, Node, Steps};
+use openapiv3::{FromNode, Tag, ToNode};
+use serde_json::Value;
+use std::alloc::Global;
+
+/// The line that answers the bytes.
+pub fn answer(
+    alloc: Global,
+    command: Command,
+    bytes: &[u8],
+    steps: &mut Steps,
+) -> Result<String, RunFault>
+    ensures ok { IfOk result (λ line. IsAnswer (kind_of command) bytes.now (string_bytes line)) }
+    ensures err { IfErr result (Explains (kind_of command) bytes.now) }
+{
+    match command {
+        Command::Tag => cleaned_line::<Tag>(alloc, bytes, steps),
+    }
+}
+
+/// The line of what is read as a `T` and written again.
+fn cleaned_line<T: FromNode + ToNode + Drop>(
+    alloc: Global,
+    bytes: &[u8],
+    steps: &mut Steps,
+) -> Result<String, RunFault>
+    ensures ok { IfOk result (λ line. IsAnswer T.FromNode.kind bytes.now (string_bytes line)) }
+    ensures err { IfErr result (Explains T.FromNode.kind bytes.now) }
+{
+    let value = cleaned_value::<T>(alloc, bytes, steps)?;
+    line_of_value(alloc, &value)
+}
+
+/// The value of the cleaned tree.
+fn cleaned_value<T: FromNode + ToNode + Drop>(
+    alloc: Global,
+    bytes: &[u8],
+    steps: &mut Steps,
+) -> Result<Value, RunFault>
+    ensures ok { IfOk result (λ v. IsJsonOf bytes.now (λ t. (conforms final_tables T.FromNode.kind t ≡ true)
+        × (view v ≡ data_of (clean final_tables T.FromNode.kind t)))) }
+    ensures err { IfErr result (Explains T.FromNode.kind bytes.now) }
+{
+    let node = cleaned_tree::<T>(alloc, bytes, steps)?;
+    value_of_tree(alloc, &node, steps)
+}
+
+/// The cleaned tree.
+fn cleaned_tree<T: FromNode + ToNode + Drop>(
+    alloc: Global,
+    bytes: &[u8],
+    steps: &mut Steps,
+) -> Result<Node, RunFault>
+    ensures ok { IfOk result (λ n. IsJsonOf bytes.now (λ t. (conforms final_tables T.FromNode.kind t ≡ true)
+        × (n ≡ clean final_tables T.FromNode.kind t))) }
+    ensures err { IfErr result (Explains T.FromNode.kind bytes.now) }
+{
+    let object = read_object::<T>(alloc, bytes, steps)?;
+    tree_of_object(alloc, &object)
+}
+
+/// The object that the bytes hold.
+fn read_object<T: FromNode + Drop>(
+    alloc: Global,
+    bytes: &[u8],
+    steps: &mut Steps,
+) -> Result<T, RunFault>
+    ensures ok { IfOk result (λ x. IsJsonOf bytes.now (λ t. (conforms final_tables T.kind t ≡ true)
+        × (form final_tables T.kind t ≡ T.form_of x))) }
+    ensures err { IfErr result (Explains T.kind bytes.now) }
+{
+    let node = read_tree(alloc, bytes)?;
+    object_of_tree(alloc, &node, steps)
+}
+
+/// The tree that the bytes hold.
+fn read_tree(alloc: Global, bytes: &[u8]) -> Result<Node, RunFault>
+    ensures ok { IfOk result (λ n. IsJsonOf bytes.now (λ t. n ≡ t)) }
+    ensures err { IfErr result (λ e. (e ≡ RunFault.Memory)
+        ⊎ (((e ≡ RunFault.NotJson) × IsNoJson bytes.now) ⊎ HoldsFraction bytes.now e)) }
+{
+    let value = parse(alloc, bytes)?;
+    tree_of_value(alloc, &value)
+}
+
+/// The value that the bytes are the JSON text of.
+fn parse(alloc: Global, bytes: &[u8]) -> Result<Value, RunFault>
+    ensures ok { IfOk result (λ v. read bytes.now ≡ Some (view v)) }
+    ensures err { IfErr result (λ e. (e ≡ RunFault.Memory) ⊎ ((e ≡ RunFault.NotJson) × IsNoJson bytes.now)) }
+{
+    match Value::from_slice(alloc, bytes) {
+        Ok(value) => Ok(value),
+        Err(error) => if error.is_memory() {
+            Err(RunFault::Memory)
+        } else {
+            Err(RunFault::NotJson)
+        },
+    }
+}
+
+/// A refusal of a tree, with want of memory apart.
+fn refusal(fault: Fault) -> RunFault
+    ensures memory { fault.cause ≡ Cause.Memory → result ≡ RunFault.Memory }
+    ensures other { fault.cause ≢ Cause.Memory → result ≡ RunFault.Refused fault }
+{
+    match fault.cause {
+        Cause::Memory => RunFault::Memory,
+        _ => RunFault::Refused(fault),
+    }
+}
+
+/// The tree of a value.
+fn tree_of_value(alloc: Global, value: &Value) -> Result<Node, RunFault>
+    ensures ok { IfOk result (IsTreeOf (view value.now)) }
+    ensures err { IfErr result (λ e. (e ≡ RunFault.Memory) ⊎ IsUnwhole (view value.now) e) }
+{
+    match Node::from_value(alloc, value) {
+        Ok(node) => Ok(node),
+        Err(fault) => Err(refusal(fault)),
+    }
+}
+
+/// The object that a tree is read as.
+#[tactic(auto, using(crate::proofs::Refusals::not_conforming))]
+fn object_of_tree<T: FromNode>(alloc: Global, node: &Node, steps: &mut Steps) -> Result<T, RunFault>
+    ensures ok { IfOk result (λ x. (conforms final_tables T.kind node.now ≡ true)
+        × (form final_tables T.kind node.now ≡ T.form_of x)) }
+    ensures err { IfErr result (λ e. (e ≡ RunFault.Memory) ⊎ IsRefusalOf T.kind node.now e) }
+{
+    match T::from_node(alloc, node, steps) {
+        Ok(object) => Ok(object),
+        Err(fault) => Err(refusal(fault)),
+    }
+}
+
+/// The tree that an object is written as.
+fn tree_of_object<T: ToNode>(alloc: Global, object: &T) -> Result<Node, RunFault>
+    ensures ok { IfOk result (λ n. n ≡ print final_tables T.FromNode.kind (T.FromNode.form_of object.now)) }
+    ensures err { IfErr result (λ e. e ≡ RunFault.Memory) }
+{
+    match object.to_node(alloc) {
+        Ok(node) => Ok(node),
+        Err(_) => Err(RunFault::Memory),
+    }
+}
+
+/// The value of a tree.
+fn value_of_tree(alloc: Global, node: &Node, steps: &mut Steps) -> Result<Value, RunFault>
+    ensures ok { IfOk result (λ v. view v ≡ data_of node.now) }
+    ensures err { IfErr result (λ e. e ≡ RunFault.Memory) }
+{
+    match node.to_value(alloc, steps) {
+        Ok(value) => Ok(value),
+        Err(_) => Err(RunFault::Memory),
+    }
+}
+
+/// The compact JSON of a value, and the end of the line.
+fn line_of_value(alloc: Global, value: &Value) -> Result<String, RunFault>
+    requires { has_float (view value.now) ≡ false }
+    ensures ok { IfOk result (λ line. string_bytes line ≡ compact_text (view value.now) ++ 10 ∷ []) }
+    ensures err { IfErr result (λ e. e ≡ RunFault.Memory) }
+{
+    let Ok(mut line) = value.to_string(alloc) else {
+        return Err(RunFault::Memory);
+    };
+    match line.push('\n') {
+        Ok(()) => Ok(line),
+        Err(_) => Err(RunFault::Memory),
+    }
+}

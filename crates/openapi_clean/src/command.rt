@@ -1,0 +1,37 @@
+//! The commands of the program.
+ghost use Rattle.std.specs.Prelude.{◌≡◌};
+ghost use Rattle.openapi_clean.specs.Commands.{usage_line};
+
+use std::str::FromStr;
+
+/// What the program is told to do, by its one argument.
+#[derive(Clone, Copy, Debug, PartialEq, Eq)]
+pub enum Command {
+    /// `tag`: reads a Tag Object (OpenAPI 3.0.3, section 4.7.22) and writes it cleaned.
+    Tag,
+}
+
+impl Command {
+    /// The line that is shown on standard error for any other arguments, without its end.
+    pub fn usage() -> &'static str
+        ensures { result.now ≡ usage_line }
+    {
+        "usage: openapi_clean tag|schema|document|settle|operations"
+    }
+}
+
+impl FromStr for Command {
+    type Err = ();
+
+    ghost use Rattle.openapi_clean.specs.Commands.{IsCommandOf};
+
+    ghost from_str_gives = { IsCommandOf };
+
+    /// The command of a word. `Err` says that no command has that word.
+    fn from_str(word: &str) -> Result<Command, ()> {
+        match word {
+            "tag" => Ok(Command::Tag),
+            _ => Err(()),
+        }
+    }
+}

@@ -1,0 +1,40 @@
+//! The failures of a run.
+ghost use Rattle.std.specs.Prelude.{◌≡◌};
+ghost use Rattle.openapi_clean.specs.Status.{status_of};
+
+use openapi_node::Fault;
+use thiserror::Error;
+
+/// Why a run wrote no whole line. What is printed is one line of text, without its end.
+#[derive(Debug, Drop, Error)]
+pub enum RunFault {
+    /// The input is JSON and was refused: a number in it is not whole, or the value is not what the command reads. The
+    /// fault tells the cause and its place, and is what is printed.
+    #[error("{0}")]
+    Refused(Fault),
+    /// The input is not UTF-8 or not JSON (RFC 8259).
+    #[error("not JSON")]
+    NotJson,
+    /// Some growth of memory was refused.
+    #[error("out of memory")]
+    Memory,
+    /// The reader failed, or did not end.
+    #[error("read failed")]
+    Read,
+    /// The writer failed, or took nothing.
+    #[error("write failed")]
+    Write,
+}
+
+impl RunFault {
+    /// The exit status of the program: 1 for a refusal, 2 for what is no JSON, 3 for all else.
+    pub fn status(&self) -> u8
+        ensures { result ≡ status_of self.now }
+    {
+        match self {
+            RunFault::Refused(_) => 1,
+            RunFault::NotJson => 2,
+            RunFault::Memory | RunFault::Read | RunFault::Write => 3,
+        }
+    }
+}

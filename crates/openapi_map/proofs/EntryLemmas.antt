@@ -1,0 +1,147 @@
+-- The entries of a map: what the code keeps of them, the place of a name, and one entry after another.
+use Rattle.std.proofs.Common.{◌≡◌, ℕ, zero, suc, ◌+◌, ◌<◌, Bool, false, cond, not, List, [], ◌∷◌, ◌++◌}
+use Rattle.std.proofs.Common.{map, length, get_or, set, position, slice_get, Option, Some, None, is_some, nat_lt}
+use Rattle.std.proofs.Common.{string_bytes, take, drop, drop-cons, refl, sym, ap, subst, ◌∙◌, arith, true≢false}
+use Rattle.std.proofs.lemmas.List.{map-append, take-append-drop, take_more}
+use Rattle.std.proofs.lemmas.Map.Made.{is_some-lookup}
+use Rattle.std.proofs.lemmas.Option.{slice_get_within, get_or_from_slice_get}
+use Rattle.std.specs.Cmp.Lexicographic.{nat_list_eq_equiv}
+use Rattle.std.specs.List.{list_any, position_or_len}
+use Rattle.std.specs.Map.{keys_of, values_of}
+use Rattle.std.specs.Str.{bytes_eq}
+use Rattle.indexmap.proofs.MapLemmas.{Found-position, insert_entry-first, insert_entry-absent}
+use Rattle.indexmap.proofs.MapLemmas.{absent_from_lookup, absent_before, some_index}
+use Rattle.indexmap.specs.IndexMap.{set_value_at}
+use Rattle.openapi_map.specs.Entries.{Entries, entries_of, names_of, get, insert_entry, HasDistinctNames}
+use Rattle.openapi_map.specs.declared.Entry.{Entry}
+
+-- ---- what the code keeps
+module _ {V : Type 0} where
+  pub length-entries_of : (es : List (Entry V)) → length (entries_of es) ≡ length es
+  length-entries_of [] = refl
+  length-entries_of (e ∷ es) = ap suc (length-entries_of es)
+
+  pub length-names_of : (es : List (Entry V)) → length (names_of es) ≡ length es
+  length-names_of [] = refl
+  length-names_of (e ∷ es) = ap suc (length-names_of es)
+
+  pub within-entries : (es : List (Entry V)) (m : Entries V) (i : ℕ) → entries_of es ≡ m → i < length m
+      → i < length es
+  within-entries es m i e h = omega (arith, ap length e, length-entries_of es)
+
+  pub entry-entries_of : (es : List (Entry V)) (i : ℕ) (d : Entry V) → i < length es
+      → slice_get (entries_of es) i ≡ Some (string_bytes (get_or es i d).name, (get_or es i d).value)
+  entry-entries_of [] i d h = absurd (omega arith)
+  entry-entries_of (e ∷ es) zero d h = refl
+  entry-entries_of (e ∷ es) (suc i) d h = entry-entries_of es i d (omega arith)
+
+  pub name-names_of : (es : List (Entry V)) (i : ℕ) (d : Entry V) → i < length es
+      → slice_get (names_of es) i ≡ Some (string_bytes (get_or es i d).name)
+  name-names_of [] i d h = absurd (omega arith)
+  name-names_of (e ∷ es) zero d h = refl
+  name-names_of (e ∷ es) (suc i) d h = name-names_of es i d (omega arith)
+
+  value-entries_of : (es : List (Entry V)) (i : ℕ) (d : Entry V) → i < length es
+      → slice_get (values_of (entries_of es)) i ≡ Some (get_or es i d).value
+  value-entries_of [] i d h = absurd (omega arith)
+  value-entries_of (e ∷ es) zero d h = refl
+  value-entries_of (e ∷ es) (suc i) d h = value-entries_of es i d (omega arith)
+
+  pub entries_of-push : (es : List (Entry V)) (e : Entry V)
+      → entries_of (es ++ e ∷ []) ≡ entries_of es ++ (string_bytes e.name, e.value) ∷ []
+  entries_of-push [] e = refl
+  entries_of-push (x ∷ es) e = ap (λ r. (string_bytes x.name, x.value) ∷ r) (entries_of-push es e)
+
+  pub names_of-push : (es : List (Entry V)) (e : Entry V)
+      → names_of (es ++ e ∷ []) ≡ names_of es ++ string_bytes e.name ∷ []
+  names_of-push es e =
+      ap keys_of (entries_of-push es e)
+      ∙ map-append (λ x. x.0) (entries_of es) ((string_bytes e.name, e.value) ∷ [])
+
+  -- a value that is put at a place changes no name
+  pub entries_of-set : (es : List (Entry V)) (i : ℕ) (d : Entry V) (v : V)
+      → entries_of (set es i (record { name = (get_or es i d).name; value = v })) ≡ set_value_at (entries_of es) i v
+  entries_of-set [] i d v = refl
+  entries_of-set (e ∷ es) zero d v = refl
+  entries_of-set (e ∷ es) (suc i) d v = ap (λ r. (string_bytes e.name, e.value) ∷ r) (entries_of-set es i d v)
+
+  pub names_of-set : (es : List (Entry V)) (i : ℕ) (d : Entry V) (v : V)
+      → names_of (set es i (record { name = (get_or es i d).name; value = v })) ≡ names_of es
+  names_of-set [] i d v = refl
+  names_of-set (e ∷ es) zero d v = refl
+  names_of-set (e ∷ es) (suc i) d v = ap (λ r. string_bytes e.name ∷ r) (names_of-set es i d v)
+
+-- ---- the place of a name
+-- a name is at the place of the element that it is read from
+pub position-map : {A B : Type 0} (f : A → B) (t : B → Bool) (xs : List A)
+    → position (λ x. t (f x)) xs ≡ position t (map f xs)
+position-map {A} f t xs = λ i. cond (nat_lt (places xs i) (lengths xs i)) (Some (places xs i)) None
+  where
+    places : (ys : List A) → position_or_len (λ x. t (f x)) ys ≡ position_or_len t (map f ys)
+    places [] = refl
+    places (y ∷ ys) = ap (λ n. cond (not (t (f y))) (1 + n) 0) (places ys)
+
+    lengths : (ys : List A) → length ys ≡ length (map f ys)
+    lengths [] = refl
+    lengths (y ∷ ys) = ap suc (lengths ys)
+
+pub names_of-map : {V : Type 0} (es : List (Entry V)) → map (λ e. string_bytes e.name) es ≡ names_of es
+names_of-map [] = refl
+names_of-map (e ∷ es) = ap (λ r. string_bytes e.name ∷ r) (names_of-map es)
+
+module _ {V : Type 0} (name : List ℕ) where
+  -- a name with a place has the value there
+  pub get-found : (es : List (Entry V)) (i : ℕ) (d : Entry V) → Some i ≡ position (bytes_eq name) (names_of es)
+      → Some (get_or es i d).value ≡ get name (entries_of es)
+  get-found es i d p =
+      let found = Found-position (bytes_eq name) (entries_of es) i (sym p) in
+      sym (found.value ∙ value-entries_of es i d (omega (arith, found.within, length-entries_of es)))
+
+  pub found-within : (es : List (Entry V)) (i : ℕ) → Some i ≡ position (bytes_eq name) (names_of es)
+      → i < length es
+  found-within es i p =
+      omega (arith, (Found-position (bytes_eq name) (entries_of es) i (sym p)).within, length-entries_of es)
+
+  -- and one with none has no value
+  pub get-missing : (es : Entries V) → None ≡ position (bytes_eq name) (keys_of es) → None ≡ get name es
+  get-missing es p = by (get name es) (ap is_some p ∙ some_index (bytes_eq name) es)
+    where
+      by : (r : Option V) → false ≡ is_some r → None ≡ r
+      by None e = refl
+      by (Some v) e = absurd (true≢false (sym e))
+
+  -- a name with no value is none of the names
+  pub none-among : (es : Entries V) → get name es ≡ None → list_any (bytes_eq name) (keys_of es) ≡ false
+  none-among es e = sym (is_some-lookup (bytes_eq name) es) ∙ ap is_some e
+
+  pub insert-found : (es : Entries V) (i : ℕ) (v : V) → Some i ≡ position (bytes_eq name) (keys_of es)
+      → set_value_at es i v ≡ insert_entry es name v
+  insert-found es i v p =
+      sym (insert_entry-first bytes_eq name v es i (Found-position (bytes_eq name) es i (sym p)).first)
+
+  pub insert-missing : (es : Entries V) (v : V) → get name es ≡ None → es ++ (name, v) ∷ [] ≡ insert_entry es name v
+  insert-missing es v e = sym (insert_entry-absent bytes_eq name v es (absent_from_lookup (bytes_eq name) es e))
+
+-- ---- for a loop that goes over a map in order and builds another, in the words of `push_new` and `insert`
+module _ {V : Type 0} (es : Entries V) (i : ℕ) (e : List ℕ × V) where
+  here : slice_get es i ≡ Some e → get_or es i e ≡ e
+  here at = get_or_from_slice_get es i e e at
+
+  split_at : slice_get es i ≡ Some e → es ≡ take i es ++ e ∷ drop (suc i) es
+  split_at at =
+      let rest = drop-cons es i e (slice_get_within es i e at) ∙ ap (λ x. x ∷ drop (suc i) es) (here at) in
+      sym (take-append-drop i es) ∙ ap (λ r. take i es ++ r) rest
+
+  -- the next entry of a map has a name that those before it lack
+  pub absent-next : HasDistinctNames es → slice_get es i ≡ Some e → get e.0 (take i es) ≡ None
+  absent-next distinct at =
+      absent_before nat_list_eq_equiv (take i es) (drop (suc i) es) e (subst HasDistinctNames (split_at at) distinct)
+
+  -- and goes last
+  pub push-next : slice_get es i ≡ Some e → take i es ++ e ∷ [] ≡ take (i + 1) es
+  push-next at = sym (take_more es i e (slice_get_within es i e at) ∙ ap (λ x. take i es ++ x ∷ []) (here at))
+
+  pub insert_entry-next : HasDistinctNames es → slice_get es i ≡ Some e
+      → insert_entry (take i es) e.0 e.1 ≡ take (i + 1) es
+  insert_entry-next distinct at =
+      sym (insert-missing e.0 (take i es) e.1 (absent-next distinct at)) ∙ push-next at

@@ -1,0 +1,5 @@
+mod CloneLemmas
+pub mod EntryLemmas
+mod EqualityLemmas
+mod IndexLemmas
+mod IterLemmas

@@ -1,0 +1,9 @@
+use Rattle.std.proofs.Common.{sym, subst}
+use Rattle.openapi_map.specs.Entries.{entries_of, HasDistinctNames}
+use Rattle.openapi_map.proofs.IndexLemmas.{distinct-nil}
+use Rattle.openapi_map.proofs.OrderedMap.with_capacity.Goals as goal
+
+pub invariant_of-result : goal.invariant_of-result
+invariant_of-result g c =
+    let empty = sym c.in_ok-with_capacity.ensures.items in
+    (subst (λ es. HasDistinctNames (entries_of es)) empty distinct-nil, tt)

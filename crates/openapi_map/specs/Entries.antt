@@ -1,0 +1,42 @@
+-- A map as the list of its entries: each name, by its bytes, beside its value.
+use Rattle.std.specs.Prelude.{◌≡◌, ℕ, List, [], ◌∷◌, Option, String, string_bytes}
+use Rattle.std.specs.List.{IsDistinct, AllZip}
+use Rattle.std.specs.Map.{keys_of, lookup}
+use Rattle.std.specs.Str.{bytes_eq}
+use Rattle.std.specs.declared.alloc.Global.{Global}
+use Rattle.indexmap.specs.IndexMap as index_map
+use Rattle.openapi_map.specs.declared.Entry.{Entry}
+
+-- entries in their order, each a name and a value
+abbrev pub Entries : Type 0 → Type 0
+Entries V = List (List ℕ × V)
+
+module _ {V : Type 0} where
+  -- what the code keeps, with each name by its bytes
+  abbrev pub entries_of : List (Entry V) → Entries V
+  entries_of [] = []
+  entries_of (e ∷ es) = (string_bytes e.name, e.value) ∷ entries_of es
+
+  -- the names of what the code keeps
+  abbrev pub names_of : List (Entry V) → List (List ℕ)
+  names_of es = keys_of (entries_of es)
+
+  -- an entry whose name is owned, with the name by its bytes
+  abbrev pub owned_entry : String Global × V → List ℕ × V
+  owned_entry e = (string_bytes e.0, e.1)
+
+  -- the value at a name, where there is one
+  abbrev pub get : List ℕ → Entries V → Option V
+  get name es = lookup (bytes_eq name) es
+
+  -- the entries after an insert: a name that is there keeps its place and takes the value, and a new name goes last
+  abbrev pub insert_entry : Entries V → List ℕ → V → Entries V
+  insert_entry = index_map.insert_entry bytes_eq
+
+  -- no name stands twice
+  abbrev pub HasDistinctNames : Entries V → Type 0
+  HasDistinctNames es = IsDistinct bytes_eq (keys_of es)
+
+  -- the second has the names of the first in their order, and at each a value that C says is a clone
+  abbrev pub IsCloneOf : (V → V → Type 0) → Entries V → Entries V → Type 0
+  IsCloneOf C = AllZip (λ e f. (f.0 ≡ e.0) × C e.1 f.1)

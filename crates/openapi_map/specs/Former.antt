@@ -1,0 +1,87 @@
+-- A list of entries as a former of its values.
+use Rattle.std.specs.Prelude.{◌≡◌, ℕ, max, List, [], ◌∷◌, map, Option, Some, None, String, string_bytes}
+use Rattle.std.specs.List.{IsDistinct, IsDistinct-prop}
+use Rattle.std.specs.Map.{values_of}
+use Rattle.std.specs.Str.{bytes_eq}
+use Rattle.std.specs.declared.alloc.Global.{Global}
+use Rattle.std.specs.declared.boxed.Box.{Box}
+use mathlib.Core.Path.{refl, sym, ap, ◌∙◌}
+use mathlib.Core.HLevel.{×_prop}
+use mathlib.Core.Former.{Former, Count, Row, one_more, this, const, pair, list, via, list_count, list_put, children}
+use base.Stored.{code_map, coded×, coded_list, coded_ℕ, gcons, Coded-set}
+use denote.RattleType.{RattleType}
+use denote.HolePlaces.{Recodes}
+use denote.Hole.Carrier.{listed}
+use denote.Model.Placed.{held}
+use denote.Param.Nested.{deepest}
+use denote.Param.Weighed.{Weighed, most, none_max, List-puts, w_pair, w_const}
+use Rattle.openapi_map.specs.declared.Entry.{Entry}
+use Rattle.openapi_map.specs.Entries.{Entries, entries_of, names_of}
+use Rattle.openapi_map.specs.Index.{Index, IsIndexAt}
+
+-- a name beside one of g's values
+abbrev pub entry : Former {0} → Former {0}
+entry g = pair (const (List ℕ)) g
+
+-- the entry, with h applied to its value
+abbrev pub on_value : {X Y : Type 0} → (X → Y) → List ℕ × X → List ℕ × Y
+on_value h p = (p.0, h p.1)
+
+-- what the code keeps for an entry
+abbrev pub stored : Former {0}
+stored =
+    via (pair (const (String Global)) this) Entry
+    (λ X e. (e.name, e.value)) (λ X v. record { name = v.0; value = v.1 }) (λ X e. refl) (λ X v. refl)
+
+abbrev pub on_stored : {X Y : Type 0} → (X → Y) → Entry X → Entry Y
+on_stored h e = record { name = e.name; value = h e.value }
+
+-- names weigh nothing
+most_values : {Y : Type 0} (f : Y → ℕ) (es : Entries Y) → most (λ p. max 0 (f p.1)) es ≡ most f (values_of es)
+most_values f [] = refl
+most_values f (e ∷ es) = λ i. max (sym (none_max (f e.1)) i) (most_values f es i)
+
+pub entries_puts : {g : Former {0}} (w : Weighed g) (X : Type 0) (μ : X → ℕ) (es : Entries (g.Of X)) (n : Count)
+    (t : Row X n) → deepest μ (list_count (entry g) (map ((entry g).shape X) es) n) (list_put (entry g) X es n t)
+    ≡ max (most (w.weight X μ) (values_of es)) (deepest μ n t)
+entries_puts w X μ es n t =
+    List-puts (w_pair (w_const (List ℕ)) w) X μ es n t
+    ∙ ap (λ a. max a (deepest μ n t)) (most_values (w.weight X μ) es)
+
+pub values_listed : (X : Type 0) (es : Entries X) → listed _ (children (list (entry this)) X es) ≡ values_of es
+values_listed X [] = refl
+values_listed X (e ∷ es) = ap (λ l. e.1 ∷ l) (values_listed X es)
+
+pub entries_recoded : (R R' : RattleType) (h : R.Denot → R'.Denot) → Recodes R R' h → (es : Entries R.Denot)
+    → (coded_list (coded× (coded_list coded_ℕ) R'.coded)).code (map (on_value h) es)
+    ≡ (coded_list (coded× (coded_list coded_ℕ) R.coded)).code es
+entries_recoded R R' h e es =
+    let code = (coded× (coded_list coded_ℕ) R.coded).code in
+    let code' = (coded× (coded_list coded_ℕ) R'.coded).code in
+    sym (code_map code code' (on_value h) (λ x i. gcons ((coded_list coded_ℕ).code x.0) (sym (e x.1) i)) es)
+
+pub entries_of-map : {X Y : Type 0} (h : X → Y) (es : List (Entry X))
+    → entries_of (map (on_stored h) es) ≡ map (on_value h) (entries_of es)
+entries_of-map h [] = refl
+entries_of-map h (e ∷ es) = ap (λ l. (string_bytes e.name, h e.value) ∷ l) (entries_of-map h es)
+
+pub names_of-map : {X Y : Type 0} (h : X → Y) (es : List (Entry X))
+    → names_of (map (on_stored h) es) ≡ names_of es
+names_of-map h [] = refl
+names_of-map h (e ∷ es) = ap (λ l. string_bytes e.name ∷ l) (names_of-map h es)
+
+pub entries_of-held : (X : Type 0) (es : List (Entry X))
+    → held (list (entry this)) X (entries_of es) ≡ held (list stored) X es
+entries_of-held X [] = refl
+entries_of-held X (e ∷ es) = λ i. (one_more (entries_of-held X es i).0, (e.value, (entries_of-held X es i).1))
+
+pub IsIndexAt-prop : (names : List (List ℕ)) (index : Option (Box Index Global)) → IsProp (IsIndexAt names index)
+IsIndexAt-prop names None = λ p q. refl
+IsIndexAt-prop names (Some b) = Coded-set (coded_list (coded_list coded_ℕ)) _ _
+
+-- what holds of the names goes along a map of the values
+abbrev pub Indexed : Option (Box Index Global) → List (List ℕ) → Type 0
+Indexed index names = IsDistinct bytes_eq names × IsIndexAt names index
+
+pub Indexed-prop : (index : Option (Box Index Global)) (names : List (List ℕ)) → IsProp (Indexed index names)
+Indexed-prop index names = ×_prop (IsDistinct-prop bytes_eq names) (IsIndexAt-prop names index)

@@ -1,0 +1,5 @@
+pub mod Entries
+pub mod Equality
+pub mod Former
+pub mod Index
+pub mod formers

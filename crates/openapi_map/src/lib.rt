@@ -1,0 +1,185 @@
+#![tactic(auto)]
+//! A map from names to values that keeps the order of insertion, and may stand inside the type of its own values.
+//!
+//! It stands where a Rust program has an `IndexMap<String, V>`, for the objects of a JSON document: their members have
+//! names, and are written in the order in which they were read. A program sees it as the list of its entries.
+//!
+//! A map of at most 16 entries is one list, along which a name is looked for. A longer one also keeps a hashed index
+//! of its names, so that a look-up takes the same time however long the map is. The index has a second copy of each
+//! name.
+ghost use Rattle.std.specs.Prelude.{◌≡◌, ◌-◌, ◌<◌, ◌^◌, ◌↔◌, [], ◌++◌, ◌∷◌, length, slice_get, is_some};
+ghost use Rattle.std.specs.Prelude.{IsTrue, IfOk, OnOk, OnErr, Some, None, string_bytes};
+ghost use Rattle.std.specs.Option.{option_copied, option_map};
+ghost use Rattle.std.specs.Map.Iter.{deref_pair};
+ghost use Rattle.openapi_map.specs.Entries.{get, insert_entry, HasDistinctNames};
+
+pub use crate::iter::{IntoIter, Iter, Keys, Values};
+use crate::lookup::{add_name, place_of};
+use indexmap::IndexSet;
+use std::alloc::{AllocError, Global};
+use std::marker::Model;
+use std::mem;
+
+mod iter;
+mod lookup;
+#[cfg(test)]
+mod tests;
+mod traits;
+
+/// A name beside its value.
+#[derive(Clone, Drop)]
+struct Entry<V> {
+    name: String,
+    value: V,
+}
+
+/// Values by name, in the order in which the names came. Contracts see it as the list of its entries, no two of which
+/// have the same name.
+#[derive(Drop)]
+pub struct OrderedMap<V> {
+    entries: Vec<Entry<V>>,
+    // The names in their order, where the entries are many. It is boxed to keep a short map small.
+    index: Option<Box<IndexSet<String>>>,
+}
+
+impl<V> Model for OrderedMap<V> {
+    ghost use Rattle.std.specs.Coded.{coded_list, coded×, coded_ℕ};
+    ghost use Rattle.openapi_map.specs.Entries.{Entries, entries_of, names_of, HasDistinctNames};
+    ghost use Rattle.openapi_map.specs.Index.{IsIndexAt};
+
+    ghost Value = { Entries V };
+
+    ghost coded = { coded_list (coded× (coded_list coded_ℕ) V.code) };
+
+    ghost view = { λ m. entries_of m.entries.items };
+
+    ghost invariant = { λ m. HasDistinctNames (entries_of m.entries.items)
+        × IsIndexAt (names_of m.entries.items) m.index };
+}
+
+impl<V> OrderedMap<V> {
+    /// An empty map, which allocates nothing until the first insert.
+    pub fn new(alloc: Global) -> OrderedMap<V>
+        ensures { result ≡ [] }
+    {
+        OrderedMap {
+            entries: Vec::new(alloc),
+            index: None,
+        }
+    }
+
+    /// An empty map with room for `capacity` entries. An `Err` says that there was no memory for them.
+    pub fn with_capacity(alloc: Global, capacity: usize) -> Result<OrderedMap<V>, AllocError>
+        ensures { IfOk result (λ m. m ≡ []) }
+    {
+        Ok(OrderedMap {
+            entries: Vec::with_capacity(alloc, capacity)?,
+            index: None,
+        })
+    }
+
+    /// The number of entries.
+    pub fn len(&self) -> usize
+        ensures len { result ≡ length self.now }
+        ensures small { result < 2 ^ 63 }
+        ensures distinct { HasDistinctNames self.now }
+    {
+        self.entries.len()
+    }
+
+    /// Whether there are no entries.
+    pub fn is_empty(&self) -> bool
+        ensures { IsTrue result ↔ (length self.now ≡ 0) }
+    {
+        self.len() == 0
+    }
+
+    /// The allocator that the map was made with.
+    pub fn allocator(&self) -> &Global {
+        self.entries.allocator()
+    }
+
+    /// Whether the map has the name.
+    pub fn contains_key(&self, name: &str) -> bool
+        ensures { result ≡ is_some (get name.now self.now) }
+    {
+        self.get(name).is_some()
+    }
+
+    /// The value at the name, or `None` where the map lacks it.
+    pub fn get(&self, name: &str) -> Option<&V>
+        ensures { option_copied result ≡ get name.now self.now }
+    {
+        match place_of(&self.entries, &self.index, name) {
+            Some(place) => Some(&self.entries[place].value),
+            None => None,
+        }
+    }
+
+    /// The name and the value at a place, counted from 0.
+    pub fn entry_at(&self, index: usize) -> (&str, &V)
+        requires { index < length self.now }
+        ensures { slice_get self.now index ≡ Some (result.0.now, result.1.now) }
+    {
+        let entry = &self.entries[index];
+        (entry.name.as_str(), &entry.value)
+    }
+
+    /// The name and the value at a place, counted from 0, or `None` past the last.
+    pub fn get_index(&self, index: usize) -> Option<(&str, &V)>
+        ensures { option_map deref_pair result ≡ slice_get self.now index }
+    {
+        if index < self.len() {
+            Some(self.entry_at(index))
+        } else {
+            None
+        }
+    }
+
+    /// The name and the value that came first, or `None` in an empty map.
+    pub fn first(&self) -> Option<(&str, &V)>
+        ensures { option_map deref_pair result ≡ slice_get self.now 0 }
+    {
+        self.get_index(0)
+    }
+
+    /// The name and the value that came last, or `None` in an empty map.
+    pub fn last(&self) -> Option<(&str, &V)>
+        ensures { option_map deref_pair result ≡ slice_get self.now (length self.now - 1) }
+    {
+        self.get_index(self.len().saturating_sub(1))
+    }
+
+    /// Puts a value at a name, and gives back the one that was there. A name that is there keeps its place, and a new
+    /// one goes last. An `Err` says that there was no memory, and leaves the map as it was.
+    pub fn insert(&mut self, name: String, value: V) -> Result<Option<V>, AllocError>
+    where
+        V: Drop,
+        ensures old { IfOk result (λ old. old ≡ get (string_bytes name) self.old) }
+        ensures entries { OnOk result (self.new ≡ insert_entry self.old (string_bytes name) value) }
+        ensures err { OnErr result (self.new ≡ self.old) }
+    {
+        match place_of(&self.entries, &self.index, name.as_str()) {
+            Some(place) => Ok(Some(mem::replace(&mut self.entries[place].value, value))),
+            None => {
+                self.push_new(name, value)?;
+                Ok(None)
+            }
+        }
+    }
+
+    /// Puts a value last, at a name that the map lacks, and so spares `insert`'s look for the name. An `Err` says that
+    /// there was no memory, and leaves the map as it was.
+    pub fn push_new(&mut self, name: String, value: V) -> Result<(), AllocError>
+    where
+        V: Drop,
+        requires { get (string_bytes name) self.old ≡ None }
+        ensures entries { OnOk result (self.new ≡ self.old ++ (string_bytes name, value) ∷ []) }
+        ensures err { OnErr result (self.new ≡ self.old) }
+    {
+        self.entries.reserve(1)?;
+        add_name(&self.entries, &mut self.index, name.as_str())?;
+        self.entries.push_reserved(Entry { name, value });
+        Ok(())
+    }
+}

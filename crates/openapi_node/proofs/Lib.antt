@@ -1,0 +1,7 @@
+pub mod DataOrder
+pub mod EqualLemmas
+pub mod JsonLemmas
+pub mod SameValue
+pub mod TreeLemmas
+pub mod Walks
+pub mod WholeData

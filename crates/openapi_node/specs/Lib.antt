@@ -1,0 +1,9 @@
+pub mod Equal
+pub mod Falls
+pub mod Fault
+pub mod Json
+pub mod Place
+pub mod Shape
+pub mod Tree
+pub mod View
+pub mod Whole

@@ -1,0 +1,137 @@
+//! Nodes: JSON values that are opened by counted looks.
+ghost use Rattle.std.specs.Prelude.{◌≡◌, ◌+◌, string_bytes};
+ghost use Rattle.openapi_node.specs.Tree.{null, flag, whole, text, list, object, items_of, members_of};
+ghost use Rattle.openapi_node.specs.View.{shown};
+
+use crate::steps::Steps;
+use crate::whole::Whole;
+use openapi_map::OrderedMap;
+use std::marker::Model;
+
+/// A JSON value (RFC 8259) whose numbers are whole: null, a flag, a whole number, a text, a list of nodes, or an
+/// object whose members stand in an order and have distinct names. Contracts see it as its tree.
+///
+/// Two nodes are equal where they are the same JSON value, whatever the order of the members of their objects.
+/// `{:?}` prints a node as `serde_json` does its `Value`. Neither is counted, nor is letting a node go.
+#[cycle(node)]
+#[derive(Drop)]
+pub struct Node {
+    pub(crate) shape: Shape,
+}
+
+#[cycle(node)]
+#[derive(Drop)]
+pub(crate) enum Shape {
+    Null,
+    Flag(bool),
+    Whole(Whole),
+    Text(String),
+    List(Vec<Node>),
+    Object(OrderedMap<Node>),
+}
+
+/// What a look at a node shows: its kind, and what it holds, which is lent and not copied.
+#[derive(Clone, Copy)]
+pub enum View<'a> {
+    /// The literal `null`.
+    Null,
+    /// The literal `true` or `false`.
+    Flag(bool),
+    /// A number.
+    Whole(Whole),
+    /// A string.
+    Text(&'a str),
+    /// The values of an array, in their order.
+    List(&'a [Node]),
+    /// The members of an object, in their order.
+    Object(&'a OrderedMap<Node>),
+}
+
+impl Model for Node {
+    ghost use Rattle.openapi_node.specs.Tree.{Tree, size_of, tree_code};
+
+    ghost Value = { Tree };
+
+    ghost coded = { tree_code };
+
+    ghost use Rattle.openapi_node.specs.Shape.{tree_of};
+
+    ghost view = { λ n. tree_of n.shape };
+
+    ghost size = { size_of };
+
+    ghost use Rattle.std.proofs.Common.{arith};
+    ghost use Rattle.openapi_node.specs.Falls.{shape_falls};
+
+    ghost size_decreases = { λ a h. omega (arith, shape_falls a.shape) };
+}
+
+impl Node {
+    /// The literal `null`.
+    pub fn null() -> Node
+        ensures { result ≡ null }
+    {
+        Node { shape: Shape::Null }
+    }
+
+    /// The literal `true` or `false`.
+    pub fn flag(value: bool) -> Node
+        ensures { result ≡ flag value }
+    {
+        Node {
+            shape: Shape::Flag(value),
+        }
+    }
+
+    /// A number.
+    pub fn whole(value: Whole) -> Node
+        ensures { result ≡ whole value }
+    {
+        Node {
+            shape: Shape::Whole(value),
+        }
+    }
+
+    /// A string.
+    pub fn text(value: String) -> Node
+        ensures { result ≡ text (string_bytes value) }
+    {
+        Node {
+            shape: Shape::Text(value),
+        }
+    }
+
+    /// An array of these values, in their order.
+    pub fn list(items: Vec<Node>) -> Node
+        ensures { result ≡ list (items_of items.items) }
+    {
+        Node {
+            shape: Shape::List(items),
+        }
+    }
+
+    /// An object of these members, in their order.
+    pub fn object(members: OrderedMap<Node>) -> Node
+        ensures { result ≡ object (members_of members) }
+    {
+        Node {
+            shape: Shape::Object(members),
+        }
+    }
+
+    /// A look inside. It raises the count by one, and copies nothing.
+    pub fn open(&self, steps: &mut Steps) -> View<'_>
+        ensures shown { shown result ≡ self.now }
+        ensures counted { steps.new ≡ steps.old + 1 }
+    {
+        steps.tick();
+        match &self.shape {
+            Shape::Null => View::Null,
+            Shape::Flag(value) => View::Flag(*value),
+            Shape::Whole(value) => View::Whole(*value),
+            Shape::Text(value) => View::Text(value.as_str()),
+            Shape::List(items) => View::List(items.as_slice()),
+            Shape::Object(members) => View::Object(members),
+        }
+    }
+}

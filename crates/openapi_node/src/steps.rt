@@ -1,0 +1,71 @@
+//! A counter that contracts alone see.
+ghost use Rattle.std.specs.Prelude.{◌≡◌, ◌+◌, ℕ};
+ghost use Rattle.std.specs.Coded.{coded_ℕ};
+
+use std::marker::Model;
+
+// A number that stands in proofs alone. Code can't say which value a ghost field takes, so `zero` and `next` are the
+// two functions here that are proved by hand, on the logic's own level (`proofs/steps/Count`): each of them picks the
+// number that it ensures. A struct with a ghost field is made where its fields can be named, and `Count` and the field
+// of `Steps` are private: so no other crate makes a `Count` or puts one into a `Steps`. There a `Steps` comes from
+// `Steps::new` alone, and its number changes by `Node::open` alone. Only another proof by hand (a file `Proof.antt`)
+// could say otherwise, and there are these two.
+#[derive(Drop)]
+struct Count {
+    ghost number: { ℕ } by { coded_ℕ },
+}
+
+impl Model for Count {
+    ghost use base.Fml.{ftrue};
+
+    ghost also_owns = { λ _. ftrue };
+}
+
+impl Count {
+    // The number 0.
+    fn zero() -> Count
+        ensures { result.number ≡ 0 }
+    {
+        Count {}
+    }
+
+    // One more than this number.
+    fn next(&self) -> Count
+        ensures { result.number ≡ self.now.number + 1 }
+    {
+        Count {}
+    }
+}
+
+/// How many looks were taken. It has no bytes and no last value, and contracts see it as a number, which a look raises
+/// by one and nothing else changes. It can't be copied, and none can be made without the runtime.
+#[derive(Drop)]
+pub struct Steps {
+    count: Count,
+}
+
+impl Model for Steps {
+    ghost use Rattle.std.specs.Prelude.{ℕ};
+
+    ghost Value = { ℕ };
+
+    ghost view = { λ s. s.count.number };
+}
+
+impl Steps {
+    /// No look yet. The runtime isn't used: it shows that the caller is a program or a test, and no reader.
+    pub fn new(_rt: &HostRuntime) -> Steps
+        ensures { result ≡ 0 }
+    {
+        Steps {
+            count: Count::zero(),
+        }
+    }
+
+    /// One look more.
+    pub(crate) fn tick(&mut self)
+        ensures { self.new ≡ self.old + 1 }
+    {
+        self.count = self.count.next();
+    }
+}

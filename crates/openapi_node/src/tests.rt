@@ -1,0 +1,346 @@
+//! Printed texts, worked examples, and each call once with ample memory.
+use crate::{
+    Cause, Expected, Fault, Node, OrderedMap, PlaceStep, Steps, View, Whole, copy_shown,
+    find_member,
+};
+use serde_json::Value;
+use std::alloc::{AllocError, Global};
+use std::cmp::Ordering;
+use std::hash::{DefaultHasher, Hash, Hasher};
+use std::test::Fail;
+
+fn read(alloc: Global, text: &str) -> Result<Node, Fail> {
+    let value = Value::from_str(alloc, text)?;
+    Ok(Node::from_value(alloc, &value)?)
+}
+
+fn refusal(alloc: Global, text: &str) -> Result<String, Fail> {
+    let value = Value::from_str(alloc, text)?;
+    match Node::from_value(alloc, &value) {
+        Ok(_) => Err(Fail::from("it is read")),
+        Err(fault) => Ok(format!(in alloc; "{fault}")?),
+    }
+}
+
+fn written(alloc: Global, node: &Node, steps: &mut Steps) -> Result<String, Fail> {
+    let value = node.to_value(alloc, steps)?;
+    Ok(value.to_string(alloc)?)
+}
+
+fn debug(alloc: Global, node: &Node) -> Result<String, AllocError> {
+    format!(in alloc; "{node:?}")
+}
+
+/// An object of whole numbers, in the order in which they stand.
+fn object(alloc: Global, numbers: &[(&str, u64)]) -> Result<Node, AllocError> {
+    let mut members = OrderedMap::new(alloc);
+    for (name, number) in numbers {
+        members.insert(
+            String::from_str(alloc, *name)?,
+            Node::whole(Whole::from(*number)),
+        )?;
+    }
+    Ok(Node::object(members))
+}
+
+fn hash_of(whole: Whole) -> u64 {
+    let mut state = DefaultHasher::new();
+    whole.hash(&mut state);
+    state.finish()
+}
+
+#[test]
+fn whole_numbers(rt: HostRuntime) -> Result<(), Fail> {
+    let in_range = [
+        (-9223372036854775808, Some(-9223372036854775808), None),
+        (-1, Some(-1), None),
+        (0, Some(0), Some(0)),
+        (
+            9223372036854775807,
+            Some(9223372036854775807),
+            Some(9223372036854775807),
+        ),
+        (9223372036854775808, None, Some(9223372036854775808)),
+        (18446744073709551615, None, Some(18446744073709551615)),
+    ];
+    for (number, signed, unsigned) in in_range {
+        let whole = Whole::new(number).ok_or("in the range")?;
+        assert_eq!(rt; whole.value(), number);
+        assert_eq!(rt; whole.as_i64(), signed, "at {number}");
+        assert_eq!(rt; whole.as_u64(), unsigned, "at {number}");
+    }
+    assert!(rt; Whole::new(-9223372036854775809).is_none());
+    assert!(rt; Whole::new(18446744073709551616).is_none());
+    let low = Whole::from(-2i64);
+    let printed = format!(in rt.alloc(); "{low} {low:?}")?;
+    assert_eq!(rt; printed.as_str(), "-2 Whole(-2)");
+    Ok(())
+}
+
+#[test]
+fn whole_numbers_compare_by_number(rt: HostRuntime) {
+    let low = Whole::from(-2i64);
+    let high = Whole::from(1u64);
+    assert_eq!(rt; low.cmp(&high), Ordering::Less);
+    assert_eq!(rt; high.partial_cmp(&low), Some(Ordering::Greater));
+    assert!(rt; low < Whole::from(-1i64));
+    assert!(rt; low != high);
+    assert!(rt; Whole::from(1i64) == high);
+    assert_eq!(rt; hash_of(Whole::from(1i64)), hash_of(high));
+}
+
+#[test]
+fn causes(rt: HostRuntime) -> Result<(), Fail> {
+    let rows = [
+        (Cause::Missing("url"), 1, "missing field `url` at #"),
+        (
+            Cause::MissingEither("schema", "content"),
+            2,
+            "missing field `schema` or `content` at #",
+        ),
+        (
+            Cause::WrongKind(Expected::Text),
+            3,
+            "invalid type, expected text at #",
+        ),
+        (
+            Cause::WrongKind(Expected::Flag),
+            3,
+            "invalid type, expected flag at #",
+        ),
+        (
+            Cause::WrongKind(Expected::Whole),
+            3,
+            "invalid type, expected whole number at #",
+        ),
+        (
+            Cause::WrongKind(Expected::List),
+            3,
+            "invalid type, expected list at #",
+        ),
+        (
+            Cause::WrongKind(Expected::Object),
+            3,
+            "invalid type, expected object at #",
+        ),
+        (
+            Cause::WrongKind(Expected::TextOrNull),
+            3,
+            "invalid type, expected text or null at #",
+        ),
+        (
+            Cause::WrongKind(Expected::WholeOrNull),
+            3,
+            "invalid type, expected whole number or null at #",
+        ),
+        (
+            Cause::WrongKind(Expected::FlagOrNull),
+            3,
+            "invalid type, expected flag or null at #",
+        ),
+        (
+            Cause::WrongKind(Expected::FlagOrObject),
+            3,
+            "invalid type, expected flag or object at #",
+        ),
+        (
+            Cause::WrongKind(Expected::TextOrWhole),
+            3,
+            "invalid type, expected text or whole number at #",
+        ),
+        (Cause::NotAllowed, 4, "invalid value at #"),
+        (Cause::UnknownVariant, 5, "unknown variant at #"),
+        (Cause::NameNotWritable, 6, "name not writable at #"),
+        (Cause::NotWhole, 7, "number not whole at #"),
+        (Cause::Memory, 8, "out of memory at #"),
+    ];
+    for (cause, number, printed) in rows {
+        assert_eq!(rt; cause.number(), number);
+        let fault = Fault::new(rt.alloc(), cause);
+        let shown = format!(in rt.alloc(); "{fault}")?;
+        assert_eq!(rt; shown.as_str(), printed);
+    }
+    Ok(())
+}
+
+#[test]
+fn places(rt: HostRuntime) -> Result<(), Fail> {
+    let alloc = rt.alloc();
+    let fault = Fault::new(alloc, Cause::NotWhole)
+        .at_index(alloc, 0)
+        .at_name(alloc, "x-a~/b");
+    let shown = format!(in alloc; "{fault} {fault:?}")?;
+    assert_eq!(rt;
+        shown.as_str(),
+        "number not whole at #/x-a~0~1b/0 Fault { place: [Name(\"x-a~/b\"), Index(0)], cause: NotWhole }"
+    );
+    Ok(())
+}
+
+#[test]
+fn faults_compare_by_place_and_cause(rt: HostRuntime) {
+    let alloc = rt.alloc();
+    let fault = Fault::new(alloc, Cause::NotWhole).at_index(alloc, 0);
+    assert!(rt; fault == Fault::new(alloc, Cause::NotWhole).at_index(alloc, 0));
+    assert!(rt; fault != Fault::new(alloc, Cause::NotWhole).at_index(alloc, 1));
+    assert!(rt; fault != Fault::new(alloc, Cause::NotAllowed).at_index(alloc, 0));
+    assert!(rt; fault.place.as_slice() == [PlaceStep::Index(0)].as_slice());
+    assert!(rt; Fault::memory(alloc).at_index(alloc, 0) == Fault::new(alloc, Cause::Memory));
+}
+
+#[test]
+fn values_there_and_back(rt: HostRuntime) -> Result<(), Fail> {
+    let rows = [
+        ("null", "null"),
+        ("[true,false,\"q\\\"\"]", "[true,false,\"q\\\"\"]"),
+        ("18446744073709551615", "18446744073709551615"),
+        ("-9223372036854775808", "-9223372036854775808"),
+        ("{\"b\":{},\"a\":[ 1 , -1 ]}", "{\"a\":[1,-1],\"b\":{}}"),
+        ("{\"a\":1,\"b\":2,\"a\":3}", "{\"a\":3,\"b\":2}"),
+    ];
+    for (given, back) in rows {
+        let node = read(rt.alloc(), given)?;
+        let text = written(rt.alloc(), &node, &mut Steps::new(&rt))?;
+        assert_eq!(rt; text.as_str(), back);
+    }
+    Ok(())
+}
+
+#[test]
+fn copies(rt: HostRuntime) -> Result<(), Fail> {
+    let alloc = rt.alloc();
+    let mut steps = Steps::new(&rt);
+    let node = object(alloc, &[("z", 1), ("a", 2)])?;
+    let clone = node.clone()?;
+    let copy = node.copy(alloc, &mut steps)?;
+    let shown = copy_shown(alloc, &copy.open(&mut steps), &mut steps)?;
+    let text = format!(in alloc; "{clone:?} {copy:?} {shown:?}")?;
+    assert_eq!(rt;
+        text.as_str(),
+        "Object {\"z\": Number(1), \"a\": Number(2)} Object {\"z\": Number(1), \"a\": Number(2)} \
+        Object {\"z\": Number(1), \"a\": Number(2)}"
+    );
+    Ok(())
+}
+
+#[test]
+fn numbers_that_are_not_whole(rt: HostRuntime) -> Result<(), Fail> {
+    let rows = [
+        ("-0", "number not whole at #"),
+        ("1e2", "number not whole at #"),
+        ("1.0", "number not whole at #"),
+        ("18446744073709551616", "number not whole at #"),
+        ("-9223372036854775809", "number not whole at #"),
+        ("{\"name\":\"t\",\"wat\":1.5}", "number not whole at #/wat"),
+        (
+            "{\"name\":\"t\",\"x-a~/b\":[0.5]}",
+            "number not whole at #/x-a~0~1b/0",
+        ),
+        ("[0,[[],[1,2,0.5]]]", "number not whole at #/1/1/2"),
+    ];
+    for (given, printed) in rows {
+        let text = refusal(rt.alloc(), given)?;
+        assert_eq!(rt; text.as_str(), printed);
+    }
+    assert!(rt; Value::from_slice(rt.alloc(), b"1e309").is_err());
+    Ok(())
+}
+
+#[test]
+fn debug_texts(rt: HostRuntime) -> Result<(), Fail> {
+    let rows = [
+        ("[null,true,-1]", "Array [Null, Bool(true), Number(-1)]"),
+        ("\"q\\\"\"", "String(\"q\\\"\")"),
+        (
+            "{\"b\":[],\"a\":{\"\":1}}",
+            "Object {\"a\": Object {\"\": Number(1)}, \"b\": Array []}",
+        ),
+    ];
+    for (given, printed) in rows {
+        let node = read(rt.alloc(), given)?;
+        let text = debug(rt.alloc(), &node)?;
+        assert_eq!(rt; text.as_str(), printed);
+    }
+    Ok(())
+}
+
+#[test]
+fn equal_by_members(rt: HostRuntime) -> Result<(), Fail> {
+    let alloc = rt.alloc();
+    let node = object(alloc, &[("b", 1), ("a", 2)])?;
+    for turned in [[("a", 2), ("b", 1)], [("b", 1), ("a", 2)]] {
+        let other = object(alloc, &turned)?;
+        assert!(rt; node == other && other == node);
+    }
+    for changed in [
+        [("a", 1), ("b", 2)],
+        [("b", 1), ("c", 2)],
+        [("b", 1), ("b", 1)],
+    ] {
+        let other = object(alloc, &changed)?;
+        assert!(rt; node != other && other != node);
+    }
+    Ok(())
+}
+
+#[test]
+fn equal_by_kind_and_value(rt: HostRuntime) -> Result<(), Fail> {
+    let texts = [
+        "null",
+        "true",
+        "false",
+        "1",
+        "2",
+        "\"1\"",
+        "[]",
+        "[1]",
+        "[1,2]",
+        "[2,1]",
+        "{}",
+        "{\"1\":1}",
+    ];
+    for (i, one) in texts.iter().enumerate() {
+        let node = read(rt.alloc(), *one)?;
+        for (j, two) in texts.iter().enumerate() {
+            let other = read(rt.alloc(), *two)?;
+            assert_eq!(rt; node == other, i == j, "{one}, {two}");
+        }
+    }
+    Ok(())
+}
+
+#[test]
+fn looks_at_an_object(rt: HostRuntime) -> Result<(), Fail> {
+    let mut steps = Steps::new(&rt);
+    let node = object(rt.alloc(), &[("z", 7), ("", 8)])?;
+    let View::Object(members) = node.open(&mut steps) else {
+        return Err(Fail::from("no object"));
+    };
+    assert!(rt; find_member(members, "a").is_none());
+    let Some(seven) = find_member(members, "z") else {
+        return Err(Fail::from("no member"));
+    };
+    let View::Whole(seven) = seven.open(&mut steps) else {
+        return Err(Fail::from("no number"));
+    };
+    assert_eq!(rt; seven.value(), 7);
+    Ok(())
+}
+
+#[test]
+fn looks_at_a_list(rt: HostRuntime) -> Result<(), Fail> {
+    let mut steps = Steps::new(&rt);
+    let mut items = Vec::new(rt.alloc());
+    items.push(Node::null())?;
+    items.push(Node::flag(true))?;
+    let text = String::from_str(rt.alloc(), "q")?;
+    items.push(Node::text(text))?;
+    let node = Node::list(items);
+    let View::List([first, second, third]) = node.open(&mut steps) else {
+        return Err(Fail::from("no list of three"));
+    };
+    assert!(rt; matches!(first.open(&mut steps), View::Null));
+    assert!(rt; matches!(second.open(&mut steps), View::Flag(true)));
+    assert!(rt; matches!(third.open(&mut steps), View::Text("q")));
+    Ok(())
+}

@@ -1,0 +1,96 @@
+//! Nodes to the values of `serde_json`.
+ghost use Rattle.std.specs.Prelude.{◌≡◌, ◌+◌, ◌≤◌, IfOk, OnOk, IfErr};
+ghost use Rattle.serde_json.specs.Data.{number, no_members};
+ghost use Rattle.serde_json.specs.Find.{of_integer};
+ghost use Rattle.serde_json.specs.View.{view, items_view, members_view};
+ghost use Rattle.openapi_node.specs.Fault.{IsMemory};
+ghost use Rattle.openapi_node.specs.Json.{data_of, items_data, members_data};
+ghost use Rattle.openapi_node.specs.Tree.{items_of, members_of, size_of, items_size, members_size};
+
+use crate::fault::Fault;
+use crate::node::{Node, View};
+use crate::steps::Steps;
+use crate::whole::Whole;
+use openapi_map::OrderedMap;
+use serde_json::{Map, Value};
+use std::alloc::{AllocError, Global};
+
+impl Node {
+    /// The same value for `serde_json`, which keeps the members of an object in the order of their names. Each value
+    /// in the node is looked at once, and on a refusal at most once.
+    ///
+    /// The one cause is [`Cause::Memory`](crate::Cause), with the empty place: a growth was refused.
+    pub fn to_value(&self, alloc: Global, steps: &mut Steps) -> Result<Value, Fault>
+        ensures ok { IfOk result (λ v. view v ≡ data_of self.now) }
+        ensures counted { OnOk result (steps.new ≡ steps.old + size_of self.now) }
+        ensures rises { steps.old ≤ steps.new }
+        ensures bound { steps.new ≤ steps.old + size_of self.now }
+        ensures memory { IfErr result IsMemory }
+    {
+        match write_node(alloc, self, steps) {
+            Ok(value) => Ok(value),
+            Err(_) => Err(Fault::memory(alloc)),
+        }
+    }
+}
+
+/// The number as `serde_json` keeps it.
+fn write_whole(whole: Whole) -> Value
+    ensures { view result ≡ number (of_integer whole) }
+{
+    match whole.as_u64() {
+        Some(n) => Value::from(n),
+        None => Value::from(whole.value() as i64),
+    }
+}
+
+#[cycle(write)]
+fn write_node(alloc: Global, node: &Node, steps: &mut Steps) -> Result<Value, AllocError>
+    ensures ok { IfOk result (λ v. view v ≡ data_of node.now) }
+    ensures counted { OnOk result (steps.new ≡ steps.old + size_of node.now) }
+    ensures rises { steps.old ≤ steps.new }
+    ensures bound { steps.new ≤ steps.old + size_of node.now }
+{
+    match node.open(steps) {
+        View::Null => Ok(Value::Null),
+        View::Flag(value) => Ok(Value::Bool(value)),
+        View::Whole(value) => Ok(write_whole(value)),
+        View::Text(value) => Ok(Value::String(String::from_str(alloc, value)?)),
+        View::List(items) => Ok(Value::Array(write_items(alloc, items, steps)?)),
+        View::Object(members) => Ok(Value::Object(write_members(alloc, members, steps)?)),
+    }
+}
+
+#[cycle(write)]
+fn write_items(alloc: Global, items: &[Node], steps: &mut Steps) -> Result<Vec<Value>, AllocError>
+    ensures ok { IfOk result (λ v. items_view v.items ≡ items_data (items_of items.now)) }
+    ensures counted { OnOk result (steps.new ≡ steps.old + items_size (items_of items.now)) }
+    ensures rises { steps.old ≤ steps.new }
+    ensures bound { steps.new ≤ steps.old + items_size (items_of items.now) }
+{
+    let mut values = Vec::with_capacity(alloc, items.len())?;
+    for item in items {
+        values.push(write_node(alloc, item, steps)?)?;
+    }
+    Ok(values)
+}
+
+#[cycle(write)]
+fn write_members(
+    alloc: Global,
+    members: &OrderedMap<Node>,
+    steps: &mut Steps,
+) -> Result<Map<String, Value>, AllocError>
+    ensures ok { IfOk result (λ m. members_view m.entries ≡ members_data (members_of members.now) no_members) }
+    ensures counted { OnOk result (steps.new ≡ steps.old + members_size (members_of members.now)) }
+    ensures rises { steps.old ≤ steps.new }
+    ensures bound { steps.new ≤ steps.old + members_size (members_of members.now) }
+{
+    let mut values = Map::new(alloc);
+    for i in 0..members.len() {
+        let (name, member) = members.entry_at(i);
+        let name = String::from_str(alloc, name)?;
+        drop(values.insert(name, write_node(alloc, member, steps)?)?);
+    }
+    Ok(values)
+}

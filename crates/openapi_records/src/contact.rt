@@ -1,0 +1,105 @@
+//! The Contact Object.
+ghost use Rattle.std.proofs.Common.{lit≤, refl};
+ghost use Rattle.std.specs.Prelude.{◌≡◌, ◌+◌, ◌≤◌, ◌*◌, true, false, [], None};
+ghost use Rattle.openapi_tables.specs.Kind.{by, contact};
+ghost use Rattle.openapi_tables.proofs.SlotWriting.{final_apart};
+ghost use Rattle.openapi_records.specs.Forms.{record_form, record_slots};
+ghost use Rattle.openapi_records.specs.Objects.{contact_rows};
+
+use crate::classes::{extensions, put_extensions};
+use crate::from_node::FromNode;
+use crate::object::{Object, Record, read_record, write_record};
+use crate::put_rows::put_optional;
+use crate::rows::optional;
+use crate::to_node::ToNode;
+use openapi_node::{Fault, Node, OrderedMap, Steps, View};
+use std::alloc::Global;
+
+/// The Contact Object: whom to ask about the API.
+#[derive(Clone, Debug, PartialEq, Drop)]
+pub struct Contact {
+    /// The name of the person or the organization.
+    pub name: Option<String>,
+    /// Their page, as a URL.
+    pub url: Option<String>,
+    /// Their address.
+    pub email: Option<String>,
+    /// Extensions, by names that begin with `x-`.
+    pub extensions: OrderedMap<Node>,
+}
+
+impl Contact {
+    /// Empty texts, lists and maps, and nothing else.
+    pub fn new(alloc: Global) -> Contact
+        ensures name { result.name ≡ None }
+        ensures url { result.url ≡ None }
+        ensures email { result.email ≡ None }
+        ensures extensions { result.extensions ≡ [] }
+    {
+        Contact {
+            name: None,
+            url: None,
+            email: None,
+            extensions: OrderedMap::new(alloc),
+        }
+    }
+}
+
+impl Object for Contact {
+    ghost object = { by contact };
+
+    ghost slots_of = { record_slots contact contact_rows };
+
+    ghost apart = { λ x. final_apart contact (contact_rows x) };
+}
+
+#[tactic(auto, unfolding(openapi_tables::specs::Tables::final_tables, openapi_tables::specs::Tables::tables_with))]
+impl Record for Contact {
+    ghost rows_of = { contact_rows };
+
+    fn from_members(
+        alloc: Global,
+        members: &OrderedMap<Node>,
+        steps: &mut Steps,
+    ) -> Result<Contact, Fault> {
+        Ok(Contact {
+            name: optional::<Self, _>(alloc, members, "name", steps)?,
+            url: optional::<Self, _>(alloc, members, "url", steps)?,
+            email: optional::<Self, _>(alloc, members, "email", steps)?,
+            extensions: extensions::<Self>(alloc, members, steps)?,
+        })
+    }
+
+    fn put_rows(&self, alloc: Global, out: &mut OrderedMap<Node>) -> Result<(), Fault> {
+        put_optional(alloc, self, out, "name", &self.name)?;
+        put_optional(alloc, self, out, "url", &self.url)?;
+        put_optional(alloc, self, out, "email", &self.email)?;
+        put_extensions(alloc, self, out, &self.extensions)
+    }
+
+    ghost by_table = { refl };
+
+    ghost by_rows = { λ x. refl };
+}
+
+impl FromNode for Contact {
+    ghost kind = { by contact };
+
+    ghost form_of = { record_form contact_rows };
+
+    fn from_view(alloc: Global, view: &View<'_>, steps: &mut Steps) -> Result<Contact, Fault> {
+        read_record(alloc, view, steps)
+    }
+
+    ghost few = { lit≤ tt };
+
+    ghost well_made = { refl };
+}
+
+impl ToNode for Contact {
+    fn to_node(&self, alloc: Global) -> Result<Node, Fault> {
+        write_record(alloc, self)
+    }
+
+    ghost there = { λ x. refl };
+}

@@ -1,0 +1,103 @@
+//! The Discriminator Object.
+ghost use Rattle.std.proofs.Common.{lit≤, refl};
+ghost use Rattle.std.specs.Prelude.{◌≡◌, ◌+◌, ◌≤◌, ◌*◌, true, false, [], string_bytes};
+ghost use Rattle.openapi_tables.specs.Kind.{by, discriminator};
+ghost use Rattle.openapi_tables.proofs.SlotWriting.{final_apart};
+ghost use Rattle.openapi_records.specs.Forms.{record_form, record_slots};
+ghost use Rattle.openapi_records.specs.Objects.{discriminator_rows};
+
+use crate::classes::{extensions, put_extensions};
+use crate::from_node::FromNode;
+use crate::object::{Object, Record, read_record, write_record};
+use crate::put_rows::{put_listed, put_required};
+use crate::rows::{listed, required};
+use crate::to_node::ToNode;
+use openapi_node::{Fault, Node, OrderedMap, Steps, View};
+use std::alloc::Global;
+
+/// The Discriminator Object: how a value tells which schema it has.
+#[derive(Clone, Debug, PartialEq, Drop)]
+pub struct Discriminator {
+    /// The property that names the schema.
+    pub property_name: String,
+    /// The schemas by the values of that property, where they have other names.
+    pub mapping: OrderedMap<String>,
+    /// Extensions, by names that begin with `x-`.
+    pub extensions: OrderedMap<Node>,
+}
+
+impl Discriminator {
+    /// Empty texts, lists and maps, and nothing else.
+    pub fn new(alloc: Global) -> Discriminator
+        ensures property_name { string_bytes result.property_name ≡ [] }
+        ensures mapping { result.mapping ≡ [] }
+        ensures extensions { result.extensions ≡ [] }
+    {
+        Discriminator {
+            property_name: String::new(alloc),
+            mapping: OrderedMap::new(alloc),
+            extensions: OrderedMap::new(alloc),
+        }
+    }
+}
+
+impl Object for Discriminator {
+    ghost object = { by discriminator };
+
+    ghost slots_of = { record_slots discriminator discriminator_rows };
+
+    ghost apart = { λ x. final_apart discriminator (discriminator_rows x) };
+}
+
+#[tactic(auto, unfolding(openapi_tables::specs::Tables::final_tables, openapi_tables::specs::Tables::tables_with))]
+impl Record for Discriminator {
+    ghost rows_of = { discriminator_rows };
+
+    fn from_members(
+        alloc: Global,
+        members: &OrderedMap<Node>,
+        steps: &mut Steps,
+    ) -> Result<Discriminator, Fault> {
+        Ok(Discriminator {
+            property_name: required::<Self, _>(alloc, members, "propertyName", steps)?,
+            mapping: listed::<Self, _>(alloc, members, "mapping", steps)?,
+            extensions: extensions::<Self>(alloc, members, steps)?,
+        })
+    }
+
+    fn put_rows(&self, alloc: Global, out: &mut OrderedMap<Node>) -> Result<(), Fault> {
+        put_required(alloc, self, out, "propertyName", &self.property_name)?;
+        put_listed(alloc, self, out, "mapping", &self.mapping)?;
+        put_extensions(alloc, self, out, &self.extensions)
+    }
+
+    ghost by_table = { refl };
+
+    ghost by_rows = { λ x. refl };
+}
+
+impl FromNode for Discriminator {
+    ghost kind = { by discriminator };
+
+    ghost form_of = { record_form discriminator_rows };
+
+    fn from_view(
+        alloc: Global,
+        view: &View<'_>,
+        steps: &mut Steps,
+    ) -> Result<Discriminator, Fault> {
+        read_record(alloc, view, steps)
+    }
+
+    ghost few = { lit≤ tt };
+
+    ghost well_made = { refl };
+}
+
+impl ToNode for Discriminator {
+    fn to_node(&self, alloc: Global) -> Result<Node, Fault> {
+        write_record(alloc, self)
+    }
+
+    ghost there = { λ x. refl };
+}

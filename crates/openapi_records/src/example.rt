@@ -1,0 +1,111 @@
+//! The Example Object.
+ghost use Rattle.std.proofs.Common.{lit≤, refl};
+ghost use Rattle.std.specs.Prelude.{◌≡◌, ◌+◌, ◌≤◌, ◌*◌, true, false, [], None};
+ghost use Rattle.openapi_tables.specs.Kind.{by, example};
+ghost use Rattle.openapi_tables.proofs.SlotWriting.{final_apart};
+ghost use Rattle.openapi_records.specs.Forms.{record_form, record_slots};
+ghost use Rattle.openapi_records.specs.Objects.{example_rows};
+
+use crate::classes::{extensions, put_extensions};
+use crate::from_node::FromNode;
+use crate::object::{Object, Record, read_record, write_record};
+use crate::put_rows::put_optional;
+use crate::rows::optional;
+use crate::to_node::ToNode;
+use openapi_node::{Fault, Node, OrderedMap, Steps, View};
+use std::alloc::Global;
+
+/// The Example Object: an example of a value.
+#[derive(Clone, Debug, PartialEq, Drop)]
+pub struct Example {
+    /// What the example shows, in short.
+    pub summary: Option<String>,
+    /// What the example shows.
+    pub description: Option<String>,
+    /// The value itself.
+    pub value: Option<Node>,
+    /// Where the value lies, as a URL.
+    pub external_value: Option<String>,
+    /// Extensions, by names that begin with `x-`.
+    pub extensions: OrderedMap<Node>,
+}
+
+impl Example {
+    /// Empty texts, lists and maps, and nothing else.
+    pub fn new(alloc: Global) -> Example
+        ensures summary { result.summary ≡ None }
+        ensures description { result.description ≡ None }
+        ensures value { result.value ≡ None }
+        ensures external_value { result.external_value ≡ None }
+        ensures extensions { result.extensions ≡ [] }
+    {
+        Example {
+            summary: None,
+            description: None,
+            value: None,
+            external_value: None,
+            extensions: OrderedMap::new(alloc),
+        }
+    }
+}
+
+impl Object for Example {
+    ghost object = { by example };
+
+    ghost slots_of = { record_slots example example_rows };
+
+    ghost apart = { λ x. final_apart example (example_rows x) };
+}
+
+#[tactic(auto, unfolding(openapi_tables::specs::Tables::final_tables, openapi_tables::specs::Tables::tables_with))]
+impl Record for Example {
+    ghost rows_of = { example_rows };
+
+    fn from_members(
+        alloc: Global,
+        members: &OrderedMap<Node>,
+        steps: &mut Steps,
+    ) -> Result<Example, Fault> {
+        Ok(Example {
+            summary: optional::<Self, _>(alloc, members, "summary", steps)?,
+            description: optional::<Self, _>(alloc, members, "description", steps)?,
+            value: optional::<Self, _>(alloc, members, "value", steps)?,
+            external_value: optional::<Self, _>(alloc, members, "externalValue", steps)?,
+            extensions: extensions::<Self>(alloc, members, steps)?,
+        })
+    }
+
+    fn put_rows(&self, alloc: Global, out: &mut OrderedMap<Node>) -> Result<(), Fault> {
+        put_optional(alloc, self, out, "summary", &self.summary)?;
+        put_optional(alloc, self, out, "description", &self.description)?;
+        put_optional(alloc, self, out, "value", &self.value)?;
+        put_optional(alloc, self, out, "externalValue", &self.external_value)?;
+        put_extensions(alloc, self, out, &self.extensions)
+    }
+
+    ghost by_table = { refl };
+
+    ghost by_rows = { λ x. refl };
+}
+
+impl FromNode for Example {
+    ghost kind = { by example };
+
+    ghost form_of = { record_form example_rows };
+
+    fn from_view(alloc: Global, view: &View<'_>, steps: &mut Steps) -> Result<Example, Fault> {
+        read_record(alloc, view, steps)
+    }
+
+    ghost few = { lit≤ tt };
+
+    ghost well_made = { refl };
+}
+
+impl ToNode for Example {
+    fn to_node(&self, alloc: Global) -> Result<Node, Fault> {
+        write_record(alloc, self)
+    }
+
+    ghost there = { λ x. refl };
+}

@@ -1,0 +1,125 @@
+//! The Info Object.
+ghost use Rattle.std.proofs.Common.{lit≤, refl};
+ghost use Rattle.std.specs.Prelude.{◌≡◌, ◌+◌, ◌≤◌, ◌*◌, true, false, [], None, string_bytes};
+ghost use Rattle.openapi_tables.specs.Kind.{by, info};
+ghost use Rattle.openapi_tables.proofs.SlotWriting.{final_apart};
+ghost use Rattle.openapi_records.specs.Forms.{record_form, record_slots};
+ghost use Rattle.openapi_records.specs.Objects.{info_rows};
+
+use crate::classes::{extensions, put_extensions};
+use crate::contact::Contact;
+use crate::from_node::FromNode;
+use crate::license::License;
+use crate::object::{Object, Record, read_record, write_record};
+use crate::put_rows::{put_optional, put_required};
+use crate::rows::{optional, required};
+use crate::to_node::ToNode;
+use openapi_node::{Fault, Node, OrderedMap, Steps, View};
+use std::alloc::Global;
+
+/// The Info Object: what the API is, and who offers it.
+#[derive(Clone, Debug, PartialEq, Drop)]
+pub struct Info {
+    /// The name of the API.
+    pub title: String,
+    /// What the API does.
+    pub description: Option<String>,
+    /// Where the terms of service lie, as a URL.
+    pub terms_of_service: Option<String>,
+    /// Whom to ask.
+    pub contact: Option<Contact>,
+    /// The license.
+    pub license: Option<License>,
+    /// The version of the document, not that of the specification.
+    pub version: String,
+    /// Extensions, by names that begin with `x-`.
+    pub extensions: OrderedMap<Node>,
+}
+
+impl Info {
+    /// Empty texts, lists and maps, and nothing else.
+    pub fn new(alloc: Global) -> Info
+        ensures title { string_bytes result.title ≡ [] }
+        ensures description { result.description ≡ None }
+        ensures terms_of_service { result.terms_of_service ≡ None }
+        ensures contact { result.contact ≡ None }
+        ensures license { result.license ≡ None }
+        ensures version { string_bytes result.version ≡ [] }
+        ensures extensions { result.extensions ≡ [] }
+    {
+        Info {
+            title: String::new(alloc),
+            description: None,
+            terms_of_service: None,
+            contact: None,
+            license: None,
+            version: String::new(alloc),
+            extensions: OrderedMap::new(alloc),
+        }
+    }
+}
+
+impl Object for Info {
+    ghost object = { by info };
+
+    ghost slots_of = { record_slots info info_rows };
+
+    ghost apart = { λ x. final_apart info (info_rows x) };
+}
+
+#[tactic(auto, unfolding(openapi_tables::specs::Tables::final_tables, openapi_tables::specs::Tables::tables_with))]
+impl Record for Info {
+    ghost rows_of = { info_rows };
+
+    fn from_members(
+        alloc: Global,
+        members: &OrderedMap<Node>,
+        steps: &mut Steps,
+    ) -> Result<Info, Fault> {
+        Ok(Info {
+            title: required::<Self, _>(alloc, members, "title", steps)?,
+            description: optional::<Self, _>(alloc, members, "description", steps)?,
+            terms_of_service: optional::<Self, _>(alloc, members, "termsOfService", steps)?,
+            contact: optional::<Self, _>(alloc, members, "contact", steps)?,
+            license: optional::<Self, _>(alloc, members, "license", steps)?,
+            version: required::<Self, _>(alloc, members, "version", steps)?,
+            extensions: extensions::<Self>(alloc, members, steps)?,
+        })
+    }
+
+    fn put_rows(&self, alloc: Global, out: &mut OrderedMap<Node>) -> Result<(), Fault> {
+        put_required(alloc, self, out, "title", &self.title)?;
+        put_optional(alloc, self, out, "description", &self.description)?;
+        put_optional(alloc, self, out, "termsOfService", &self.terms_of_service)?;
+        put_optional(alloc, self, out, "contact", &self.contact)?;
+        put_optional(alloc, self, out, "license", &self.license)?;
+        put_required(alloc, self, out, "version", &self.version)?;
+        put_extensions(alloc, self, out, &self.extensions)
+    }
+
+    ghost by_table = { refl };
+
+    ghost by_rows = { λ x. refl };
+}
+
+impl FromNode for Info {
+    ghost kind = { by info };
+
+    ghost form_of = { record_form info_rows };
+
+    fn from_view(alloc: Global, view: &View<'_>, steps: &mut Steps) -> Result<Info, Fault> {
+        read_record(alloc, view, steps)
+    }
+
+    ghost few = { lit≤ tt };
+
+    ghost well_made = { refl };
+}
+
+impl ToNode for Info {
+    fn to_node(&self, alloc: Global) -> Result<Node, Fault> {
+        write_record(alloc, self)
+    }
+
+    ghost there = { λ x. refl };
+}

@@ -1,0 +1,106 @@
+//! The Server Object.
+ghost use Rattle.std.proofs.Common.{lit≤, refl};
+ghost use Rattle.std.specs.Prelude.{◌≡◌, ◌+◌, ◌≤◌, ◌*◌, true, false, [], None, string_bytes};
+ghost use Rattle.openapi_tables.specs.Kind.{by, server};
+ghost use Rattle.openapi_tables.proofs.SlotWriting.{final_apart};
+ghost use Rattle.openapi_records.specs.Forms.{record_form, record_slots};
+ghost use Rattle.openapi_records.specs.Objects.{server_rows};
+
+use crate::classes::{extensions, put_extensions};
+use crate::from_node::FromNode;
+use crate::object::{Object, Record, read_record, write_record};
+use crate::put_rows::{put_optional, put_required};
+use crate::rows::{optional, required};
+use crate::server_variable::ServerVariable;
+use crate::to_node::ToNode;
+use openapi_node::{Fault, Node, OrderedMap, Steps, View};
+use std::alloc::Global;
+
+/// The Server Object: a server of the API.
+#[derive(Clone, Debug, PartialEq, Drop)]
+pub struct Server {
+    /// Its URL, with the names of variables in braces.
+    pub url: String,
+    /// What the server is for.
+    pub description: Option<String>,
+    /// The variables of the URL, by their names.
+    pub variables: Option<OrderedMap<ServerVariable>>,
+    /// Extensions, by names that begin with `x-`.
+    pub extensions: OrderedMap<Node>,
+}
+
+impl Server {
+    /// Empty texts, lists and maps, and nothing else.
+    pub fn new(alloc: Global) -> Server
+        ensures url { string_bytes result.url ≡ [] }
+        ensures description { result.description ≡ None }
+        ensures variables { result.variables ≡ None }
+        ensures extensions { result.extensions ≡ [] }
+    {
+        Server {
+            url: String::new(alloc),
+            description: None,
+            variables: None,
+            extensions: OrderedMap::new(alloc),
+        }
+    }
+}
+
+impl Object for Server {
+    ghost object = { by server };
+
+    ghost slots_of = { record_slots server server_rows };
+
+    ghost apart = { λ x. final_apart server (server_rows x) };
+}
+
+#[tactic(auto, unfolding(openapi_tables::specs::Tables::final_tables, openapi_tables::specs::Tables::tables_with))]
+impl Record for Server {
+    ghost rows_of = { server_rows };
+
+    fn from_members(
+        alloc: Global,
+        members: &OrderedMap<Node>,
+        steps: &mut Steps,
+    ) -> Result<Server, Fault> {
+        Ok(Server {
+            url: required::<Self, _>(alloc, members, "url", steps)?,
+            description: optional::<Self, _>(alloc, members, "description", steps)?,
+            variables: optional::<Self, _>(alloc, members, "variables", steps)?,
+            extensions: extensions::<Self>(alloc, members, steps)?,
+        })
+    }
+
+    fn put_rows(&self, alloc: Global, out: &mut OrderedMap<Node>) -> Result<(), Fault> {
+        put_required(alloc, self, out, "url", &self.url)?;
+        put_optional(alloc, self, out, "description", &self.description)?;
+        put_optional(alloc, self, out, "variables", &self.variables)?;
+        put_extensions(alloc, self, out, &self.extensions)
+    }
+
+    ghost by_table = { refl };
+
+    ghost by_rows = { λ x. refl };
+}
+
+impl FromNode for Server {
+    ghost kind = { by server };
+
+    ghost form_of = { record_form server_rows };
+
+    fn from_view(alloc: Global, view: &View<'_>, steps: &mut Steps) -> Result<Server, Fault> {
+        read_record(alloc, view, steps)
+    }
+
+    ghost few = { lit≤ tt };
+
+    ghost well_made = { refl };
+}
+
+impl ToNode for Server {
+    fn to_node(&self, alloc: Global) -> Result<Node, Fault> {
+        write_record(alloc, self)
+    }
+
+    ghost there = { λ x. refl };
+}

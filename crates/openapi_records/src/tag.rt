@@ -1,0 +1,106 @@
+//! The Tag Object.
+ghost use Rattle.std.proofs.Common.{lit≤, refl};
+ghost use Rattle.std.specs.Prelude.{◌≡◌, ◌+◌, ◌≤◌, ◌*◌, true, false, [], None, string_bytes};
+ghost use Rattle.openapi_tables.specs.Kind.{by, tag};
+ghost use Rattle.openapi_tables.proofs.SlotWriting.{final_apart};
+ghost use Rattle.openapi_records.specs.Forms.{record_form, record_slots};
+ghost use Rattle.openapi_records.specs.Objects.{tag_rows};
+
+use crate::classes::{extensions, put_extensions};
+use crate::external_documentation::ExternalDocumentation;
+use crate::from_node::FromNode;
+use crate::object::{Object, Record, read_record, write_record};
+use crate::put_rows::{put_optional, put_required};
+use crate::rows::{optional, required};
+use crate::to_node::ToNode;
+use openapi_node::{Fault, Node, OrderedMap, Steps, View};
+use std::alloc::Global;
+
+/// The Tag Object: more on a tag that operations have.
+#[derive(Clone, Debug, PartialEq, Drop)]
+pub struct Tag {
+    /// The tag.
+    pub name: String,
+    /// What the tag stands for.
+    pub description: Option<String>,
+    /// Where more is said.
+    pub external_docs: Option<ExternalDocumentation>,
+    /// Extensions, by names that begin with `x-`.
+    pub extensions: OrderedMap<Node>,
+}
+
+impl Tag {
+    /// Empty texts, lists and maps, and nothing else.
+    pub fn new(alloc: Global) -> Tag
+        ensures name { string_bytes result.name ≡ [] }
+        ensures description { result.description ≡ None }
+        ensures external_docs { result.external_docs ≡ None }
+        ensures extensions { result.extensions ≡ [] }
+    {
+        Tag {
+            name: String::new(alloc),
+            description: None,
+            external_docs: None,
+            extensions: OrderedMap::new(alloc),
+        }
+    }
+}
+
+impl Object for Tag {
+    ghost object = { by tag };
+
+    ghost slots_of = { record_slots tag tag_rows };
+
+    ghost apart = { λ x. final_apart tag (tag_rows x) };
+}
+
+#[tactic(auto, unfolding(openapi_tables::specs::Tables::final_tables, openapi_tables::specs::Tables::tables_with))]
+impl Record for Tag {
+    ghost rows_of = { tag_rows };
+
+    fn from_members(
+        alloc: Global,
+        members: &OrderedMap<Node>,
+        steps: &mut Steps,
+    ) -> Result<Tag, Fault> {
+        Ok(Tag {
+            name: required::<Self, _>(alloc, members, "name", steps)?,
+            description: optional::<Self, _>(alloc, members, "description", steps)?,
+            external_docs: optional::<Self, _>(alloc, members, "externalDocs", steps)?,
+            extensions: extensions::<Self>(alloc, members, steps)?,
+        })
+    }
+
+    fn put_rows(&self, alloc: Global, out: &mut OrderedMap<Node>) -> Result<(), Fault> {
+        put_required(alloc, self, out, "name", &self.name)?;
+        put_optional(alloc, self, out, "description", &self.description)?;
+        put_optional(alloc, self, out, "externalDocs", &self.external_docs)?;
+        put_extensions(alloc, self, out, &self.extensions)
+    }
+
+    ghost by_table = { refl };
+
+    ghost by_rows = { λ x. refl };
+}
+
+impl FromNode for Tag {
+    ghost kind = { by tag };
+
+    ghost form_of = { record_form tag_rows };
+
+    fn from_view(alloc: Global, view: &View<'_>, steps: &mut Steps) -> Result<Tag, Fault> {
+        read_record(alloc, view, steps)
+    }
+
+    ghost few = { lit≤ tt };
+
+    ghost well_made = { refl };
+}
+
+impl ToNode for Tag {
+    fn to_node(&self, alloc: Global) -> Result<Node, Fault> {
+        write_record(alloc, self)
+    }
+
+    ghost there = { λ x. refl };
+}

@@ -1,0 +1,117 @@
+//! The XML Object.
+ghost use Rattle.std.proofs.Common.{lit≤, refl};
+ghost use Rattle.std.specs.Prelude.{◌≡◌, ◌+◌, ◌≤◌, ◌*◌, true, false, [], None};
+ghost use Rattle.openapi_tables.specs.Kind.{by, xml_object};
+ghost use Rattle.openapi_tables.proofs.SlotWriting.{final_apart};
+ghost use Rattle.openapi_records.specs.Forms.{record_form, record_slots};
+ghost use Rattle.openapi_records.specs.Objects.{xml_rows};
+
+use crate::classes::{extensions, put_extensions};
+use crate::from_node::FromNode;
+use crate::object::{Object, Record, read_record, write_record};
+use crate::put_rows::{put_flag, put_optional};
+use crate::rows::{flag, optional};
+use crate::to_node::ToNode;
+use openapi_node::{Fault, Node, OrderedMap, Steps, View};
+use std::alloc::Global;
+
+/// The XML Object: how a property is written in XML.
+#[derive(Clone, Debug, PartialEq, Drop)]
+pub struct Xml {
+    /// The name of the element or attribute, in place of that of the property.
+    pub name: Option<String>,
+    /// Its namespace, as a URL.
+    pub namespace: Option<String>,
+    /// The prefix of its name.
+    pub prefix: Option<String>,
+    /// Whether it is an attribute, and no element.
+    pub attribute: bool,
+    /// Whether the elements of a list stand in an element of their own.
+    pub wrapped: bool,
+    /// Extensions, by names that begin with `x-`.
+    pub extensions: OrderedMap<Node>,
+}
+
+impl Xml {
+    /// Empty texts, lists and maps, and nothing else.
+    pub fn new(alloc: Global) -> Xml
+        ensures name { result.name ≡ None }
+        ensures namespace { result.namespace ≡ None }
+        ensures prefix { result.prefix ≡ None }
+        ensures attribute { result.attribute ≡ false }
+        ensures wrapped { result.wrapped ≡ false }
+        ensures extensions { result.extensions ≡ [] }
+    {
+        Xml {
+            name: None,
+            namespace: None,
+            prefix: None,
+            attribute: false,
+            wrapped: false,
+            extensions: OrderedMap::new(alloc),
+        }
+    }
+}
+
+impl Object for Xml {
+    ghost object = { by xml_object };
+
+    ghost slots_of = { record_slots xml_object xml_rows };
+
+    ghost apart = { λ x. final_apart xml_object (xml_rows x) };
+}
+
+#[tactic(auto, unfolding(openapi_tables::specs::Tables::final_tables, openapi_tables::specs::Tables::tables_with))]
+impl Record for Xml {
+    ghost rows_of = { xml_rows };
+
+    fn from_members(
+        alloc: Global,
+        members: &OrderedMap<Node>,
+        steps: &mut Steps,
+    ) -> Result<Xml, Fault> {
+        Ok(Xml {
+            name: optional::<Self, _>(alloc, members, "name", steps)?,
+            namespace: optional::<Self, _>(alloc, members, "namespace", steps)?,
+            prefix: optional::<Self, _>(alloc, members, "prefix", steps)?,
+            attribute: flag::<Self>(alloc, members, "attribute", steps)?,
+            wrapped: flag::<Self>(alloc, members, "wrapped", steps)?,
+            extensions: extensions::<Self>(alloc, members, steps)?,
+        })
+    }
+
+    fn put_rows(&self, alloc: Global, out: &mut OrderedMap<Node>) -> Result<(), Fault> {
+        put_optional(alloc, self, out, "name", &self.name)?;
+        put_optional(alloc, self, out, "namespace", &self.namespace)?;
+        put_optional(alloc, self, out, "prefix", &self.prefix)?;
+        put_flag(alloc, self, out, "attribute", self.attribute)?;
+        put_flag(alloc, self, out, "wrapped", self.wrapped)?;
+        put_extensions(alloc, self, out, &self.extensions)
+    }
+
+    ghost by_table = { refl };
+
+    ghost by_rows = { λ x. refl };
+}
+
+impl FromNode for Xml {
+    ghost kind = { by xml_object };
+
+    ghost form_of = { record_form xml_rows };
+
+    fn from_view(alloc: Global, view: &View<'_>, steps: &mut Steps) -> Result<Xml, Fault> {
+        read_record(alloc, view, steps)
+    }
+
+    ghost few = { lit≤ tt };
+
+    ghost well_made = { refl };
+}
+
+impl ToNode for Xml {
+    fn to_node(&self, alloc: Global) -> Result<Node, Fault> {
+        write_record(alloc, self)
+    }
+
+    ghost there = { λ x. refl };
+}

@@ -1,0 +1,12 @@
+pub mod AnyForms
+pub mod FormatSlots
+pub mod HeldRows
+pub mod ItemSizes
+pub mod KindForms
+pub mod KindGives
+pub mod KindSorts
+pub mod KindTests
+pub mod MaskLaws
+pub mod RawSort
+pub mod SortByNames
+pub mod SortSlots

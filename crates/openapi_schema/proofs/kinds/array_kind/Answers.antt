@@ -1,0 +1,21 @@
+use Rattle.std.proofs.Common.{[], ◌∷◌, ap, ◌∙◌}
+use Rattle.openapi_tables.specs.Form.{absent}
+use Rattle.openapi_tables.specs.Members.{array_sort, kind_names, sort_rows}
+use Rattle.openapi_tables.specs.Tables.{any_rows, array_rows}
+use Rattle.openapi_records.specs.Forms.{optional_form}
+use Rattle.openapi_values.specs.Reference.{reference_form}
+use Rattle.openapi_schema.specs.RawSlots.{sort_slots}
+use Rattle.openapi_schema.specs.SchemaForms.{schema_form, size_form, flag_form}
+use Rattle.openapi_schema.proofs.FormatSlots.{flag_slot}
+use Rattle.openapi_schema.proofs.KindForms.{array_rows-kind, array_rows-roll}
+use Rattle.openapi_schema.proofs.kinds.array_kind.Goals as goal
+
+pub returns : goal.returns
+unfolding sort_slots kind_names any_rows sort_rows array_rows
+returns c =
+    let b = c.args.last in
+    array_rows-kind _
+    ∙ ap (λ rows. (array_sort, absent ∷ rows)) (array_rows-roll _
+    ∙ (λ i. optional_form (reference_form (λ s. schema_form s.value)) b.items ∷ optional_form size_form b.min_items
+    ∷ optional_form size_form b.max_items
+    ∷ (ap flag_form c.unwrap_or.ensures ∙ flag_slot b.unique_items) i ∷ []))

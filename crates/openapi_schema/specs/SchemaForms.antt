@@ -1,0 +1,227 @@
+-- The forms of schemas: a fold over the types that hold one another.
+use Rattle.std.specs.Prelude.{ℕ, ℤ, pos, Bool, List, [], ◌∷◌, Option}
+use Rattle.std.specs.Global.{Vec}
+use Rattle.openapi_node.specs.Tree.{Tree, flag, whole}
+use Rattle.openapi_tables.specs.Lists.{each, join}
+use Rattle.openapi_tables.specs.Form.{Form, absent, leaf, sequence, fields, forms_of}
+use Rattle.openapi_tables.specs.Members.{
+  Sort,
+  string_sort,
+  number_sort,
+  integer_sort,
+  boolean_sort,
+  object_sort,
+  array_sort,
+  one_of_sort,
+  all_of_sort,
+  any_of_sort,
+  not_sort,
+  any_sort,
+  sort,
+}
+use Rattle.openapi_records.specs.Forms.{text_form, optional_form, map_form, extensions_form}
+use Rattle.openapi_values.specs.Reference.{reference_form}
+use Rattle.openapi_values.specs.VariantOr.{variant_or_empty_form}
+use Rattle.openapi_values.specs.Words.{number_format_word, integer_format_word, string_format_word}
+use Rattle.openapi_schema.specs.Enumerations.{text_tree, number_tree, signed_tree, flag_tree, entry_tree}
+use Rattle.openapi_schema.specs.declared.schema_data.SchemaData.{SchemaData}
+use Rattle.openapi_schema.specs.declared.scalar_types.StringType.{StringType}
+use Rattle.openapi_schema.specs.declared.scalar_types.NumberType.{NumberType}
+use Rattle.openapi_schema.specs.declared.scalar_types.IntegerType.{IntegerType}
+use Rattle.openapi_schema.specs.declared.scalar_types.BooleanType.{BooleanType}
+use Rattle.openapi_schema.specs.declared.schema.AdditionalProperties.{AdditionalProperties}
+use Rattle.openapi_schema.specs.declared.schema.SchemaKind.{SchemaKind}
+use Rattle.openapi_schema.specs.declared.schema.SchemaType.{SchemaType}
+use Rattle.openapi_schema.specs.declared.schema.Schema.{Schema}
+use Rattle.openapi_schema.specs.declared.any_schema.AnySchema.{AnySchema}
+use Rattle.openapi_schema.specs.declared.composite_types.ObjectType.{ObjectType}
+use Rattle.openapi_schema.specs.declared.composite_types.ArrayType.{ArrayType}
+use Rattle.openapi_schema.specs.declared.schema.AdditionalProperties.TheOpen.{
+  AdditionalProperties-F,
+  SchemaKind-F,
+  SchemaType-F,
+  AnySchema-F,
+  ArrayType-F,
+  ObjectType-F,
+  Schema-F,
+}
+use Rattle.openapi_schema.specs.declared.schema.AdditionalProperties.TheFolds.{
+  fold-AdditionalProperties,
+  fold-SchemaKind,
+  fold-SchemaType,
+  fold-AnySchema,
+  fold-ArrayType,
+  fold-ObjectType,
+  fold-Schema,
+}
+
+-- flags, numbers, lists and entries of enumerations
+abbrev pub flag_form : Bool → Form
+flag_form b = leaf (flag b)
+
+abbrev pub number_form : ℤ → Form
+number_form z = leaf (whole z)
+
+abbrev pub size_form : ℕ → Form
+size_form n = leaf (whole (pos n))
+
+abbrev pub list_form : {X : Type 0} → (X → Form) → Vec X → Form
+list_form view v = sequence (forms_of (each view v.items))
+
+abbrev pub entry_form : {X : Type 0} → (X → Tree) → Option X → Form
+entry_form tree_in o = leaf (entry_tree tree_in o)
+
+-- the slots of what every kind of schema can say
+abbrev pub schema_data_rows : SchemaData → List Form
+schema_data_rows d =
+    flag_form d.nullable
+    ∷ flag_form d.read_only
+    ∷ flag_form d.write_only
+    ∷ flag_form d.deprecated
+    ∷ optional_form leaf d.example
+    ∷ optional_form text_form d.title
+    ∷ optional_form text_form d.description
+    ∷ optional_form leaf d.default
+    ∷ extensions_form d.extensions
+    ∷ []
+
+-- the slots of the kinds that hold no schema
+abbrev pub string_type_rows : StringType → List Form
+string_type_rows x =
+    variant_or_empty_form string_format_word x.format
+    ∷ optional_form text_form x.pattern
+    ∷ list_form (entry_form text_tree) x.enumeration
+    ∷ optional_form size_form x.min_length
+    ∷ optional_form size_form x.max_length
+    ∷ []
+
+abbrev pub number_type_rows : NumberType → List Form
+number_type_rows x =
+    variant_or_empty_form number_format_word x.format
+    ∷ optional_form number_form x.multiple_of
+    ∷ flag_form x.exclusive_minimum
+    ∷ flag_form x.exclusive_maximum
+    ∷ optional_form number_form x.minimum
+    ∷ optional_form number_form x.maximum
+    ∷ list_form (entry_form number_tree) x.enumeration
+    ∷ []
+
+abbrev pub integer_type_rows : IntegerType → List Form
+integer_type_rows x =
+    variant_or_empty_form integer_format_word x.format
+    ∷ optional_form number_form x.multiple_of
+    ∷ flag_form x.exclusive_minimum
+    ∷ flag_form x.exclusive_maximum
+    ∷ optional_form number_form x.minimum
+    ∷ optional_form number_form x.maximum
+    ∷ list_form (entry_form signed_tree) x.enumeration
+    ∷ []
+
+abbrev pub boolean_type_rows : BooleanType → List Form
+boolean_type_rows x = list_form (entry_form flag_tree) x.enumeration ∷ []
+
+-- a sort with the slots of its rows
+abbrev pub Sorted : Type 0
+Sorted = Sort × List Form
+
+-- references to, and items of, what is seen as its form already
+abbrev pub inner : Form → Form
+inner f = f
+
+-- one level of each type, with what stands inside seen as its forms already
+abbrev pub additional_step : AdditionalProperties-F Form Sorted Sorted (List Form) (List Form) (List Form) Form → Form
+additional_step (AdditionalProperties-F.«AdditionalProperties::Any» b) = flag_form b
+additional_step (AdditionalProperties-F.Schema r) = reference_form inner r.value
+
+abbrev pub schema_kind_step : SchemaKind-F Form Sorted Sorted (List Form) (List Form) (List Form) Form → Sorted
+schema_kind_step (SchemaKind-F.Typed y) = y
+schema_kind_step (SchemaKind-F.OneOf v) = (one_of_sort, list_form (reference_form inner) v ∷ [])
+schema_kind_step (SchemaKind-F.AllOf v) = (all_of_sort, list_form (reference_form inner) v ∷ [])
+schema_kind_step (SchemaKind-F.AnyOf v) = (any_of_sort, list_form (reference_form inner) v ∷ [])
+schema_kind_step (SchemaKind-F.Not r) = (not_sort, reference_form inner r.value ∷ [])
+schema_kind_step (SchemaKind-F.«SchemaKind::Any» n) = (any_sort, n)
+
+abbrev pub schema_type_step : SchemaType-F Form Sorted Sorted (List Form) (List Form) (List Form) Form → Sorted
+schema_type_step (SchemaType-F.String x) = (string_sort, absent ∷ string_type_rows x)
+schema_type_step (SchemaType-F.Number x) = (number_sort, absent ∷ number_type_rows x)
+schema_type_step (SchemaType-F.Integer x) = (integer_sort, absent ∷ integer_type_rows x)
+schema_type_step (SchemaType-F.Object rows) = (object_sort, absent ∷ rows)
+schema_type_step (SchemaType-F.Array rows) = (array_sort, absent ∷ rows)
+schema_type_step (SchemaType-F.Boolean x) = (boolean_sort, absent ∷ boolean_type_rows x)
+
+abbrev pub any_schema_step : AnySchema-F Form Sorted Sorted (List Form) (List Form) (List Form) Form → List Form
+any_schema_step x =
+    optional_form text_form x.typ
+    ∷ optional_form text_form x.pattern
+    ∷ optional_form number_form x.multiple_of
+    ∷ optional_form flag_form x.exclusive_minimum
+    ∷ optional_form flag_form x.exclusive_maximum
+    ∷ optional_form number_form x.minimum
+    ∷ optional_form number_form x.maximum
+    ∷ map_form (reference_form (λ b. b.value)) x.properties
+    ∷ list_form text_form x.required
+    ∷ optional_form inner x.additional_properties
+    ∷ optional_form size_form x.min_properties
+    ∷ optional_form size_form x.max_properties
+    ∷ optional_form (reference_form (λ b. b.value)) x.items
+    ∷ optional_form size_form x.min_items
+    ∷ optional_form size_form x.max_items
+    ∷ optional_form flag_form x.unique_items
+    ∷ list_form leaf x.enumeration
+    ∷ optional_form text_form x.format
+    ∷ optional_form size_form x.min_length
+    ∷ optional_form size_form x.max_length
+    ∷ list_form (reference_form inner) x.one_of
+    ∷ list_form (reference_form inner) x.all_of
+    ∷ list_form (reference_form inner) x.any_of
+    ∷ optional_form (λ b. reference_form inner b.value) x.not
+    ∷ []
+
+abbrev pub array_type_step : ArrayType-F Form Sorted Sorted (List Form) (List Form) (List Form) Form → List Form
+array_type_step x =
+    optional_form (reference_form (λ b. b.value)) x.items
+    ∷ optional_form size_form x.min_items
+    ∷ optional_form size_form x.max_items
+    ∷ flag_form x.unique_items
+    ∷ []
+
+abbrev pub object_type_step : ObjectType-F Form Sorted Sorted (List Form) (List Form) (List Form) Form → List Form
+object_type_step x =
+    map_form (reference_form (λ b. b.value)) x.properties
+    ∷ list_form text_form x.required
+    ∷ optional_form inner x.additional_properties
+    ∷ optional_form size_form x.min_properties
+    ∷ optional_form size_form x.max_properties
+    ∷ []
+
+abbrev pub schema_step : Schema-F Form Sorted Sorted (List Form) (List Form) (List Form) Form → Form
+schema_step x = fields (sort x.schema_kind.0) (forms_of (join (schema_data_rows x.schema_data) x.schema_kind.1))
+
+-- the form of a schema, of what stands in its place, and of what it holds
+abbrev pub schema_form : Schema → Form
+schema_form = fold-Schema Form Sorted Sorted (List Form) (List Form) (List Form) Form additional_step schema_kind_step
+    schema_type_step any_schema_step array_type_step object_type_step schema_step
+
+abbrev pub additional_form : AdditionalProperties → Form
+additional_form = fold-AdditionalProperties Form Sorted Sorted (List Form) (List Form) (List Form) Form additional_step
+    schema_kind_step schema_type_step any_schema_step array_type_step object_type_step schema_step
+
+abbrev pub schema_kind_rows : SchemaKind → Sorted
+schema_kind_rows = fold-SchemaKind Form Sorted Sorted (List Form) (List Form) (List Form) Form additional_step
+    schema_kind_step schema_type_step any_schema_step array_type_step object_type_step schema_step
+
+abbrev pub schema_type_rows : SchemaType → Sorted
+schema_type_rows = fold-SchemaType Form Sorted Sorted (List Form) (List Form) (List Form) Form additional_step
+    schema_kind_step schema_type_step any_schema_step array_type_step object_type_step schema_step
+
+abbrev pub any_schema_rows : AnySchema → List Form
+any_schema_rows = fold-AnySchema Form Sorted Sorted (List Form) (List Form) (List Form) Form additional_step
+    schema_kind_step schema_type_step any_schema_step array_type_step object_type_step schema_step
+
+abbrev pub array_type_rows : ArrayType → List Form
+array_type_rows = fold-ArrayType Form Sorted Sorted (List Form) (List Form) (List Form) Form additional_step
+    schema_kind_step schema_type_step any_schema_step array_type_step object_type_step schema_step
+
+abbrev pub object_type_rows : ObjectType → List Form
+object_type_rows = fold-ObjectType Form Sorted Sorted (List Form) (List Form) (List Form) Form additional_step
+    schema_kind_step schema_type_step any_schema_step array_type_step object_type_step schema_step

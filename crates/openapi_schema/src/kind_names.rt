@@ -1,0 +1,101 @@
+//! What stands under the names that tell the kinds of schemas apart.
+ghost use Rattle.std.specs.Prelude.{◌≡◌, string_bytes};
+ghost use Rattle.std.specs.Option.{option_copied, option_map};
+ghost use Rattle.openapi_node.specs.Tree.{Members};
+ghost use Rattle.openapi_tables.specs.Tree.{members_list};
+ghost use Rattle.openapi_tables.specs.Tables.{final_tables};
+ghost use Rattle.openapi_tables.specs.ByRow.{AreRows};
+ghost use Rattle.openapi_schema.specs.KindNames.{flags_in, kind_name_rows};
+ghost use Rattle.openapi_schema.specs.Masks.{mask_of, sort_in, sort_by_names};
+ghost use Rattle.openapi_schema.specs.RawSlots.{optional_rows};
+
+use crate::mask::Mask;
+use crate::schema::{AdditionalProperties, Schema};
+use crate::sort::Sort;
+use openapi_node::{Node, OrderedMap, Whole};
+use openapi_values::ReferenceOr;
+
+/// What stands under the first twelve of these names, where it is not null.
+#[derive(Drop)]
+pub(crate) struct FirstNames {
+    pub typ: Option<String>,
+    pub pattern: Option<String>,
+    pub multiple_of: Option<Whole>,
+    pub exclusive_minimum: Option<bool>,
+    pub exclusive_maximum: Option<bool>,
+    pub minimum: Option<Whole>,
+    pub maximum: Option<Whole>,
+    pub properties: Option<OrderedMap<ReferenceOr<Box<Schema>>>>,
+    pub required: Option<Vec<String>>,
+    pub additional_properties: Option<AdditionalProperties>,
+    pub min_properties: Option<usize>,
+    pub max_properties: Option<usize>,
+}
+
+/// What stands under the last twelve of these names, where it is not null. The entries of the enumeration are not read
+/// yet.
+#[derive(Drop)]
+pub(crate) struct LastNames<'a> {
+    pub items: Option<ReferenceOr<Box<Schema>>>,
+    pub min_items: Option<usize>,
+    pub max_items: Option<usize>,
+    pub unique_items: Option<bool>,
+    pub enumeration: Option<&'a [Node]>,
+    pub format: Option<String>,
+    pub min_length: Option<usize>,
+    pub max_length: Option<usize>,
+    pub one_of: Option<Vec<ReferenceOr<Schema>>>,
+    pub all_of: Option<Vec<ReferenceOr<Schema>>>,
+    pub any_of: Option<Vec<ReferenceOr<Schema>>>,
+    pub not: Option<Box<ReferenceOr<Schema>>>,
+}
+
+/// The names under which something stands.
+fn present_names(first: &FirstNames, last: &LastNames<'_>) -> Mask
+    ensures { result.bits ≡ mask_of (flags_in first.now last.now) }
+{
+    Mask::of_flags(&[
+        first.typ.is_some(),
+        first.pattern.is_some(),
+        first.multiple_of.is_some(),
+        first.exclusive_minimum.is_some(),
+        first.exclusive_maximum.is_some(),
+        first.minimum.is_some(),
+        first.maximum.is_some(),
+        first.properties.is_some(),
+        first.required.is_some(),
+        first.additional_properties.is_some(),
+        first.min_properties.is_some(),
+        first.max_properties.is_some(),
+        last.items.is_some(),
+        last.min_items.is_some(),
+        last.max_items.is_some(),
+        last.unique_items.is_some(),
+        last.enumeration.is_some(),
+        last.format.is_some(),
+        last.min_length.is_some(),
+        last.max_length.is_some(),
+        last.one_of.is_some(),
+        last.all_of.is_some(),
+        last.any_of.is_some(),
+        last.not.is_some(),
+    ])
+}
+
+/// A text that is lent, where there is one.
+fn lent(text: &Option<String>) -> Option<&str>
+    ensures { option_copied result ≡ option_map string_bytes text.now }
+{
+    match text {
+        Some(text) => Some(text.as_str()),
+        None => None,
+    }
+}
+
+/// The sort that the names and the `type` allow, with no look at what stands under the other names.
+pub(crate) fn named_sort(first: &FirstNames, last: &LastNames<'_>) -> Sort
+    ensures { (ms : Members) → AreRows final_tables optional_rows (kind_name_rows first.now last.now) ms
+        → sort_in result ≡ sort_by_names (members_list ms) }
+{
+    Sort::by_names(lent(&first.typ), present_names(first, last))
+}

@@ -1,0 +1,246 @@
+-- A schema of the sort that holds anything, read and written again, has the same kind names.
+use Rattle.openapi_tables.proofs.ListLaws.{every_same}
+use Rattle.std.proofs.Common.{ℕ, Bool, true, false, not, cond, ◌&&◌, ◌||◌, List, [], ◌∷◌, ◌≡◌, refl, sym, ap, ◌∙◌}
+use Rattle.std.proofs.Common.{subst, codes}
+use Rattle.std.proofs.lemmas.Bool.{and_parts}
+use Rattle.openapi_tables.specs.Kind.{Kind, Tables, Row, a_schema, class, constant, either, flagged, formatted, list_of}
+use Rattle.openapi_tables.specs.Kind.{listed, map_of, nullable, optional, ref_to, required, row, styled}
+use Rattle.openapi_tables.proofs.Firm.{writes_own}
+use Rattle.openapi_tables.proofs.FormLaws.{show}
+use Rattle.openapi_tables.proofs.ListLaws.{Each, each_under, every_each}
+use Rattle.openapi_tables.proofs.PlainLaws.{clean-plain, is_plain}
+use Rattle.openapi_tables.proofs.PrintLaws.{members_for, printed}
+use Rattle.openapi_tables.proofs.ReadLaws.{reads, slot_in}
+use Rattle.openapi_tables.proofs.RowLaws.{Found, found}
+use Rattle.openapi_tables.proofs.RowWrites.{SlotsProper}
+use Rattle.openapi_tables.proofs.SlotLaws.{not_null}
+use Rattle.openapi_tables.proofs.TreeLaws.{null_tree}
+use Rattle.openapi_tables.proofs.SortLaws.{Each_behind, Rewrites, rewrites}
+use Rattle.openapi_tables.proofs.Taken.{Taken, as_fields, as_inner, as_item, as_known, as_leaf, as_list, as_map}
+use Rattle.openapi_tables.proofs.Taken.{as_number_code, as_other, as_reference, as_schema, as_text_code, as_unset}
+use Rattle.openapi_tables.proofs.Taken.{taken}
+use Rattle.openapi_tables.specs.Form.{Form, absent, leaf, more, named, no_forms, no_named, sequence, under}
+use Rattle.openapi_tables.specs.Lists.{each, every, has, join}
+use Rattle.openapi_tables.specs.Members.{Sort, all_of_sort, allowed, any_of_sort, any_sort, array_sort, boolean_sort}
+use Rattle.openapi_tables.specs.Members.{entries_pass, first_tree, further, held, integer_sort, is_null}
+use Rattle.openapi_tables.specs.Members.{is_null_or_flag, is_null_or_signed, is_null_or_text, is_null_or_whole}
+use Rattle.openapi_tables.specs.Members.{kind_names, meets, not_sort, number_sort, object_sort, one_of_sort, own}
+use Rattle.openapi_tables.specs.Members.{possible_sort, row_name, sort_of, string_sort}
+use Rattle.openapi_tables.specs.Print.{clean, is_silent, one, print, row_print}
+use Rattle.openapi_tables.specs.Proper.{face_proper, proper, row_proper}
+use Rattle.openapi_tables.specs.Read.{form, slot_of_own}
+use Rattle.openapi_tables.specs.Sound.{mode_fits, row_sound, rows_apart, sound}
+use Rattle.openapi_tables.specs.Tables.{any_rows}
+use Rattle.openapi_node.specs.Tree.{Tree, flag, list, null, object, text, whole}
+use Rattle.openapi_tables.specs.Tree.{Entry}
+
+never_absent : (T : Tables) (k : Kind) (t : Tree) (f : Form) → Taken T k t f → is_silent optional f ≡ false
+never_absent T k t f (as_leaf j u e) = refl
+never_absent T k t f (as_known ws b s e) = refl
+never_absent T k t f (as_other ws b s e) = refl
+never_absent T k t f (as_unset ws b) = refl
+never_absent T k t f (as_text_code s c e) = refl
+never_absent T k t f (as_number_code n e) = refl
+never_absent T k t f (as_list j ts) = refl
+never_absent T k t f (as_map j ms) = refl
+never_absent T k t f (as_fields j c ms e) = refl
+never_absent T k t f (as_reference j u s e) = refl
+never_absent T k t f (as_item j u x e y) = refl
+never_absent T k t f (as_schema u x e y) = never_absent T (ref_to a_schema) u x y
+never_absent T k t f (as_inner j u x y) = never_absent T j u x y
+
+-- trees that are null alike, and the same where their kind is plain
+abbrev Alike : Kind → Tree → Tree → Type 0
+Alike k u t = (is_null u ≡ is_null t) × (is_plain k ≡ true → u ≡ t)
+
+-- what a row writes for the slot that it reads of l
+abbrev rewritten : (T : Tables) → Row → List (Entry Tree) → List (Entry Tree)
+rewritten T w l = row_print w (printed T (slot_of_own w (reads T l)))
+
+optional_value : (T : Tables) (n : List ℕ) (k : Kind) (t : Tree) (b : Bool) → is_null t ≡ b
+    → Alike k (first_tree (rewritten T (row n optional k) (one n t))) t
+optional_value T n k t true e =
+    let p : rewritten T (row n optional k) (one n t) ≡ [] =
+    ap (λ b. row_print (row n optional k) (printed T (cond b absent (form T k t)))) e in
+    (ap (λ l. is_null (first_tree l)) p ∙ sym e, λ x. ap first_tree p ∙ sym (null_tree t e))
+optional_value T n k t false e =
+    let p : rewritten T (row n optional k) (one n t) ≡ one n (clean T k t) =
+    ap (λ b. row_print (row n optional k) (printed T (cond b absent (form T k t)))) e
+    ∙ ap (λ b. cond b [] (one n (clean T k t))) (never_absent T k t (form T k t) (taken T k t)) in (
+      ap (λ l. is_null (first_tree l)) p ∙ not_null T k t (form T k t) (taken T k t) e ∙ sym e,
+      λ x. ap first_tree p
+          ∙ clean-plain T t k x,
+    )
+
+optional_row : (T : Tables) (n : List ℕ) (k : Kind) (f : Form) (b : Bool) → is_silent optional f ≡ b
+    → Alike k (first_tree (rewritten T (row n optional k) (cond b [] (one n (print T k f)))))
+    (first_tree (cond b [] (one n (print T k f))))
+optional_row T n k f true e = (refl, λ x. refl)
+optional_row T n k f false e = optional_value T n k (print T k f) (is_null (print T k f)) refl
+
+listed_row : (T : Tables) (n : List ℕ) (k : Kind) (f : Form) → mode_fits listed k ≡ true → proper T k f ≡ true
+    → Alike k (first_tree (rewritten T (row n listed k) (row_print (row n listed k) (printed T f))))
+    (first_tree (row_print (row n listed k) (printed T f)))
+listed_row T n (list_of j) (sequence no_forms) s h = (refl, λ x. refl)
+listed_row T n (list_of j) (sequence (more f fs)) s h =
+    (refl, λ x. clean-plain T (print T (list_of j) (sequence (more f fs))) (list_of j) x)
+listed_row T n (list_of j) absent s h = cc
+listed_row T n (list_of j) (leaf null) s h = cc
+listed_row T n (list_of j) (leaf (flag b)) s h = cc
+listed_row T n (list_of j) (leaf t) s h = cc
+listed_row T n (list_of j) f s h = cc
+listed_row T n (map_of j) (named no_named) s h = (refl, λ x. refl)
+listed_row T n (map_of j) (named (under m f es)) s h = (refl, λ x. cc)
+listed_row T n (map_of j) (leaf null) s h = cc
+listed_row T n (map_of j) (leaf (flag b)) s h = cc
+listed_row T n (map_of j) (leaf t) s h = cc
+listed_row T n (map_of j) f s h = cc
+listed_row T n k f s h = cc
+
+is_open : Row → Bool
+is_open (row n optional k) = true
+is_open (row n listed k) = true
+is_open w = false
+
+all_open : every is_open any_rows ≡ true
+unfolding any_rows is_open
+all_open = refl
+
+-- the two lists of members are alike under the name of a row
+abbrev RowAlike : List (Entry Tree) → List (Entry Tree) → Row → Type 0
+RowAlike l' l (row n m k) = Alike k (held n l') (held n l)
+RowAlike l' l (either a j b k) = ⊥
+RowAlike l' l (class c k) = ⊥
+RowAlike l' l (constant n v) = ⊥
+
+row_alike : (T : Tables) (l' l : List (Entry Tree)) (w : Row) (f : Form) → is_open w ≡ true → row_sound T w ≡ true
+    → row_proper w (show (face_proper T) f) ≡ true → own w l ≡ row_print w (printed T f)
+    → own w l' ≡ rewritten T w (own w l) → RowAlike l' l w
+unfolding is_open
+row_alike T l' l (row n optional k) f o s h e r =
+    subst (λ x. Alike k (first_tree x) (held n l)) (sym r)
+    (subst (λ x. Alike k (first_tree (rewritten T (row n optional k) x)) (first_tree x)) (sym e)
+    (optional_row T n k f (is_silent optional f) refl))
+row_alike T l' l (row n listed k) f o s h e r =
+    subst (λ x. Alike k (first_tree x) (held n l)) (sym r)
+    (subst (λ x. Alike k (first_tree (rewritten T (row n listed k) x)) (first_tree x)) (sym e)
+    (listed_row T n k f (and_parts (mode_fits listed k) (sound T k) s).0 h))
+row_alike T l' l (row n required k) f o s h e r = cc
+row_alike T l' l (row n nullable k) f o s h e r = cc
+row_alike T l' l (row n flagged k) f o s h e r = cc
+row_alike T l' l (row n (styled u) k) f o s h e r = cc
+row_alike T l' l (row n formatted k) f o s h e r = cc
+row_alike T l' l (either a j b k) f o s h e r = cc
+row_alike T l' l (class c k) f o s h e r = cc
+row_alike T l' l (constant n v) f o s h e r = cc
+
+rows_alike : (T : Tables) (l' l : List (Entry Tree)) (ws : List Row) (fs : List Form)
+    → Each (λ w. is_open w ≡ true) ws → Each (λ w. row_sound T w ≡ true) ws → SlotsProper T ws fs → Found T l ws fs
+    → Rewrites T l l' ws → Each (RowAlike l' l) ws
+rows_alike T l' l [] fs o s h e r = tt
+rows_alike T l' l (w ∷ ws) [] o s h e r = absurd h
+rows_alike T l' l (w ∷ ws) (f ∷ fs) o s h e r =
+    (row_alike T l' l w f o.0 s.0 h.0 e.0 r.0, rows_alike T l' l ws fs o.1 s.1 h.1 e.1 r.1)
+
+abbrev NullAlike : List (Entry Tree) → List (Entry Tree) → Row → Type 0
+NullAlike l' l w = is_null (held (row_name w) l') ≡ is_null (held (row_name w) l)
+
+null_alike : (l' l : List (Entry Tree)) (w : Row) → RowAlike l' l w → NullAlike l' l w
+null_alike l' l (row n m k) h = h.0
+null_alike l' l (either a j b k) h = absurd h
+null_alike l' l (class c k) h = absurd h
+null_alike l' l (constant n v) h = absurd h
+
+abbrev chain : Bool → Bool → Bool → Bool → Sort
+chain a b c d = cond (not a) one_of_sort
+    (cond (not b) all_of_sort (cond (not c) any_of_sort (cond (not d) not_sort any_sort)))
+
+names_alike : (s : Sort) (l' l : List (Entry Tree)) → Each (NullAlike l' l) any_rows
+    → every (λ n. has (allowed s) n || is_null (held n l')) kind_names
+    ≡ every (λ n. has (allowed s) n || is_null (held n l)) kind_names
+unfolding any_rows kind_names
+names_alike s l' l h =
+    every_same (λ n. has (allowed s) n || is_null (held n l'))
+    (λ n. has (allowed s) n || is_null (held n l)) kind_names
+    (each_under {P = λ n. is_null (held n l') ≡ is_null (held n l)}
+    (λ n x. ap (λ b. has (allowed s) n || b) x) kind_names h)
+
+further_alike : (s : Sort) (l' l : List (Entry Tree)) → held (codes "enum") l' ≡ held (codes "enum") l
+    → held (codes "multipleOf") l' ≡ held (codes "multipleOf") l → held (codes "minimum") l' ≡ held (codes "minimum") l
+    → held (codes "maximum") l' ≡ held (codes "maximum") l → further s l' ≡ further s l
+further_alike string_sort l' l a b c d = ap (entries_pass is_null_or_text) a
+further_alike number_sort l' l a b c d = ap (entries_pass is_null_or_whole) a
+further_alike integer_sort l' l a b c d =
+    ap (λ t. entries_pass is_null_or_signed t && is_null_or_signed (held (codes "multipleOf") l')
+    && is_null_or_signed (held (codes "minimum") l') && is_null_or_signed (held (codes "maximum") l')) a
+    ∙ ap (λ t. entries_pass is_null_or_signed (held (codes "enum") l) && is_null_or_signed t
+    && is_null_or_signed (held (codes "minimum") l') && is_null_or_signed (held (codes "maximum") l')) b
+    ∙ ap (λ t. entries_pass is_null_or_signed (held (codes "enum") l)
+    && is_null_or_signed (held (codes "multipleOf") l) && is_null_or_signed t
+    && is_null_or_signed (held (codes "maximum") l')) c
+    ∙ ap (λ t. entries_pass is_null_or_signed (held (codes "enum") l)
+    && is_null_or_signed (held (codes "multipleOf") l) && is_null_or_signed (held (codes "minimum") l)
+    && is_null_or_signed t) d
+further_alike boolean_sort l' l a b c d = ap (entries_pass is_null_or_flag) a
+further_alike object_sort l' l a b c d = refl
+further_alike array_sort l' l a b c d = refl
+further_alike one_of_sort l' l a b c d = refl
+further_alike all_of_sort l' l a b c d = refl
+further_alike any_of_sort l' l a b c d = refl
+further_alike not_sort l' l a b c d = refl
+further_alike any_sort l' l a b c d = refl
+
+possible_alike : (t : Tree) (l' l : List (Entry Tree))
+    → is_null (held (codes "oneOf") l') ≡ is_null (held (codes "oneOf") l)
+    → is_null (held (codes "allOf") l') ≡ is_null (held (codes "allOf") l)
+    → is_null (held (codes "anyOf") l') ≡ is_null (held (codes "anyOf") l)
+    → is_null (held (codes "not") l') ≡ is_null (held (codes "not") l) → possible_sort t l' ≡ possible_sort t l
+possible_alike null l' l a b c d =
+    ap (λ x. chain x (is_null (held (codes "allOf") l')) (is_null (held (codes "anyOf") l'))
+    (is_null (held (codes "not") l'))) a
+    ∙ ap (λ x. chain (is_null (held (codes "oneOf") l)) x (is_null (held (codes "anyOf") l'))
+    (is_null (held (codes "not") l'))) b
+    ∙ ap (λ x. chain (is_null (held (codes "oneOf") l)) (is_null (held (codes "allOf") l)) x
+    (is_null (held (codes "not") l'))) c
+    ∙ ap (λ x. chain (is_null (held (codes "oneOf") l)) (is_null (held (codes "allOf") l))
+    (is_null (held (codes "anyOf") l)) x) d
+possible_alike (flag b') l' l a b c d = refl
+possible_alike (whole z) l' l a b c d = refl
+possible_alike (text s) l' l a b c d = refl
+possible_alike (list ts) l' l a b c d = refl
+possible_alike (object ms) l' l a b c d = refl
+
+sort_alike : (l' l : List (Entry Tree)) → Each (RowAlike l' l) any_rows → sort_of l' ≡ sort_of l
+unfolding any_rows
+sort_alike l' l h =
+    let nulls : Each (NullAlike l' l) any_rows = each_under (λ w x. null_alike l' l w x) any_rows h in
+    let q : possible_sort (held (codes "type") l') l' ≡ possible_sort (held (codes "type") l) l =
+    ap (λ t. possible_sort t l') (h.0.1 refl)
+    ∙ possible_alike (held (codes "type") l) l' l h.1.1.1.1.1.1.1.1.1.1.1.1.1.1.1.1.1.1.1.1.0.0
+    h.1.1.1.1.1.1.1.1.1.1.1.1.1.1.1.1.1.1.1.1.1.0.0 h.1.1.1.1.1.1.1.1.1.1.1.1.1.1.1.1.1.1.1.1.1.1.0.0
+    h.1.1.1.1.1.1.1.1.1.1.1.1.1.1.1.1.1.1.1.1.1.1.1.0.0 in
+    ap (λ s. cond (meets s l') s any_sort) q
+    ∙ ap (λ b. cond (b && further (possible_sort (held (codes "type") l) l) l')
+    (possible_sort (held (codes "type") l) l) any_sort)
+    (names_alike (possible_sort (held (codes "type") l) l) l' l nulls)
+    ∙ ap (λ b. cond
+    (every (λ n. has (allowed (possible_sort (held (codes "type") l) l)) n || is_null (held n l)) kind_names
+    && b) (possible_sort (held (codes "type") l) l) any_sort)
+    (further_alike (possible_sort (held (codes "type") l) l) l' l (h.1.1.1.1.1.1.1.1.1.1.1.1.1.1.1.1.0.1 refl)
+    (h.1.1.0.1 refl) (h.1.1.1.1.1.0.1 refl) (h.1.1.1.1.1.1.0.1 refl))
+
+-- what a schema of the sort that holds anything writes, of that sort too, is read and written as one of that sort
+pub any_again : (T : Tables) (pre : List Row) (fs : List Form) (l : List (Entry Tree))
+    → rows_apart (join pre any_rows) ≡ true → Each (λ w. row_sound T w ≡ true) any_rows → SlotsProper T any_rows fs
+    → Found T l any_rows fs
+    → sort_of (members_for T (join pre any_rows) (each (slot_in T l) (join pre any_rows))) ≡ sort_of l
+any_again T pre fs l a s h e =
+    sort_alike l' l (rows_alike T l' l any_rows fs (every_each is_open any_rows all_open) s h e
+    (Each_behind (λ w. own w l' ≡ row_print w (printed T (slot_in T l w))) pre any_rows
+    (rewrites T l l' ws (found T ws (each (slot_in T l) ws) a (writes_own T ws l)))))
+  where
+    ws : List Row
+    ws = join pre any_rows
+
+    l' : List (Entry Tree)
+    l' = members_for T (join pre any_rows) (each (slot_in T l) (join pre any_rows))

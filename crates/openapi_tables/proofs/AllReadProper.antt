@@ -1,0 +1,266 @@
+-- What is read of a tree that conforms is a proper form: for all kinds and trees.
+use Rattle.std.proofs.Common.{ℕ, Bool, true, false, cond, ◌&&◌, List, Option, Some, None, ◌≡◌, refl}
+use Rattle.std.proofs.Common.{sym, ap, ◌∙◌, subst, codes, nat_le}
+use Rattle.std.proofs.lemmas.Bool.{and_parts, and_from, both_ways}
+use Rattle.openapi_tables.specs.Kind.{Kind, Tables, Case, Code, TableName, a_schema, a_schema_kind}
+use Rattle.openapi_tables.specs.Kind.{any_flag, any_text, any_tree, by, code, code_of}
+use Rattle.openapi_tables.specs.Kind.{flag_or_schema, format, is_code, list_of}
+use Rattle.openapi_tables.specs.Kind.{map_of, null_or, number, one_of, ref_to}
+use Rattle.openapi_tables.specs.Kind.{schema_data, status_code, status_names, tagged, text_of}
+use Rattle.openapi_tables.specs.Kind.{writable_code}
+use Rattle.std.specs.Prelude.{pos}
+use Rattle.openapi_tables.proofs.SchemaCalm.{front}
+use Rattle.openapi_tables.proofs.CodeLaws.{code_of-text_of, writable-code_of}
+use Rattle.openapi_tables.proofs.FaultLaws.{judged}
+use Rattle.openapi_tables.proofs.FormLaws.{of_forms-of, show}
+use Rattle.openapi_tables.proofs.ListLaws.{Each, Each-join, every_each}
+use Rattle.openapi_tables.proofs.ObjectBack.{rows_of_sound, tag_case}
+use Rattle.openapi_tables.proofs.ReadLaws.{form-fields, slot_in}
+use Rattle.openapi_tables.proofs.SortHolds.{AllHold, all_hold}
+use Rattle.openapi_tables.proofs.Taken.{trees_of-members}
+use Rattle.openapi_tables.proofs.TreeLaws.{Inside, by_trees, members_of-list}
+use Rattle.openapi_tables.proofs.Writes.{behind, object_conforms}
+use Rattle.openapi_tables.specs.Conforms.{chosen_holds, conforms, is_reference}
+use Rattle.openapi_tables.specs.Conforms.{object_holds, reference_or, root_conforms, text_in}
+use Rattle.openapi_tables.specs.Form.{Form, Pair, an_item, coded, forms_of, known, leaf, name, named_of, of_code}
+use Rattle.openapi_tables.specs.Form.{of_forms, of_named, other, reference}
+use Rattle.openapi_tables.specs.Lists.{each, every, has, join}
+use Rattle.openapi_tables.specs.Members.{Choice, Sort}
+use Rattle.openapi_tables.specs.Members.{checked_rows, choice, held}
+use Rattle.openapi_tables.specs.Members.{made_optional}
+use Rattle.openapi_tables.specs.Members.{own, plain, rows_of, sort, sort_of, sort_rows}
+use Rattle.openapi_tables.specs.Members.{tag}
+use Rattle.openapi_tables.specs.Proper.{Held, choice_proper, face_proper, is_name, is_written, of_kind}
+use Rattle.openapi_tables.specs.Proper.{proper, rows_proper}
+use Rattle.openapi_tables.specs.Read.{code_form, code_key, form}
+use Rattle.openapi_tables.specs.Read.{pairs_as, reference_or_item, root_form, same_key}
+use Rattle.openapi_tables.specs.Sound.{row_sound, rows_apart, sound, tables_sound, under_ref}
+use Rattle.openapi_tables.specs.Tables.{any_rows}
+use Rattle.openapi_node.specs.Tree.{Items, Members, Tree, flag, item, list, member, no_items, no_members, null, object}
+use Rattle.openapi_node.specs.Tree.{text, whole}
+use Rattle.openapi_tables.specs.Tree.{Entry, Seen, Shape, an_object, items_list, members_list, members_of, of_items}
+use Rattle.openapi_tables.specs.Tree.{of_members}
+use Rattle.openapi_tables.proofs.SortReads.{sort_reads}
+use Rattle.openapi_tables.proofs.ReadProper.{ReadsProper, ValuesProper, same_code-refl, AllRead, rows_read_proper}
+use Rattle.openapi_tables.proofs.ReadProper.{RowReads, all_read}
+
+-- objects
+proper-fields : (T : Tables) (k : Kind) (c : Choice) (fs : List Form) → choice_proper k c ≡ true
+    → rows_proper (rows_of T k c) (each (show (face_proper T)) fs) ≡ true
+    → (choice_proper k c && rows_proper (rows_of T k c) (of_forms (face_proper T) (forms_of fs))) ≡ true
+proper-fields T k c fs h g = and_from (choice_proper k c) _ h
+    (ap (rows_proper (rows_of T k c)) (of_forms-of (face_proper T) fs) ∙ g)
+
+pub held_of : (T : Tables) (k : Kind) (es : List (Entry Tree)) (c : Choice) → choice k es ≡ Some c
+    → object_holds T k (of_members (root_conforms T) (members_of es)) ≡ true → AllHold T es (checked_rows T k c)
+held_of T k es c h g = all_hold T es (checked_rows T k c)
+    (sym (object_conforms T k es ∙ ap (λ o. chosen_holds T k (judged T es) o) h) ∙ g)
+
+pub sound_rows_of : (T : Tables) (W : tables_sound T ≡ true) (k : Kind) (c : Choice) (es : List (Entry Tree))
+    → sound T k ≡ true → choice k es ≡ Some c → Each (λ w. row_sound T w ≡ true) (rows_of T k c)
+sound_rows_of T W k c es s h = every_each (row_sound T) (rows_of T k c)
+    (and_parts (rows_apart (rows_of T k c)) (every (row_sound T) (rows_of T k c)) (rows_of_sound T W k c es s h)).1
+
+table_reads : (T : Tables) (W : tables_sound T ≡ true) (i : TableName) (es : List (Entry Tree)) → ValuesProper T es
+    → conforms T (by i) (object (members_of es)) ≡ true
+    → proper T (by i) (form T (by i) (object (members_of es))) ≡ true
+unfolding rows_of checked_rows
+table_reads T W i es g h =
+    let a = sound_rows_of T W (by i) plain es refl refl in
+    ap (proper T (by i)) (form-fields T (by i) plain es refl)
+    ∙ proper-fields T (by i) plain (each (slot_in T es) (T i)) refl
+    (rows_read_proper T es (T i) a g (all_read T es (T i) a (held_of T (by i) es plain refl h)))
+
+tagged_reads : (T : Tables) (W : tables_sound T ≡ true) (n : List ℕ) (cs : List Case) (es : List (Entry Tree))
+    → sound T (tagged n cs) ≡ true → ValuesProper T es → conforms T (tagged n cs) (object (members_of es)) ≡ true
+    → proper T (tagged n cs) (form T (tagged n cs) (object (members_of es))) ≡ true
+unfolding rows_of checked_rows
+tagged_reads T W n cs es s g h = at (choice (tagged n cs) es) refl
+  where
+    at : (o : Option Choice) → choice (tagged n cs) es ≡ o
+        → proper T (tagged n cs) (form T (tagged n cs) (object (members_of es))) ≡ true
+    at None e =
+        absurd (both_ways (object_holds T (tagged n cs) (of_members (root_conforms T) (members_of es)))
+        (object_conforms T (tagged n cs) es ∙ ap (λ o. chosen_holds T (tagged n cs) (judged T es) o) e) h)
+    at (Some c) e =
+        let t = tag_case cs (held n es) c e in
+        let e' : choice (tagged n cs) es ≡ Some (tag t.0) = e ∙ ap (λ d. Some d) t.1 in
+        let a = sound_rows_of T W (tagged n cs) (tag t.0) es s e' in
+        ap (proper T (tagged n cs)) (form-fields T (tagged n cs) (tag t.0) es e')
+        ∙ proper-fields T (tagged n cs) (tag t.0) (each (slot_in T es) (rows_of T (tagged n cs) (tag t.0))) t.2
+        (rows_read_proper T es (rows_of T (tagged n cs) (tag t.0)) a g
+        (all_read T es (rows_of T (tagged n cs) (tag t.0)) a (held_of T (tagged n cs) es (tag t.0) e' h)))
+
+schema_reads : (T : Tables) (W : tables_sound T ≡ true) (es : List (Entry Tree)) → ValuesProper T es
+    → conforms T a_schema (object (members_of es)) ≡ true
+    → proper T a_schema (form T a_schema (object (members_of es))) ≡ true
+unfolding rows_of checked_rows
+schema_reads T W es g h =
+    let s : Sort = sort_of es in
+    let a : Each (λ w. row_sound T w ≡ true) (join (T schema_data) (sort_rows (sort_of es))) =
+    sound_rows_of T W a_schema (sort (sort_of es)) es refl refl in
+    let p = behind T es (T schema_data) (each made_optional any_rows)
+    (held_of T a_schema es (sort (sort_of es)) refl h) in
+    let r : AllRead T es (join (T schema_data) (sort_rows (sort_of es))) =
+    Each-join (λ w. RowReads T (own w es) w) (T schema_data) (sort_rows (sort_of es))
+    (all_read T es (T schema_data) (front (λ w. row_sound T w ≡ true) (T schema_data) (sort_rows (sort_of es)) a)
+    p.0) (sort_reads T (sort_of es) es p.1 refl) in
+    ap (proper T a_schema) (form-fields T a_schema (sort (sort_of es)) es refl)
+    ∙ proper-fields T a_schema (sort (sort_of es))
+    (each (slot_in T es) (join (T schema_data) (sort_rows (sort_of es)))) refl
+    (rows_read_proper T es (join (T schema_data) (sort_rows (sort_of es))) a g r)
+
+kind_reads : (T : Tables) (W : tables_sound T ≡ true) (es : List (Entry Tree)) → ValuesProper T es
+    → conforms T a_schema_kind (object (members_of es)) ≡ true
+    → proper T a_schema_kind (form T a_schema_kind (object (members_of es))) ≡ true
+unfolding rows_of checked_rows
+kind_reads T W es g h =
+    let a : Each (λ w. row_sound T w ≡ true) (sort_rows (sort_of es)) =
+    sound_rows_of T W a_schema_kind (sort (sort_of es)) es refl refl in
+    ap (proper T a_schema_kind) (form-fields T a_schema_kind (sort (sort_of es)) es refl)
+    ∙ proper-fields T a_schema_kind (sort (sort_of es)) (each (slot_in T es) (sort_rows (sort_of es))) refl
+    (rows_read_proper T es (sort_rows (sort_of es)) a g
+    (sort_reads T (sort_of es) es (held_of T a_schema_kind es (sort (sort_of es)) refl h) refl))
+
+-- P of an object made of the list of its members
+pub of_list : (P : Tree → Type 0) (ms : Members) → P (object (members_of (members_list ms))) → P (object ms)
+of_list P ms h = subst (λ x. P (object x)) (members_of-list ms) h
+
+pub from_list : (P : Tree → Type 0) (ms : Members) → P (object ms) → P (object (members_of (members_list ms)))
+from_list P ms h = subst (λ x. P (object x)) (sym (members_of-list ms)) h
+
+list_reads : (T : Tables) (k : Kind) (ts : Items) → sound T k ≡ true → Each (ReadsProper T) (items_list ts)
+    → every (λ (x : Seen (Kind → Bool)). x.answer k) (of_items (root_conforms T) ts) ≡ true
+    → every (λ (p : Held). p.answer (of_kind k))
+    (of_forms (face_proper T)
+    (forms_of (each (λ (x : Seen (Kind → Form)). x.answer k) (of_items (root_form T) ts)))) ≡ true
+list_reads T k no_items s g h = refl
+list_reads T k (item t ts) s g h =
+    let p = and_parts (conforms T k t)
+    (every (λ (x : Seen (Kind → Bool)). x.answer k) (of_items (root_conforms T) ts)) h in
+    and_from (proper T k (form T k t)) _ (g.0 k s p.0) (list_reads T k ts s g.1 p.1)
+
+map_reads : (T : Tables) (k : Kind) (ms : Members) → sound T k ≡ true
+    → Each (λ (e : Entry Tree). ReadsProper T e.value) (members_list ms)
+    → every (λ (e : Entry (Seen (Kind → Bool))). e.value.answer k) (of_members (root_conforms T) ms) ≡ true
+    → every (λ (e : Pair Held). is_name e.key && e.value.answer (of_kind k))
+    (of_named (face_proper T) (named_of (pairs_as name k (of_members (root_form T) ms)))) ≡ true
+map_reads T k no_members s g h = refl
+map_reads T k (member n t ms) s g h =
+    let p = and_parts (conforms T k t)
+    (every (λ (e : Entry (Seen (Kind → Bool))). e.value.answer k) (of_members (root_conforms T) ms)) h in
+    and_from (proper T k (form T k t)) _ (g.0 k s p.0) (map_reads T k ms s g.1 p.1)
+
+format_reads : (T : Tables) (ws : List (List ℕ)) (b : Bool) (u : List ℕ) (c : Bool) → has ws u ≡ c
+    → proper T (format ws b) (cond c (known u) (other u)) ≡ true
+format_reads T ws b u true e = e
+format_reads T ws b u false e = refl
+
+written_code : (c : Code) → writable_code c ≡ true → is_written status_names (coded c) ≡ true
+written_code c h =
+    let p = code_of-text_of c h in
+    and_from (same_key (code_key (text_of c) (code_of (text_of c))) (coded c)) (is_code (code_of (text_of c)))
+    (ap (λ o. same_key (code_key (text_of c) o) (coded c)) p ∙ same_code-refl c) (ap is_code p)
+
+code_reads : (T : Tables) (u : List ℕ) (o : Option Code) → code_of u ≡ o → is_code o ≡ true
+    → proper T status_code (code_form (text u) o) ≡ true
+code_reads T u None e h = cc
+code_reads T u (Some c) e h = written_code c (writable-code_of u c e)
+
+number_reads : (T : Tables) (n : ℕ) (b : Bool) → (nat_le 100 n && nat_le n 999) ≡ b → b ≡ true
+    → proper T status_code (cond b (of_code (code n)) (leaf (whole (pos n)))) ≡ true
+number_reads T n true e h = written_code (code n) e
+number_reads T n false e h = cc
+
+-- a kind under `ref`
+item_reads : (T : Tables) (k : Kind) (t : Tree) → (conforms T k t ≡ true → proper T k (form T k t) ≡ true)
+    → conforms T (ref_to k) t ≡ true → proper T (ref_to k) (form T (ref_to k) t) ≡ true
+item_reads T k null g h = g h
+item_reads T k (flag b) g h = g h
+item_reads T k (whole z) g h = g h
+item_reads T k (text u) g h = g h
+item_reads T k (list ts) g h = g h
+item_reads T k (object ms) g h = at (text_in (held (codes "$ref") (members_list ms))) refl
+  where
+    same : (X : Type 0) (f : Shape (Seen X) → X)
+        → is_reference (an_object (of_members f ms)) ≡ text_in (held (codes "$ref") (members_list ms))
+    same X f = ap (λ l. text_in (held (codes "$ref") l)) (trees_of-members f ms)
+
+    at : (r : Option (List ℕ)) → text_in (held (codes "$ref") (members_list ms)) ≡ r
+        → proper T (ref_to k) (form T (ref_to k) (object ms)) ≡ true
+    at None e =
+        ap (λ r. proper T (ref_to k) (reference_or_item r (form T k (object ms))))
+        (same (Kind → Form) (root_form T) ∙ e)
+        ∙ g (sym (ap (λ r. reference_or r (conforms T k (object ms))) (same (Kind → Bool) (root_conforms T) ∙ e)) ∙ h)
+    at (Some u) e = ap (λ r. proper T (ref_to k) (reference_or_item r (form T k (object ms))))
+        (same (Kind → Form) (root_form T) ∙ e)
+
+step : (T : Tables) (W : tables_sound T ≡ true) (t : Tree) → Inside (ReadsProper T) t → ReadsProper T t
+step T W t g any_tree s h = any_reads T t
+  where
+    any_reads : (T : Tables) (t : Tree) → proper T any_tree (form T any_tree t) ≡ true
+    any_reads T null = refl
+    any_reads T (flag b) = refl
+    any_reads T (whole z) = refl
+    any_reads T (text u) = refl
+    any_reads T (list ts) = refl
+    any_reads T (object ms) = refl
+step T W t g (ref_to k) s h = item_reads T k t (λ x. step T W t g k (and_parts (under_ref T k) (sound T k) s).1 x) h
+step T W (text u) g any_text s h = refl
+step T W (flag b) g any_flag s h = refl
+step T W (whole z) g (number w) s h = h
+step T W (text u) g (one_of ws) s h = h
+step T W (text u) g (format ws b) s h = format_reads T ws b u (has ws u) refl
+step T W null g (format ws b) s h = h
+step T W null g (null_or any_text) s h = refl
+step T W null g (null_or any_flag) s h = refl
+step T W null g (null_or (number w)) s h = refl
+step T W (text u) g (null_or any_text) s h = refl
+step T W (flag b) g (null_or any_flag) s h = refl
+step T W (whole z) g (null_or (number w)) s h = h
+step T W (list ts) g (list_of k) s h = list_reads T k ts s g h
+step T W (object ms) g (map_of k) s h = map_reads T k ms s g h
+step T W (object ms) g (by i) s h =
+    of_list (λ t. proper T (by i) (form T (by i) t) ≡ true) ms
+    (table_reads T W i (members_list ms) g (from_list (λ t. conforms T (by i) t ≡ true) ms h))
+step T W (object ms) g (tagged n cs) s h =
+    of_list (λ t. proper T (tagged n cs) (form T (tagged n cs) t) ≡ true) ms
+    (tagged_reads T W n cs (members_list ms) s g (from_list (λ t. conforms T (tagged n cs) t ≡ true) ms h))
+step T W (object ms) g a_schema s h =
+    of_list (λ t. proper T a_schema (form T a_schema t) ≡ true) ms
+    (schema_reads T W (members_list ms) g (from_list (λ t. conforms T a_schema t ≡ true) ms h))
+step T W (object ms) g a_schema_kind s h =
+    of_list (λ t. proper T a_schema_kind (form T a_schema_kind t) ≡ true) ms
+    (kind_reads T W (members_list ms) g (from_list (λ t. conforms T a_schema_kind t ≡ true) ms h))
+step T W (flag b) g flag_or_schema s h = refl
+step T W (object ms) g flag_or_schema s h =
+    flag_reads (form T (ref_to a_schema) (object ms))
+    (item_reads T a_schema (object ms)
+    (λ x. of_list (λ t. proper T a_schema (form T a_schema t) ≡ true) ms
+    (schema_reads T W (members_list ms) g (from_list (λ t. conforms T a_schema t ≡ true) ms x))) h)
+  where
+    flag_reads : (f : Form) → proper T (ref_to a_schema) f ≡ true → proper T flag_or_schema f ≡ true
+    flag_reads (reference u) h = refl
+    flag_reads (an_item f) h = h
+    flag_reads (leaf null) h = cc
+    flag_reads (leaf (flag b)) h = refl
+    flag_reads (leaf t) h = cc
+    flag_reads f h = cc
+step T W (text u) g status_code s h = code_reads T u (code_of u) refl h
+step T W (whole (pos n)) g status_code s h = number_reads T n (nat_le 100 n && nat_le n 999) refl h
+step T W null g k s h = cc
+step T W (flag b) g k s h = cc
+step T W (whole z) g k s h = cc
+step T W (text u) g k s h = cc
+step T W (list ts) g (null_or any_text) s h = cc
+step T W (list ts) g (null_or any_flag) s h = cc
+step T W (list ts) g (null_or (number w)) s h = cc
+step T W (list ts) g k s h = cc
+step T W (object ms) g (null_or any_text) s h = cc
+step T W (object ms) g (null_or any_flag) s h = cc
+step T W (object ms) g (null_or (number w)) s h = cc
+step T W (object ms) g k s h = cc
+
+-- what is read of a tree that conforms is proper
+pub read_proper : (T : Tables) (W : tables_sound T ≡ true) (t : Tree) → ReadsProper T t
+read_proper T W t = by_trees (ReadsProper T) (step T W) t

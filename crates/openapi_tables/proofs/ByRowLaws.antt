@@ -1,0 +1,387 @@
+-- What a row reads, asks and may look at, by the member of its name.
+pub use Rattle.openapi_tables.proofs.KindsHold.{any_conforms}
+pub use Rattle.openapi_tables.proofs.WeightLaws.{rows_weight-le, table_weight-le}
+use Rattle.openapi_tables.proofs.ListLaws.{every_behind}
+use Rattle.std.proofs.Common.{ℕ, ◌≤◌, ◌==◌, Bool, true, false, cond, ◌&&◌, ◌||◌, List, [], ◌∷◌}
+use Rattle.std.proofs.Common.{Some, None, ◌≡◌, refl, sym, ap, ◌∙◌, subst, arith, inl, inr, bytes_eq, true≢false}
+use Rattle.std.proofs.lemmas.Bool.{and_parts}
+use Rattle.openapi_node.specs.Place.{Step, Place, named}
+use Rattle.openapi_node.specs.Tree.{Tree, null, flag, whole, text, list, object, Members, no_members, member}
+use Rattle.openapi_node.specs.Tree.{size_of, find}
+use Rattle.openapi_tables.specs.Lists.{each, join, flat, every, same_text}
+use Rattle.openapi_tables.specs.Tree.{Entry, on_entry, Seen, Shape, a_null, a_flag, a_whole, a_text, a_list, an_object}
+use Rattle.openapi_tables.specs.Tree.{of_members, members_list}
+use Rattle.openapi_tables.specs.Kind.{Kind, any_text, any_flag, number, any_tree, one_of, format, null_or, list_of}
+use Rattle.openapi_tables.specs.Kind.{map_of, by, tagged, ref_to, flag_or_schema, a_schema, a_schema_kind, status_code}
+use Rattle.openapi_tables.specs.Kind.{Mode, required, Row, row, takes, Tables}
+use Rattle.openapi_tables.specs.Kind.{TableName, schema_data}
+use Rattle.openapi_tables.specs.Tables.{any_rows}
+use Rattle.openapi_tables.specs.Members.{is_null, own, plain, rows_of, checked_rows, made_optional}
+use Rattle.openapi_tables.specs.Conforms.{root_conforms, row_holds, name_holds, conforms, may_miss, skips_null}
+use Rattle.openapi_tables.specs.Form.{Form, fields, forms_of, leaf}
+use Rattle.openapi_tables.specs.Read.{root_form, slot, name_slot, form, default_of}
+use Rattle.openapi_tables.specs.Sound.{rows_apart, row_sound, mode_fits, refuses_null, never_misses, sound}
+use Rattle.openapi_tables.specs.Sound.{tables_sound, schema_rows}
+use Rattle.openapi_tables.specs.Faults.{Asking, Cause, missing, Asks, asked, causes, here, root_asks, below, asks_own}
+use Rattle.openapi_tables.specs.Faults.{asks_row, asks_rows, misses, row_misses}
+use Rattle.openapi_tables.specs.Laws.{Among}
+use Rattle.openapi_tables.specs.ByRow.{is_named, row_where, rows_asked, row_conforms, row_form, AreRows}
+use Rattle.openapi_tables.specs.ByRow.{weight, row_weight, asking, Broken, StepsTo}
+use Rattle.openapi_tables.proofs.ListLaws.{Each, every_each, only-each, same_text_eq}
+use Rattle.openapi_tables.proofs.TreeLaws.{see, seen_root, of_tree_lem, of_members_lem, tree_of_root-seen}
+use Rattle.openapi_tables.proofs.ObjectBack.{checked, table_sound}
+use Rattle.openapi_tables.proofs.FaultFound.{faults}
+
+pub same_bytes : (a b : List ℕ) → same_text a b ≡ bytes_eq a b
+same_bytes [] [] = refl
+same_bytes [] (y ∷ b) = refl
+same_bytes (x ∷ a) [] = refl
+same_bytes (x ∷ a) (y ∷ b) = ap (λ t. (x == y) && t) (same_bytes a b)
+
+-- a name with what stands under it
+abbrev pub entry : {X : Type 0} → List ℕ → X → Entry X
+entry n x = record { name = n; value = x }
+
+-- the member of a name is the first that its row takes
+pub record Found (n : List ℕ) (t : Tree) (es : List (Entry Tree)) : Type 0 where
+  pub rest : List (Entry Tree)
+  pub is : es ≡ entry n t ∷ rest
+
+module _ (n : List ℕ) (m : Mode) (k : Kind) where
+  -- what the row takes of members
+  abbrev taken : Members → List (Entry Tree)
+  taken ms = own (row n m k) (members_list ms)
+
+  pub own-found : (ms : Members) (t : Tree) → find n ms ≡ Some t
+      → Found n t (own (row n m k) (members_list ms))
+  own-found no_members t e = cc
+  own-found (member a u ms) t e = go (λ q. own-found ms t q) (bytes_eq n a) refl e
+    where
+      go : (find n ms ≡ Some t → Found n t (taken ms)) → (b : Bool) → bytes_eq n a ≡ b
+          → cond b (Some u) (find n ms) ≡ Some t → Found n t (taken (member a u ms))
+      go more true p q =
+          let s : same_text n a ≡ true = same_bytes n a ∙ p in
+          let here : n ≡ a = same_text_eq n a s in
+          let there : u ≡ t = cc in
+          record {
+            rest = taken ms;
+            is = ap (λ b. cond b (entry a u ∷ taken ms) (taken ms)) s
+                ∙ (λ i. entry (sym here i) (there i) ∷ taken ms);
+          }
+      go more false p q =
+          let s : same_text n a ≡ false = same_bytes n a ∙ p in
+          let r = more q in
+          record {
+            rest = r.rest;
+            is = ap (λ b. cond b (entry a u ∷ taken ms) (taken ms)) s ∙ r.is;
+          }
+
+  pub own-missing : (ms : Members) → find n ms ≡ None → own (row n m k) (members_list ms) ≡ []
+  own-missing no_members e = refl
+  own-missing (member a u ms) e = go (λ q. own-missing ms q) (bytes_eq n a) refl e
+    where
+      go : (find n ms ≡ None → taken ms ≡ []) → (b : Bool) → bytes_eq n a ≡ b
+          → cond b (Some u) (find n ms) ≡ None → taken (member a u ms) ≡ []
+      go more true p q = cc
+      go more false p q = ap (λ b. cond b (entry a u ∷ taken ms) (taken ms)) (same_bytes n a ∙ p) ∙ more q
+
+-- what a row takes, seen by what a function gives
+pub own-members : {X : Type 0} → (f : Shape (Seen X) → X) (w : Row) (ms : Members)
+    → own w (of_members f ms) ≡ each (on_entry (see f)) (own w (members_list ms))
+own-members f w ms =
+    ap (λ l. own w l) (of_members_lem f ms) ∙ only-each (λ e. takes w e.name) (on_entry (see f)) (members_list ms)
+
+-- the row of a name, where the member is there and where it is missing
+module _ (T : Tables) (n : List ℕ) (m : Mode) (k : Kind) (ms : Members) where
+  module _ (t : Tree) (there : find n ms ≡ Some t) where
+    seen-found : {X : Type 0} → (f : Shape (Seen X) → X) → own (row n m k) (of_members f ms)
+        ≡ on_entry (see f) (entry n t) ∷ each (on_entry (see f)) (own-found n m k ms t there).rest
+    seen-found f =
+        own-members f (row n m k) ms ∙ ap (λ l. each (on_entry (see f)) l) (own-found n m k ms t there).is
+
+    pub conforms-found : row_conforms T (row n m k) ms ≡ (skips_null m && is_null t || conforms T k t)
+    unfolding row_conforms
+    conforms-found = ap (λ l. name_holds m k l) (seen-found (root_conforms T))
+
+    pub form-found : row_form T (row n m k) ms ≡ cond (is_null t) (default_of m k) (form T k t)
+    unfolding row_form
+    form-found = ap (λ l. name_slot m k l) (seen-found (root_form T))
+
+    pub weight-found : size_of t ≤ row_weight (row n m k) ms
+    unfolding row_weight
+    weight-found = subst (λ l. size_of t ≤ weight l) (sym (own-found n m k ms t there).is) (omega arith)
+
+  module _ (none : find n ms ≡ None) where
+    seen-missing : {X : Type 0} → (f : Shape (Seen X) → X) → own (row n m k) (of_members f ms) ≡ []
+    seen-missing f =
+        own-members f (row n m k) ms ∙ ap (λ l. each (on_entry (see f)) l) (own-missing n m k ms none)
+
+    pub conforms-missing : row_conforms T (row n m k) ms ≡ may_miss m
+    unfolding row_conforms
+    conforms-missing = ap (λ l. name_holds m k l) (seen-missing (root_conforms T))
+
+    pub form-missing : row_form T (row n m k) ms ≡ default_of m k
+    unfolding row_form
+    form-missing = ap (λ l. name_slot m k l) (seen-missing (root_form T))
+
+-- membership
+pub among_left : {A : Type 0} → (x : A) (xs ys : List A) → Among x xs → Among x (join xs ys)
+among_left x [] ys h = absurd h
+among_left x (y ∷ xs) ys (inl e) = inl e
+among_left x (y ∷ xs) ys (inr h) = inr (among_left x xs ys h)
+
+pub among_right : {A : Type 0} → (x : A) (xs ys : List A) → Among x ys → Among x (join xs ys)
+among_right x [] ys h = h
+among_right x (y ∷ xs) ys h = inr (among_right x xs ys h)
+
+pub among_below : (s : Step) (p : Place) (j : Kind) (v : Tree) (as' : List Asking)
+    → Among (asking p j v) as' → Among (asking (s ∷ p) j v) (below s as')
+among_below s p j v [] h = absurd h
+among_below s p j v (a ∷ as') (inl e) = inl (ap (λ (b : Asking). asking (s ∷ b.place) b.kind b.tree) e)
+among_below s p j v (a ∷ as') (inr h) = inr (among_below s p j v as' h)
+
+-- what a row of a list gives is among what all give
+pub among_flat : {A : Type 0} → (x : A) (f : Row → List A) (q : Row → Bool) (w : Row) (ws : List Row)
+    → row_where q ws ≡ Some w → Among x (f w) → Among x (flat (each f ws))
+among_flat x f q w [] e h = cc
+among_flat x f q w (v ∷ ws) e h = go (λ p. among_flat x f q w ws p h) (q v) e
+  where
+    go : (row_where q ws ≡ Some w → Among x (flat (each f ws))) → (b : Bool)
+        → cond b (Some v) (row_where q ws) ≡ Some w → Among x (join (f v) (flat (each f ws)))
+    go more true p =
+        let s : w ≡ v = cc in
+        among_left x (f v) (flat (each f ws)) (subst (λ u. Among x (f u)) s h)
+    go more false p = among_right x (f v) (flat (each f ws)) (more p)
+
+-- a row that passes a test is one of the rows
+pub where_each : (P : Row → Type 0) (q : Row → Bool) (ws : List Row) (w : Row)
+    → Each P ws → row_where q ws ≡ Some w → P w
+where_each P q [] w h e = cc
+where_each P q (v ∷ ws) w h e = go (λ p. where_each P q ws w h.1 p) (q v) e
+  where
+    go : (row_where q ws ≡ Some w → P w) → (b : Bool) → cond b (Some v) (row_where q ws) ≡ Some w → P w
+    go more true p = let s : v ≡ w = cc in subst P s h.0
+    go more false p = more p
+
+-- a kind is asked of the root that it is asked of
+head_asked : (T : Tables) (s : Shape Asks) (k : Kind) → Among (here k s) (root_asks T s k)
+head_asked T s any_text = inl refl
+head_asked T s any_flag = inl refl
+head_asked T s (number w) = inl refl
+head_asked T s any_tree = inl refl
+head_asked T s (one_of ws) = inl refl
+head_asked T s (format ws b) = inl refl
+head_asked T s (null_or k) = inl refl
+head_asked T s (ref_to k) = inl refl
+head_asked T s status_code = inl refl
+head_asked T a_null (list_of k) = inl refl
+head_asked T (a_flag b) (list_of k) = inl refl
+head_asked T (a_whole z) (list_of k) = inl refl
+head_asked T (a_text s) (list_of k) = inl refl
+head_asked T (a_list xs) (list_of k) = inl refl
+head_asked T (an_object es) (list_of k) = inl refl
+head_asked T a_null (map_of k) = inl refl
+head_asked T (a_flag b) (map_of k) = inl refl
+head_asked T (a_whole z) (map_of k) = inl refl
+head_asked T (a_text s) (map_of k) = inl refl
+head_asked T (a_list xs) (map_of k) = inl refl
+head_asked T (an_object es) (map_of k) = inl refl
+head_asked T a_null (by i) = inl refl
+head_asked T (a_flag b) (by i) = inl refl
+head_asked T (a_whole z) (by i) = inl refl
+head_asked T (a_text s) (by i) = inl refl
+head_asked T (a_list xs) (by i) = inl refl
+head_asked T (an_object es) (by i) = inl refl
+head_asked T a_null (tagged n cs) = inl refl
+head_asked T (a_flag b) (tagged n cs) = inl refl
+head_asked T (a_whole z) (tagged n cs) = inl refl
+head_asked T (a_text s) (tagged n cs) = inl refl
+head_asked T (a_list xs) (tagged n cs) = inl refl
+head_asked T (an_object es) (tagged n cs) = inl refl
+head_asked T a_null flag_or_schema = inl refl
+head_asked T (a_flag b) flag_or_schema = inl refl
+head_asked T (a_whole z) flag_or_schema = inl refl
+head_asked T (a_text s) flag_or_schema = inl refl
+head_asked T (a_list xs) flag_or_schema = inl refl
+head_asked T (an_object es) flag_or_schema = inl refl
+head_asked T a_null a_schema = inl refl
+head_asked T (a_flag b) a_schema = inl refl
+head_asked T (a_whole z) a_schema = inl refl
+head_asked T (a_text s) a_schema = inl refl
+head_asked T (a_list xs) a_schema = inl refl
+head_asked T (an_object es) a_schema = inl refl
+head_asked T a_null a_schema_kind = inl refl
+head_asked T (a_flag b) a_schema_kind = inl refl
+head_asked T (a_whole z) a_schema_kind = inl refl
+head_asked T (a_text s) a_schema_kind = inl refl
+head_asked T (a_list xs) a_schema_kind = inl refl
+head_asked T (an_object es) a_schema_kind = inl refl
+
+pub root_asked : (T : Tables) (k : Kind) (t : Tree) → Among (asking [] k t) (asked T k t)
+root_asked T k t =
+    let s : Shape Asks = seen_root (root_asks T) t in
+    let one : here k s ≡ asking [] k t = ap (λ u. asking [] k u) (tree_of_root-seen (root_asks T) t) in
+    let all : root_asks T s k ≡ asked T k t =
+    sym (ap (λ (f : Kind → List Asking). f k) (of_tree_lem (root_asks T) t)) in
+    subst (λ a. Among a (asked T k t)) one (subst (λ l. Among (here k s) l) all (head_asked T s k))
+
+-- a cause that is broken by the root itself
+pub broken_root : (T : Tables) (k : Kind) (t : Tree) (c : Cause) → Among c (causes T k t) → Broken T k t [] c
+broken_root T k t c h = record { kind = k; tree = t; is_asked = root_asked T k t; breaks = h }
+
+pub broken_below : (T : Tables) (k l : Kind) (t u : Tree) (s : Step) (p : Place) (c : Cause)
+    → StepsTo T k t s l u → Broken T l u p c → Broken T k t (s ∷ p) c
+broken_below T k l t u s p c h b =
+    record { kind = b.kind; tree = b.tree; is_asked = h p b.kind b.tree b.is_asked; breaks = b.breaks }
+
+-- where something is broken, the tree does not conform
+pub broken_refuses : (T : Tables) (W : tables_sound T ≡ true) (k : Kind) (t : Tree) (p : Place) (c : Cause)
+    → sound T k ≡ true → Broken T k t p c → conforms T k t ≡ false
+broken_refuses T W k t p c s b = (faults T k t W s).0 (asking p b.kind b.tree) c b.is_asked b.breaks
+
+-- what the rows of an object kind ask of the members is asked of the object
+pub rows_ask : (T : Tables) (k : Kind) (ms : Members) (a : Asking)
+    → Among a (asks_rows (of_members (root_asks T) ms) (rows_asked T k)) → Among a (asked T k (object ms))
+unfolding checked_rows
+rows_ask T (by i) ms a h = inr h
+rows_ask T a_schema ms a h = inr h
+rows_ask T a_schema_kind ms a h = inr h
+rows_ask T any_text ms a h = absurd h
+rows_ask T any_flag ms a h = absurd h
+rows_ask T (number w) ms a h = absurd h
+rows_ask T any_tree ms a h = absurd h
+rows_ask T (one_of ws) ms a h = absurd h
+rows_ask T (format ws b) ms a h = absurd h
+rows_ask T (null_or k) ms a h = absurd h
+rows_ask T (list_of k) ms a h = absurd h
+rows_ask T (map_of k) ms a h = absurd h
+rows_ask T (tagged n cs) ms a h = absurd h
+rows_ask T (ref_to k) ms a h = absurd h
+rows_ask T flag_or_schema ms a h = absurd h
+rows_ask T status_code ms a h = absurd h
+
+-- the member of a row is asked the row's kind
+pub row_asks : (T : Tables) (o : Kind) (n : List ℕ) (m : Mode) (k : Kind) (ms : Members) (t : Tree)
+    → row_where (is_named n) (rows_asked T o) ≡ Some (row n m k) → find n ms ≡ Some t
+    → (skips_null m && is_null t) ≡ false → StepsTo T o (object ms) (named n) k t
+row_asks T o n m k ms t e there skip p j v h =
+    let w = row n m k in
+    let es = of_members (root_asks T) ms in
+    let one : asks_row es w ≡ below (named n) (asked T k t) =
+    ap (λ l. asks_own w l) (seen-found T n m k ms t there (root_asks T))
+    ∙ ap (λ b. cond b [] (below (named n) (asked T k t))) skip in
+    rows_ask T o ms (asking (named n ∷ p) j v)
+    (among_flat (asking (named n ∷ p) j v) (asks_row es) (is_named n) w (rows_asked T o) e
+    (subst (λ l. Among (asking (named n ∷ p) j v) l) (sym one) (among_below (named n) p j v (asked T k t) h)))
+
+pub asked_sound : (T : Tables) (W : tables_sound T ≡ true) (o : Kind)
+    → Each (λ w. row_sound T w ≡ true) (rows_asked T o)
+unfolding checked_rows
+asked_sound T W (by i) =
+    every_each (row_sound T) (T i) (and_parts (rows_apart (T i)) (every (row_sound T) (T i)) (table_sound T W i)).1
+asked_sound T W a_schema = every_each (row_sound T) (schema_rows T) (checked T W).4
+asked_sound T W a_schema_kind =
+    every_each (row_sound T) (each made_optional any_rows)
+    (every_behind (row_sound T) (T schema_data) (each made_optional any_rows) (checked T W).4)
+asked_sound T W any_text = tt
+asked_sound T W any_flag = tt
+asked_sound T W (number w) = tt
+asked_sound T W any_tree = tt
+asked_sound T W (one_of ws) = tt
+asked_sound T W (format ws b) = tt
+asked_sound T W (null_or k) = tt
+asked_sound T W (list_of k) = tt
+asked_sound T W (map_of k) = tt
+asked_sound T W (tagged n cs) = tt
+asked_sound T W (ref_to k) = tt
+asked_sound T W flag_or_schema = tt
+asked_sound T W status_code = tt
+
+-- a row that has to be there takes no null
+pub required_refuses : (T : Tables) (W : tables_sound T ≡ true) (o : Kind) (n : List ℕ) (k : Kind)
+    → row_where (is_named n) (rows_asked T o) ≡ Some (row n required k) → refuses_null k ≡ true
+required_refuses T W o n k e =
+    let s : row_sound T (row n required k) ≡ true =
+    where_each (λ w. row_sound T w ≡ true) (is_named n) (rows_asked T o) (row n required k) (asked_sound T W o) e in
+    (and_parts (mode_fits required k) (sound T k) s).0
+
+-- a row that has to be there is one of a table, and the object misses it
+schema_misses_none : (T : Tables) (q : Row → Bool) (n : List ℕ) (k : Kind) (ws : List Row)
+    → every never_misses ws ≡ true → row_where q ws ≡ Some (row n required k) → ⊥
+schema_misses_none T q n k ws h e =
+    true≢false (sym (where_each (λ w. never_misses w ≡ true) q ws (row n required k) (every_each never_misses ws h) e))
+
+pub row_missing : (T : Tables) (W : tables_sound T ≡ true) (o : Kind) (n : List ℕ) (k : Kind) (ms : Members)
+    → row_where (is_named n) (rows_asked T o) ≡ Some (row n required k) → find n ms ≡ None
+    → Broken T o (object ms) [] (missing n)
+unfolding checked_rows
+row_missing T W (by i) n k ms e none =
+    broken_root T (by i) (object ms) (missing n)
+    (among_flat (missing n) (row_misses (members_list ms)) (is_named n) (row n required k) (T i) e
+    (subst (λ l. Among (missing n) (misses (row n required k) l)) (sym (own-missing n required k ms none))
+    (inl refl)))
+row_missing T W a_schema n k ms e none =
+    absurd (schema_misses_none T (is_named n) n k (schema_rows T) (checked T W).5 e)
+row_missing T W a_schema_kind n k ms e none =
+    absurd (schema_misses_none T (is_named n) n k (each made_optional any_rows)
+    (every_behind never_misses (T schema_data) (each made_optional any_rows) (checked T W).5) e)
+row_missing T W any_text n k ms e none = cc
+row_missing T W any_flag n k ms e none = cc
+row_missing T W (number w) n k ms e none = cc
+row_missing T W any_tree n k ms e none = cc
+row_missing T W (one_of ws) n k ms e none = cc
+row_missing T W (format ws b) n k ms e none = cc
+row_missing T W (null_or l) n k ms e none = cc
+row_missing T W (list_of l) n k ms e none = cc
+row_missing T W (map_of l) n k ms e none = cc
+row_missing T W (tagged m cs) n k ms e none = cc
+row_missing T W (ref_to l) n k ms e none = cc
+row_missing T W flag_or_schema n k ms e none = cc
+row_missing T W status_code n k ms e none = cc
+
+-- what the rows give is what the object gives
+pub rows_hold : (T : Tables) (ws : List Row) (fs : List Form) (ms : Members) → AreRows T ws fs ms
+    → (every (row_holds (of_members (root_conforms T) ms)) ws ≡ true)
+    × (each (slot (of_members (root_form T) ms)) ws ≡ fs)
+unfolding row_conforms row_form
+rows_hold T [] [] ms h = (refl, refl)
+rows_hold T [] (f ∷ fs) ms h = absurd h
+rows_hold T (w ∷ ws) [] ms h = absurd h
+rows_hold T (w ∷ ws) (f ∷ fs) ms h =
+    let r = rows_hold T ws fs ms h.1 in
+    ((λ i. h.0.0 i && r.0 i), (λ i. h.0.1 i ∷ r.1 i))
+
+pub object_gives : (T : Tables) (i : TableName) (fs : List Form) (ms : Members) → AreRows T (T i) fs ms
+    → (conforms T (by i) (object ms) ≡ true) × (form T (by i) (object ms) ≡ fields plain (forms_of fs))
+unfolding checked_rows rows_of
+object_gives T i fs ms h =
+    let r = rows_hold T (T i) fs ms h in
+    (r.0, ap (λ l. fields plain (forms_of l)) r.1)
+
+pub any_form : (T : Tables) (t : Tree) → form T any_tree t ≡ leaf t
+any_form T null = refl
+any_form T (flag b) = refl
+any_form T (whole z) = refl
+any_form T (text s) = refl
+any_form T (list ts) = ap leaf (tree_of_root-seen (root_form T) (list ts))
+any_form T (object ms) = ap leaf (tree_of_root-seen (root_form T) (object ms))
+
+-- null does not conform to a kind that refuses it
+pub null_refused : (T : Tables) (k : Kind) → refuses_null k ≡ true → conforms T k null ≡ false
+null_refused T any_text h = refl
+null_refused T any_flag h = refl
+null_refused T (number w) h = refl
+null_refused T any_tree h = cc
+null_refused T (one_of ws) h = refl
+null_refused T (format ws true) h = cc
+null_refused T (format ws false) h = refl
+null_refused T (null_or k) h = cc
+null_refused T (list_of k) h = refl
+null_refused T (map_of k) h = refl
+null_refused T (by i) h = refl
+null_refused T (tagged n cs) h = refl
+null_refused T (ref_to k) h = null_refused T k h
+null_refused T flag_or_schema h = refl
+null_refused T a_schema h = refl
+null_refused T a_schema_kind h = refl
+null_refused T status_code h = refl

@@ -1,0 +1,213 @@
+-- Distinct names and keys, as facts on each pair of entries.
+use Rattle.std.proofs.Common.{Bool, true, false, not, List, [], ◌∷◌, ◌≡◌, refl, ap, ◌∙◌, subst, cond, sym}
+use Rattle.std.proofs.lemmas.Bool.{and_parts, and_from, not-true, both_ways}
+use Rattle.openapi_tables.specs.Lists.{each, only, every, same_text}
+use Rattle.openapi_node.specs.Tree.{Tree, list, object, Items, no_items, item, items_of}
+use Rattle.openapi_tables.specs.Tree.{Entry, on_entry, Seen, items_list, members_of, an_object}
+use Rattle.openapi_tables.specs.Kind.{Class}
+use Rattle.openapi_tables.specs.Form.{no_forms, Form, sequence, named, fields, forms_of, named_of, Key, name, coded}
+use Rattle.openapi_tables.specs.Form.{Pair, Shown, Forms, Named, f_named, named_list, of_forms, forms_list, more}
+use Rattle.openapi_tables.specs.Members.{Choice}
+use Rattle.openapi_tables.specs.Read.{same_key, key_in}
+use Rattle.openapi_tables.specs.Print.{text_of_key}
+use Rattle.openapi_tables.specs.Proper.{is_written}
+use Rattle.openapi_tables.specs.Distinct.{names_differ, root_well_named, well_named, keys_differ, face_distinct}
+use Rattle.openapi_tables.specs.Distinct.{distinct}
+use Rattle.openapi_tables.proofs.ListLaws.{Each, every_each, every_from, Each_within-only, same_text_eq, each_under}
+use Rattle.openapi_tables.proofs.TreeLaws.{see, of_members-of}
+use Rattle.openapi_tables.proofs.FormLaws.{show, on_pair, of_forms-of, of_named-of, of_named_lem}
+use Rattle.openapi_tables.proofs.KeyLaws.{Distinct}
+use Rattle.openapi_tables.proofs.RowLaws.{not_both}
+use Rattle.openapi_tables.proofs.CodeLaws.{same_code_eq}
+use Rattle.openapi_tables.proofs.ReadProper.{same_key-refl}
+
+-- no two entries of a list have the same name
+abbrev pub Differ : {X : Type 0} → List (Entry X) → Type 0
+Differ [] = Unit {0}
+Differ {X} (e ∷ es) = Each (λ (d : Entry X). same_text e.name d.name ≡ false) es × Differ es
+
+not_false : (b : Bool) → b ≡ false → not b ≡ true
+not_false b h = ap not h
+
+every_not : {A : Type 0} → (p : A → Bool) (xs : List A) → every (λ x. not (p x)) xs ≡ true → Each (λ x. p x ≡ false) xs
+every_not p xs h = each_under (λ x (e : not (p x) ≡ true). not-true (p x) e) xs (every_each (λ x. not (p x)) xs h)
+
+not_every : {A : Type 0} → (p : A → Bool) (xs : List A) → Each (λ x. p x ≡ false) xs → every (λ x. not (p x)) xs ≡ true
+not_every p xs h = every_from (λ x. not (p x)) xs (each_under (λ x (e : p x ≡ false). not_false (p x) e) xs h)
+
+pub of_names_differ : {X : Type 0} → (es : List (Entry X)) → names_differ es ≡ true → Differ es
+of_names_differ [] h = tt
+of_names_differ {X} (e ∷ es) h =
+    let p = and_parts _ (names_differ es) h in
+    (every_not (λ (d : Entry X). same_text e.name d.name) es p.0, of_names_differ es p.1)
+
+pub to_names_differ : {X : Type 0} → (es : List (Entry X)) → Differ es → names_differ es ≡ true
+to_names_differ [] h = refl
+to_names_differ {X} (e ∷ es) h =
+    and_from _ (names_differ es) (not_every (λ (d : Entry X). same_text e.name d.name) es h.0) (to_names_differ es h.1)
+
+pub of_keys_differ : {X : Type 0} → (es : List (Pair X)) → keys_differ es ≡ true → Distinct es
+of_keys_differ [] h = tt
+of_keys_differ {X} (e ∷ es) h =
+    let p = and_parts _ (keys_differ es) h in
+    (every_not (λ (d : Pair X). same_key e.key d.key) es p.0, of_keys_differ es p.1)
+
+pub to_keys_differ : {X : Type 0} → (es : List (Pair X)) → Distinct es → keys_differ es ≡ true
+to_keys_differ [] h = refl
+to_keys_differ {X} (e ∷ es) h = and_from _ (keys_differ es) (not_every (λ (d : Pair X). same_key e.key d.key) es h.0)
+    (to_keys_differ es h.1)
+
+-- members of which some are left out
+only_differ : {X : Type 0} → (p : Entry X → Bool) (b : Bool) (e : Entry X) (es : List (Entry X))
+    → Each (λ (d : Entry X). same_text e.name d.name ≡ false) es
+    → Differ (only p es) → Differ (cond b (e ∷ only p es) (only p es))
+only_differ {X} p true e es h g = (Each_within-only (λ (d : Entry X). same_text e.name d.name ≡ false) p es h, g)
+only_differ p false e es h g = g
+
+pub Differ-only : {X : Type 0} → (p : Entry X → Bool) (es : List (Entry X)) → Differ es → Differ (only p es)
+Differ-only p [] h = tt
+Differ-only p (e ∷ es) h = only_differ p (p e) e es h.0 (Differ-only p es h.1)
+
+-- names and values side by side
+on_entry_differ : {X Y : Type 0} → (f : X → Y) (es : List (Entry X)) → Differ es → Differ (each (on_entry f) es)
+on_entry_differ f [] h = tt
+on_entry_differ {X} {Y} f (e ∷ es) h = (apart es h.0, on_entry_differ f es h.1)
+  where
+    apart : (ds : List (Entry X)) → Each (λ (d : Entry X). same_text e.name d.name ≡ false) ds
+        → Each (λ (d : Entry Y). same_text e.name d.name ≡ false) (each (on_entry f) ds)
+    apart [] g = tt
+    apart (d ∷ ds) g = (g.0, apart ds g.1)
+
+off_entry_differ : {X Y : Type 0} → (f : X → Y) (es : List (Entry X)) → Differ (each (on_entry f) es) → Differ es
+off_entry_differ f [] h = tt
+off_entry_differ {X} {Y} f (e ∷ es) h = (apart es h.0, off_entry_differ f es h.1)
+  where
+    apart : (ds : List (Entry X)) → Each (λ (d : Entry Y). same_text e.name d.name ≡ false) (each (on_entry f) ds)
+        → Each (λ (d : Entry X). same_text e.name d.name ≡ false) ds
+    apart [] g = tt
+    apart (d ∷ ds) g = (g.0, apart ds g.1)
+
+-- an object whose members have distinct names, and are well named
+abbrev pub WellNamed : List (Entry Tree) → Type 0
+WellNamed es = Differ es × Each (λ (e : Entry Tree). well_named e.value ≡ true) es
+
+values_named : (es : List (Entry Tree))
+    → every (λ (e : Entry (Seen Bool)). e.value.answer) (each (on_entry (see root_well_named)) es) ≡ true
+    → Each (λ (e : Entry Tree). well_named e.value ≡ true) es
+values_named [] h = tt
+values_named (e ∷ es) h = let p = and_parts (well_named e.value) _ h in (p.0, values_named es p.1)
+
+named_values : (es : List (Entry Tree)) → Each (λ (e : Entry Tree). well_named e.value ≡ true) es
+    → every (λ (e : Entry (Seen Bool)). e.value.answer) (each (on_entry (see root_well_named)) es) ≡ true
+named_values [] h = refl
+named_values (e ∷ es) h = and_from (well_named e.value) _ h.0 (named_values es h.1)
+
+pub of_object : (es : List (Entry Tree)) → well_named (object (members_of es)) ≡ true → WellNamed es
+of_object es h =
+    let p = and_parts _ _ (subst (λ l. root_well_named (an_object l) ≡ true) (of_members-of root_well_named es) h) in (
+      off_entry_differ (see root_well_named) es (of_names_differ (each (on_entry (see root_well_named)) es) p.0),
+      values_named es p.1,
+    )
+
+pub to_object : (es : List (Entry Tree)) → WellNamed es → well_named (object (members_of es)) ≡ true
+to_object es h =
+    subst (λ l. root_well_named (an_object l) ≡ true) (sym (of_members-of root_well_named es))
+    (and_from _ _
+    (to_names_differ (each (on_entry (see root_well_named)) es) (on_entry_differ (see root_well_named) es h.0))
+    (named_values es h.1))
+
+pub of_list_named : (ts : Items) → well_named (list ts) ≡ true → Each (λ t. well_named t ≡ true) (items_list ts)
+of_list_named no_items h = tt
+of_list_named (item t ts) h = let p = and_parts (well_named t) _ h in (p.0, of_list_named ts p.1)
+
+pub to_list_named : (ts : List Tree) → Each (λ t. well_named t ≡ true) ts → well_named (list (items_of ts)) ≡ true
+to_list_named [] h = refl
+to_list_named (t ∷ ts) h = and_from (well_named t) _ h.0 (to_list_named ts h.1)
+
+-- forms that are made of lists of forms
+all_distinct : (fs : List Form) → Each (λ f. distinct f ≡ true) fs
+    → every (λ (p : Shown Bool). p.answer) (each (show face_distinct) fs) ≡ true
+all_distinct [] h = refl
+all_distinct (f ∷ fs) h = and_from (distinct f) _ h.0 (all_distinct fs h.1)
+
+pub distinct-sequence : (fs : List Form) → Each (λ f. distinct f ≡ true) fs → distinct (sequence (forms_of fs)) ≡ true
+distinct-sequence fs h = ap (λ l. every (λ (p : Shown Bool). p.answer) l) (of_forms-of face_distinct fs)
+    ∙ all_distinct fs h
+
+pub distinct-fields : (c : Choice) (fs : List Form) → Each (λ f. distinct f ≡ true) fs
+    → distinct (fields c (forms_of fs)) ≡ true
+distinct-fields c fs h = ap (λ l. every (λ (p : Shown Bool). p.answer) l) (of_forms-of face_distinct fs)
+    ∙ all_distinct fs h
+
+pairs_distinct : (es : List (Pair Form)) → Distinct es → Each (λ (e : Pair Form). distinct e.value ≡ true) es
+    → face_distinct (f_named (each (on_pair (show face_distinct)) es)) ≡ true
+pairs_distinct es h g = and_from _ _ (to_keys_differ (each (on_pair (show face_distinct)) es) (keys es h)) (values es g)
+  where
+    apart : (k : Key) (ds : List (Pair Form)) → Each (λ (d : Pair Form). same_key k d.key ≡ false) ds
+        → Each (λ (d : Pair (Shown Bool)). same_key k d.key ≡ false) (each (on_pair (show face_distinct)) ds)
+    apart k [] g = tt
+    apart k (d ∷ ds) g = (g.0, apart k ds g.1)
+
+    keys : (es : List (Pair Form)) → Distinct es → Distinct (each (on_pair (show face_distinct)) es)
+    keys [] h = tt
+    keys (e ∷ es) h = (apart e.key es h.0, keys es h.1)
+
+    values : (es : List (Pair Form)) → Each (λ (e : Pair Form). distinct e.value ≡ true) es
+        → every (λ (e : Pair (Shown Bool)). e.value.answer) (each (on_pair (show face_distinct)) es) ≡ true
+    values [] g = refl
+    values (e ∷ es) g = and_from (distinct e.value) _ g.0 (values es g.1)
+
+pub distinct-named : (es : List (Pair Form)) → Distinct es → Each (λ (e : Pair Form). distinct e.value ≡ true) es
+    → distinct (named (named_of es)) ≡ true
+distinct-named es h g = ap (λ l. face_distinct (f_named l)) (of_named-of face_distinct es) ∙ pairs_distinct es h g
+
+-- the entries of a map or class of a form with distinct keys
+pub of_named : (es : Named) → distinct (named es) ≡ true
+    → Distinct (named_list es) × Each (λ (e : Pair Form). distinct e.value ≡ true) (named_list es)
+of_named es h =
+    let p = and_parts _ _ (subst (λ l. face_distinct (f_named l) ≡ true) (of_named_lem face_distinct es) h) in (
+      keys (named_list es) (of_keys_differ (each (on_pair (show face_distinct)) (named_list es)) p.0),
+      values
+          (named_list es) p.1,
+    )
+  where
+    apart : (k : Key) (ds : List (Pair Form))
+        → Each (λ (d : Pair (Shown Bool)). same_key k d.key ≡ false) (each (on_pair (show face_distinct)) ds)
+        → Each (λ (d : Pair Form). same_key k d.key ≡ false) ds
+    apart k [] g = tt
+    apart k (d ∷ ds) g = (g.0, apart k ds g.1)
+
+    keys : (es : List (Pair Form)) → Distinct (each (on_pair (show face_distinct)) es) → Distinct es
+    keys [] h = tt
+    keys (e ∷ es) h = (apart e.key es h.0, keys es h.1)
+
+    values : (es : List (Pair Form))
+        → every (λ (e : Pair (Shown Bool)). e.value.answer) (each (on_pair (show face_distinct)) es) ≡ true
+        → Each (λ (e : Pair Form). distinct e.value ≡ true) es
+    values [] g = tt
+    values (e ∷ es) g = let p = and_parts (distinct e.value) _ g in (p.0, values es p.1)
+
+pub of_forms_distinct : (fs : Forms) → every (λ (p : Shown Bool). p.answer) (of_forms face_distinct fs) ≡ true
+    → Each (λ f. distinct f ≡ true) (forms_list fs)
+of_forms_distinct no_forms h = tt
+of_forms_distinct (more f fs) h = let p = and_parts (distinct f) _ h in (p.0, of_forms_distinct fs p.1)
+
+-- two keys of a class that are written as the same name are the same
+same_key_eq : (m n : Key) → same_key m n ≡ true → m ≡ n
+same_key_eq (name m) (name n) h = ap name (same_text_eq m n h)
+same_key_eq (coded c) (coded d) h = ap coded (same_code_eq c d h)
+same_key_eq (name m) (coded d) h = cc
+same_key_eq (coded c) (name n) h = cc
+
+written_key : (c : Class) (m : Key) → is_written c m ≡ true → key_in c (text_of_key m) ≡ m
+written_key c m h = same_key_eq (key_in c (text_of_key m)) m (and_parts (same_key (key_in c (text_of_key m)) m) _ h).0
+
+pub texts_differ : (c : Class) (m n : Key) → is_written c m ≡ true → is_written c n ≡ true → same_key m n ≡ false
+    → same_text (text_of_key m) (text_of_key n) ≡ false
+texts_differ c m n h g d = not_both (same_text (text_of_key m) (text_of_key n)) same
+  where
+    same : same_text (text_of_key m) (text_of_key n) ≡ true → ⊥
+    same e =
+        let p : m ≡ n = sym (written_key c m h) ∙ ap (key_in c) (same_text_eq (text_of_key m) (text_of_key n) e)
+        ∙ written_key c n g in
+        both_ways (same_key m n) d (subst (λ k. same_key m k ≡ true) p (same_key-refl m))

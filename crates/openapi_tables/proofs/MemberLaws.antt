@@ -1,0 +1,188 @@
+-- An object's form by its members: which may change places, and which count for nothing.
+use Rattle.openapi_tables.proofs.ListLaws.{every_same}
+use Rattle.std.proofs.Common.{ℕ, Bool, true, false, not, cond, ◌&&◌, ◌||◌, List, [], ◌∷◌, Some, ◌≡◌, refl, sym, ap, ◌∙◌}
+use Rattle.std.proofs.Common.{subst, codes}
+use Rattle.std.proofs.lemmas.Bool.{and_parts, both_ways}
+use Rattle.openapi_tables.specs.Lists.{each, join, only, every, same_text, has}
+use Rattle.openapi_node.specs.Tree.{Tree, null, flag, whole, text, list, object}
+use Rattle.openapi_tables.specs.Tree.{members_of, Entry}
+use Rattle.openapi_tables.specs.Kind.{Kind, any_text, any_flag, number, any_tree, one_of, format, null_or, list_of}
+use Rattle.openapi_tables.specs.Kind.{map_of, by, tagged, ref_to, flag_or_schema, a_schema, a_schema_kind, status_code}
+use Rattle.openapi_tables.specs.Kind.{Row, takes, Tables}
+use Rattle.openapi_tables.specs.Tables.{any_rows}
+use Rattle.openapi_tables.specs.Members.{is_null, own, first_tree, held, Sort, string_sort, number_sort, integer_sort}
+use Rattle.openapi_tables.specs.Members.{boolean_sort, object_sort, array_sort, one_of_sort, all_of_sort, any_of_sort}
+use Rattle.openapi_tables.specs.Members.{not_sort, any_sort, sort, kind_names, allowed, entries_pass, is_null_or_text}
+use Rattle.openapi_tables.specs.Members.{is_null_or_whole, is_null_or_flag, is_null_or_signed, further, possible_sort}
+use Rattle.openapi_tables.specs.Members.{meets, sort_of, Choice, tag_choice, choice, rows_of}
+use Rattle.openapi_tables.specs.Form.{fields, forms_of}
+use Rattle.openapi_tables.specs.Read.{slot_of_own, form}
+use Rattle.openapi_tables.specs.Laws.{steers, Every, Ignored, Order, References}
+use Rattle.openapi_tables.proofs.ListLaws.{Each, every_each, same_text-refl, each_under, same_text_eq}
+use Rattle.openapi_tables.proofs.RowLaws.{not_both}
+use Rattle.openapi_tables.proofs.ReadLaws.{reads, slot_in, form-fields, form-reference}
+use Rattle.openapi_tables.proofs.TreeLaws.{members_list-of}
+use Rattle.openapi_tables.specs.Conforms.{text_in}
+
+-- two lists of members hold the same under each kind name
+abbrev SameKinds : List (Entry Tree) → List (Entry Tree) → Type 0
+SameKinds es ds = (n : List ℕ) → has kind_names n ≡ true → held n es ≡ held n ds
+
+pub kind_names_known : every (has kind_names) kind_names ≡ true
+unfolding kind_names any_rows
+kind_names_known = refl
+
+further_same : (s : Sort) (es ds : List (Entry Tree)) → SameKinds es ds → further s es ≡ further s ds
+unfolding kind_names any_rows
+further_same string_sort es ds h = ap (entries_pass is_null_or_text) (h (codes "enum") refl)
+further_same number_sort es ds h = ap (entries_pass is_null_or_whole) (h (codes "enum") refl)
+further_same integer_sort es ds h =
+    ap (λ t. entries_pass is_null_or_signed t && is_null_or_signed (held (codes "multipleOf") es)
+    && is_null_or_signed (held (codes "minimum") es) && is_null_or_signed (held (codes "maximum") es))
+    (h (codes "enum") refl)
+    ∙ ap (λ t. entries_pass is_null_or_signed (held (codes "enum") ds) && is_null_or_signed t
+    && is_null_or_signed (held (codes "minimum") es) && is_null_or_signed (held (codes "maximum") es))
+    (h (codes "multipleOf") refl)
+    ∙ ap (λ t. entries_pass is_null_or_signed (held (codes "enum") ds)
+    && is_null_or_signed (held (codes "multipleOf") ds) && is_null_or_signed t
+    && is_null_or_signed (held (codes "maximum") es)) (h (codes "minimum") refl)
+    ∙ ap (λ t. entries_pass is_null_or_signed (held (codes "enum") ds)
+    && is_null_or_signed (held (codes "multipleOf") ds) && is_null_or_signed (held (codes "minimum") ds)
+    && is_null_or_signed t) (h (codes "maximum") refl)
+further_same boolean_sort es ds h = ap (entries_pass is_null_or_flag) (h (codes "enum") refl)
+further_same object_sort es ds h = refl
+further_same array_sort es ds h = refl
+further_same one_of_sort es ds h = refl
+further_same all_of_sort es ds h = refl
+further_same any_of_sort es ds h = refl
+further_same not_sort es ds h = refl
+further_same any_sort es ds h = refl
+
+meets_same : (s : Sort) (es ds : List (Entry Tree)) → SameKinds es ds → meets s es ≡ meets s ds
+meets_same s es ds h =
+    ap (λ b. b && further s es)
+    (every_same (λ n. has (allowed s) n || is_null (held n es))
+    (λ n. has (allowed s) n || is_null (held n ds)) kind_names
+    (each_under (λ n (x : has kind_names n ≡ true). ap (λ t. has (allowed s) n || is_null t) (h n x)) kind_names
+    (every_each (has kind_names) kind_names kind_names_known)))
+    ∙ ap (λ b. every (λ n. has (allowed s) n || is_null (held n ds)) kind_names && b) (further_same s es ds h)
+
+abbrev chain : Tree → Tree → Tree → Tree → Sort
+chain a b c d = cond (not (is_null a)) one_of_sort
+    (cond (not (is_null b)) all_of_sort (cond (not (is_null c)) any_of_sort (cond (not (is_null d)) not_sort any_sort)))
+
+possible_same : (t : Tree) (es ds : List (Entry Tree)) → SameKinds es ds → possible_sort t es ≡ possible_sort t ds
+unfolding kind_names any_rows
+possible_same null es ds h =
+    ap (λ a. chain a (held (codes "allOf") es) (held (codes "anyOf") es) (held (codes "not") es))
+    (h (codes "oneOf") refl)
+    ∙ ap (λ a. chain (held (codes "oneOf") ds) a (held (codes "anyOf") es) (held (codes "not") es))
+    (h (codes "allOf") refl)
+    ∙ ap (λ a. chain (held (codes "oneOf") ds) (held (codes "allOf") ds) a (held (codes "not") es))
+    (h (codes "anyOf") refl)
+    ∙ ap (λ a. chain (held (codes "oneOf") ds) (held (codes "allOf") ds) (held (codes "anyOf") ds) a)
+    (h (codes "not") refl)
+possible_same (flag b) es ds h = refl
+possible_same (whole z) es ds h = refl
+possible_same (text s) es ds h = refl
+possible_same (list ts) es ds h = refl
+possible_same (object ms) es ds h = refl
+
+sort_same : (es ds : List (Entry Tree)) → SameKinds es ds → sort_of es ≡ sort_of ds
+unfolding kind_names any_rows
+sort_same es ds h =
+    let p : possible_sort (held (codes "type") es) es ≡ possible_sort (held (codes "type") ds) ds =
+    possible_same (held (codes "type") es) es ds h ∙ ap (λ t. possible_sort t ds) (h (codes "type") refl) in
+    ap (λ s. cond (meets s es) s any_sort) p
+    ∙ ap (λ b. cond b (possible_sort (held (codes "type") ds) ds) any_sort)
+    (meets_same (possible_sort (held (codes "type") ds) ds) es ds h)
+
+-- which rows an object is read by depends on the names that have a say in it
+choice_same : (k : Kind) (es ds : List (Entry Tree)) → ((n : List ℕ) → steers k n ≡ true → held n es ≡ held n ds)
+    → choice k es ≡ choice k ds
+choice_same (tagged n cs) es ds h = ap (tag_choice cs) (h n (same_text-refl n))
+choice_same a_schema es ds h = ap (λ s. Some (sort s)) (sort_same es ds h)
+choice_same a_schema_kind es ds h = ap (λ s. Some (sort s)) (sort_same es ds h)
+choice_same (by i) es ds h = refl
+choice_same any_text es ds h = refl
+choice_same any_flag es ds h = refl
+choice_same (number w) es ds h = refl
+choice_same any_tree es ds h = refl
+choice_same (one_of ws) es ds h = refl
+choice_same (format ws b) es ds h = refl
+choice_same (null_or k) es ds h = refl
+choice_same (list_of k) es ds h = refl
+choice_same (map_of k) es ds h = refl
+choice_same (ref_to k) es ds h = refl
+choice_same flag_or_schema es ds h = refl
+choice_same status_code es ds h = refl
+
+slots_same : (T : Tables) (ws : List Row) (es ds : List (Entry Tree)) → Each (λ w. own w es ≡ own w ds) ws
+    → each (slot_in T es) ws ≡ each (slot_in T ds) ws
+slots_same T [] es ds h = refl
+slots_same T (w ∷ ws) es ds h =
+    ap (λ l. slot_of_own w (reads T l) ∷ each (slot_in T es) ws) h.0
+    ∙ ap (λ l. slot_in T ds w ∷ l) (slots_same T ws es ds h.1)
+
+form_same : (T : Tables) (k : Kind) (c : Choice) (es ds : List (Entry Tree)) → choice k ds ≡ Some c
+    → ((n : List ℕ) → steers k n ≡ true → held n es ≡ held n ds)
+    → Each (λ w. own w es ≡ own w ds) (rows_of T k c)
+    → form T k (object (members_of es)) ≡ form T k (object (members_of ds))
+form_same T k c es ds h g o =
+    form-fields T k c es (choice_same k es ds g ∙ h)
+    ∙ ap (λ l. fields c (forms_of l)) (slots_same T (rows_of T k c) es ds o) ∙ sym (form-fields T k c ds h)
+
+-- a member that does not pass
+only_skips : {A : Type 0} → (p : A → Bool) (xs ys : List A) (x : A) → p x ≡ false
+    → only p (join xs (x ∷ ys)) ≡ only p (join xs ys)
+only_skips p [] ys x h = ap (λ b. cond b (x ∷ only p ys) (only p ys)) h
+only_skips p (z ∷ xs) ys x h = ap (λ l. cond (p z) (z ∷ l) l) (only_skips p xs ys x h)
+
+swapped : {A : Type 0} → (b c : Bool) (x y : A) (l : List A) → (b && c) ≡ false
+    → cond c (y ∷ cond b (x ∷ l) l) (cond b (x ∷ l) l) ≡ cond b (x ∷ cond c (y ∷ l) l) (cond c (y ∷ l) l)
+swapped true true x y l h = cc
+swapped true false x y l h = refl
+swapped false true x y l h = refl
+swapped false false x y l h = refl
+
+only_swaps : {A : Type 0} → (p : A → Bool) (xs ys : List A) (x y : A) → (p x && p y) ≡ false
+    → only p (join xs (y ∷ x ∷ ys)) ≡ only p (join xs (x ∷ y ∷ ys))
+only_swaps p [] ys x y h = swapped (p x) (p y) x y (only p ys) h
+only_swaps p (z ∷ xs) ys x y h = ap (λ l. cond (p z) (z ∷ l) l) (only_swaps p xs ys x y h)
+
+other_name : (k : Kind) (n m : List ℕ) → steers k n ≡ true → steers k m ≡ false → same_text n m ≡ false
+other_name k n m h g = not_both (same_text n m)
+    (λ e. both_ways (steers k m) g (subst (λ u. steers k u ≡ true) (same_text_eq n m e) h))
+
+to_each : {A : Type 0} → (P Q : A → Type 0) (xs : List A) → ((x : A) → P x → Q x) → Every P xs → Each Q xs
+to_each P Q [] f h = tt
+to_each P Q (x ∷ xs) f h = (f x h.0, to_each P Q xs f h.1)
+
+pub ignored : Ignored
+ignored T k c before after e h s g =
+    form_same T k c (join before (e ∷ after)) (join before after) h
+    (λ n x. ap first_tree
+    (only_skips (λ (d : Entry Tree). same_text n d.name) before after e (other_name k n e.name x s)))
+    (to_each (λ w. takes w e.name ≡ false) (λ w. own w (join before (e ∷ after)) ≡ own w (join before after))
+    (rows_of T k c)
+    (λ w x. only_skips (λ (d : Entry Tree). takes w d.name) before after e x) g)
+
+not_two : (n d e : List ℕ) → same_text d e ≡ false → (same_text n d && same_text n e) ≡ false
+not_two n d e h =
+    not_both (same_text n d && same_text n e) (λ x.
+    let p = and_parts (same_text n d) (same_text n e) x in
+    both_ways (same_text d e) h
+    (subst (λ u. same_text d u ≡ true) (sym (same_text_eq n d p.0) ∙ same_text_eq n e p.1) (same_text-refl d)))
+
+pub order : Order
+order T k c before after d e h s g =
+    form_same T k c (join before (e ∷ d ∷ after)) (join before (d ∷ e ∷ after)) h
+    (λ n x. ap first_tree
+    (only_swaps (λ (m : Entry Tree). same_text n m.name) before after d e (not_two n d.name e.name s)))
+    (to_each (λ w. (takes w d.name && takes w e.name) ≡ false)
+    (λ w. own w (join before (e ∷ d ∷ after)) ≡ own w (join before (d ∷ e ∷ after))) (rows_of T k c)
+    (λ w x. only_swaps (λ (m : Entry Tree). takes w m.name) before after d e x) g)
+
+pub references : References
+references T k es u h = form-reference T k (object (members_of es)) u
+    (ap text_in (ap (held (codes "$ref")) (members_list-of es) ∙ h))

@@ -1,0 +1,119 @@
+-- A tree and its root; what a function gives of a tree by its root; induction.
+use Rattle.std.proofs.Common.{List, [], ◌∷◌, ◌≡◌, refl, ap, true}
+use Rattle.openapi_tables.specs.Lists.{each}
+use Rattle.openapi_node.specs.Tree.{Tree, null, flag, whole, text, list, object, Items, no_items, item, Members}
+use Rattle.openapi_node.specs.Tree.{no_members, member, items_of}
+use Rattle.openapi_tables.specs.Tree.{Entry, Shape, a_null, a_flag, a_whole, a_text, a_list, an_object, Seen}
+use Rattle.openapi_tables.specs.Tree.{items_list, members_list, members_of, on_entry, of_tree, of_items, of_members}
+use Rattle.openapi_tables.specs.Read.{tree_of_root}
+use Rattle.openapi_tables.proofs.ListLaws.{Each}
+use Rattle.openapi_tables.specs.Members.{is_null}
+
+pub items_list-of : (ts : List Tree) → items_list (items_of ts) ≡ ts
+items_list-of [] = refl
+items_list-of (t ∷ ts) = ap (λ l. t ∷ l) (items_list-of ts)
+
+pub items_of-list : (ts : Items) → items_of (items_list ts) ≡ ts
+items_of-list no_items = refl
+items_of-list (item t ts) = ap (item t) (items_of-list ts)
+
+pub members_list-of : (es : List (Entry Tree)) → members_list (members_of es) ≡ es
+members_list-of [] = refl
+members_list-of (e ∷ es) = ap (λ l. e ∷ l) (members_list-of es)
+
+pub members_of-list : (ms : Members) → members_of (members_list ms) ≡ ms
+members_of-list no_members = refl
+members_of-list (member n t ms) = ap (member n t) (members_of-list ms)
+
+-- a tree with what a function gives of it, by the root
+abbrev pub see : {X : Type 0} → (Shape (Seen X) → X) → Tree → Seen X
+see f t = record { tree = t; answer = of_tree f t }
+
+pub of_items_lem : {X : Type 0} → (f : Shape (Seen X) → X) (ts : Items) → of_items f ts ≡ each (see f) (items_list ts)
+of_items_lem f no_items = refl
+of_items_lem f (item t ts) = ap (λ l. see f t ∷ l) (of_items_lem f ts)
+
+pub of_members_lem : {X : Type 0} → (f : Shape (Seen X) → X) (ms : Members)
+    → of_members f ms ≡ each (on_entry (see f)) (members_list ms)
+of_members_lem f no_members = refl
+of_members_lem f (member n t ms) = ap (λ l. on_entry (see f) (record { name = n; value = t }) ∷ l) (of_members_lem f ms)
+
+-- what a function gives of a list and an object that are made of lists
+pub of_items-of : {X : Type 0} → (f : Shape (Seen X) → X) (ts : List Tree) → of_items f (items_of ts) ≡ each (see f) ts
+of_items-of f [] = refl
+of_items-of f (t ∷ ts) = ap (λ l. see f t ∷ l) (of_items-of f ts)
+
+pub of_members-of : {X : Type 0} → (f : Shape (Seen X) → X) (es : List (Entry Tree))
+    → of_members f (members_of es) ≡ each (on_entry (see f)) es
+of_members-of f [] = refl
+of_members-of f (e ∷ es) = ap (λ l. on_entry (see f) e ∷ l) (of_members-of f es)
+
+seen_items : {X : Type 0} → (f : Shape (Seen X) → X) (ts : Items) → items_of (each (λ x. x.tree) (of_items f ts)) ≡ ts
+seen_items f no_items = refl
+seen_items f (item t ts) = ap (item t) (seen_items f ts)
+
+seen_members : {X : Type 0} → (f : Shape (Seen X) → X) (ms : Members)
+    → members_of (each (on_entry (λ (x : Seen X). x.tree)) (of_members f ms)) ≡ ms
+seen_members f no_members = refl
+seen_members f (member n t ms) = ap (member n t) (seen_members f ms)
+
+-- the root of a tree, with what a function gives of the trees inside
+abbrev pub seen_root : {X : Type 0} → (Shape (Seen X) → X) → Tree → Shape (Seen X)
+seen_root f null = a_null
+seen_root f (flag b) = a_flag b
+seen_root f (whole z) = a_whole z
+seen_root f (text s) = a_text s
+seen_root f (list ts) = a_list (of_items f ts)
+seen_root f (object ms) = an_object (of_members f ms)
+
+pub of_tree_lem : {X : Type 0} → (f : Shape (Seen X) → X) (t : Tree) → of_tree f t ≡ f (seen_root f t)
+of_tree_lem f null = refl
+of_tree_lem f (flag b) = refl
+of_tree_lem f (whole z) = refl
+of_tree_lem f (text s) = refl
+of_tree_lem f (list ts) = refl
+of_tree_lem f (object ms) = refl
+
+pub tree_of_root-seen : {X : Type 0} → (f : Shape (Seen X) → X) (t : Tree) → tree_of_root (seen_root f t) ≡ t
+tree_of_root-seen f null = refl
+tree_of_root-seen f (flag b) = refl
+tree_of_root-seen f (whole z) = refl
+tree_of_root-seen f (text s) = refl
+tree_of_root-seen f (list ts) = ap list (seen_items f ts)
+tree_of_root-seen f (object ms) = ap object (seen_members f ms)
+
+-- P holds of each tree that stands directly inside
+abbrev pub Inside : (Tree → Type 0) → Tree → Type 0
+Inside P null = Unit {0}
+Inside P (flag b) = Unit {0}
+Inside P (whole z) = Unit {0}
+Inside P (text s) = Unit {0}
+Inside P (list ts) = Each P (items_list ts)
+Inside P (object ms) = Each (λ (e : Entry Tree). P e.value) (members_list ms)
+
+-- induction on trees
+mutual
+  pub by_trees : (P : Tree → Type 0) → ((t : Tree) → Inside P t → P t) → (t : Tree) → P t
+  by_trees P h null = h null tt
+  by_trees P h (flag b) = h (flag b) tt
+  by_trees P h (whole z) = h (whole z) tt
+  by_trees P h (text s) = h (text s) tt
+  by_trees P h (list ts) = h (list ts) (by_items P h ts)
+  by_trees P h (object ms) = h (object ms) (by_members P h ms)
+
+  by_items : (P : Tree → Type 0) → ((t : Tree) → Inside P t → P t) → (ts : Items) → Each P (items_list ts)
+  by_items P h no_items = tt
+  by_items P h (item t ts) = (by_trees P h t, by_items P h ts)
+
+  by_members : (P : Tree → Type 0) → ((t : Tree) → Inside P t → P t) → (ms : Members)
+      → Each (λ (e : Entry Tree). P e.value) (members_list ms)
+  by_members P h no_members = tt
+  by_members P h (member n t ms) = (by_trees P h t, by_members P h ms)
+
+pub null_tree : (t : Tree) → is_null t ≡ true → t ≡ null
+null_tree null h = refl
+null_tree (flag b) h = cc
+null_tree (whole z) h = cc
+null_tree (text s) h = cc
+null_tree (list ts) h = cc
+null_tree (object ms) h = cc

@@ -1,0 +1,47 @@
+-- The three lists of tables are well made, by computation.
+use Rattle.std.proofs.Common.{true, ◌≡◌, refl}
+use Rattle.openapi_tables.specs.Lists.{every}
+use Rattle.openapi_tables.specs.Tables.{tables_with, tables_before_callbacks, tables_before_xml, final_tables, any_rows}
+use Rattle.openapi_tables.specs.Tables.{string_rows, object_rows, array_rows, boolean_rows}
+use Rattle.openapi_tables.specs.Members.{sort_rows, allowed, kind_names}
+use Rattle.openapi_tables.specs.Sound.{tables_sound, sound, table_names, type_kinds, tables_small}
+
+pub first_sound : tables_sound tables_before_callbacks ≡ true
+unfolding tables_with tables_before_callbacks any_rows string_rows object_rows array_rows boolean_rows sort_rows
+    allowed kind_names table_names
+first_sound = refl
+
+pub second_sound : tables_sound tables_before_xml ≡ true
+unfolding tables_with tables_before_xml any_rows string_rows object_rows array_rows boolean_rows sort_rows allowed
+    kind_names table_names
+second_sound = refl
+
+pub final_sound : tables_sound final_tables ≡ true
+unfolding tables_with final_tables any_rows string_rows object_rows array_rows boolean_rows sort_rows allowed
+    kind_names table_names
+final_sound = refl
+
+pub first_kinds : every (sound tables_before_callbacks) type_kinds ≡ true
+unfolding tables_with tables_before_callbacks string_rows object_rows array_rows boolean_rows any_rows
+first_kinds = refl
+
+pub second_kinds : every (sound tables_before_xml) type_kinds ≡ true
+unfolding tables_with tables_before_xml string_rows object_rows array_rows boolean_rows any_rows
+second_kinds = refl
+
+pub final_kinds : every (sound final_tables) type_kinds ≡ true
+unfolding tables_with final_tables string_rows object_rows array_rows boolean_rows any_rows
+final_kinds = refl
+
+pub first_small : tables_small tables_before_callbacks ≡ true
+unfolding tables_with tables_before_callbacks any_rows string_rows object_rows array_rows boolean_rows sort_rows
+    table_names
+first_small = refl
+
+pub second_small : tables_small tables_before_xml ≡ true
+unfolding tables_with tables_before_xml any_rows string_rows object_rows array_rows boolean_rows sort_rows table_names
+second_small = refl
+
+pub final_small : tables_small final_tables ≡ true
+unfolding tables_with final_tables any_rows string_rows object_rows array_rows boolean_rows sort_rows table_names
+final_small = refl

@@ -1,0 +1,43 @@
+-- Trees whose objects name no member twice, and forms whose maps hold no key twice.
+use Rattle.std.specs.Prelude.{Bool, true, not, ◌&&◌, List, [], ◌∷◌}
+use Rattle.openapi_tables.specs.Lists.{every, same_text}
+use Rattle.openapi_node.specs.Tree.{Tree}
+use Rattle.openapi_tables.specs.Tree.{Entry, Seen, Shape, a_list, an_object, of_tree}
+use Rattle.openapi_tables.specs.Form.{Form, Pair, Face, f_leaf, f_item, f_sequence, f_named, f_deciding, f_fields}
+use Rattle.openapi_tables.specs.Form.{Shown, of_form}
+use Rattle.openapi_tables.specs.Read.{same_key}
+
+-- whether no two members have the same name
+abbrev pub names_differ : {X : Type 0} → List (Entry X) → Bool
+names_differ [] = true
+names_differ (e ∷ es) = every (λ d. not (same_text e.name d.name)) es && names_differ es
+
+-- whether the members of a root have distinct names, and all inside are well named
+abbrev pub root_well_named : Shape (Seen Bool) → Bool
+root_well_named (a_list xs) = every (λ x. x.answer) xs
+root_well_named (an_object es) = names_differ es && every (λ e. e.value.answer) es
+root_well_named _ = true
+
+-- whether each object of a tree, at every depth, has members of distinct names
+abbrev pub well_named : Tree → Bool
+well_named t = of_tree root_well_named t
+
+-- whether no two entries have the same key
+abbrev pub keys_differ : {X : Type 0} → List (Pair X) → Bool
+keys_differ [] = true
+keys_differ (e ∷ es) = every (λ d. not (same_key e.key d.key)) es && keys_differ es
+
+-- whether the entries of a root have distinct keys, and all inside are distinct
+abbrev pub face_distinct : Face (Shown Bool) → Bool
+face_distinct (f_leaf t) = well_named t
+face_distinct (f_item p) = p.answer
+face_distinct (f_sequence ps) = every (λ p. p.answer) ps
+face_distinct (f_named es) = keys_differ es && every (λ e. e.value.answer) es
+face_distinct (f_deciding n p) = p.answer
+face_distinct (f_fields c ps) = every (λ p. p.answer) ps
+face_distinct _ = true
+
+-- whether each map and each class of names of a form, at every depth, has entries of distinct names and codes, and
+-- each tree that the form holds as it stands has members of distinct names
+abbrev pub distinct : Form → Bool
+distinct f = of_form face_distinct f

@@ -1,0 +1,142 @@
+-- The laws that the functions of `laws` carry.
+use Rattle.std.specs.Prelude.{not, ◌≤◌, ◌*◌, ℕ, Bool, true, false, ◌&&◌, List, [], ◌∷◌, Some, ◌≡◌, ◌↔◌, ◌⊎◌, codes}
+use Rattle.openapi_tables.specs.Lists.{every, join, same_text, has}
+use Rattle.openapi_node.specs.Tree.{Tree, text, object, size_of}
+use Rattle.openapi_tables.specs.Tree.{members_of, Entry}
+use Rattle.openapi_tables.specs.Kind.{Kind, by, xml_object, tagged, a_schema, a_schema_kind, ref_to, Tables, Code}
+use Rattle.openapi_tables.specs.Kind.{code_of, text_of, writable_code, takes, extensions, callback_names, path_names}
+use Rattle.openapi_tables.specs.Kind.{status_names, begins}
+use Rattle.openapi_tables.specs.Members.{Choice, choice, rows_of, held, kind_names}
+use Rattle.openapi_tables.specs.Tables.{tables_before_callbacks, tables_before_xml, final_tables}
+use Rattle.openapi_tables.specs.Form.{Form, reference, name, coded}
+use Rattle.openapi_tables.specs.Read.{form}
+use Rattle.openapi_tables.specs.Print.{print, clean, again}
+use Rattle.openapi_tables.specs.Sound.{sound, tables_sound, type_kinds, tables_small}
+use Rattle.openapi_tables.specs.Stays.{stays}
+use Rattle.openapi_tables.specs.Proper.{is_written, proper, shaped}
+use Rattle.openapi_tables.specs.Unwritable.{unwritable}
+use Rattle.openapi_tables.specs.Distinct.{well_named, distinct}
+use Rattle.openapi_tables.specs.Conforms.{conforms}
+use Rattle.openapi_tables.specs.Faults.{Asking, Cause, asked, causes}
+
+-- the three lists of tables are well made, and so are the kinds of the types
+abbrev pub WellMade : Type 0
+WellMade =
+    ((tables_sound tables_before_callbacks ≡ true) × (tables_sound tables_before_xml ≡ true)
+    × (tables_sound final_tables ≡ true))
+    × ((tables_small tables_before_callbacks ≡ true) × (tables_small tables_before_xml ≡ true)
+    × (tables_small final_tables ≡ true))
+    × ((every (sound tables_before_callbacks) type_kinds ≡ true) × (every (sound tables_before_xml) type_kinds ≡ true)
+    × (every (sound final_tables) type_kinds ≡ true))
+
+-- a code is read again from its text, and two codes have two texts
+abbrev pub Codes : Type 0
+Codes = ((c : Code) → writable_code c ≡ true → code_of (text_of c) ≡ Some c)
+    × ((c d : Code) → writable_code c ≡ true → writable_code d ≡ true → text_of c ≡ text_of d → c ≡ d)
+
+-- an object with a text under `$ref` is a reference, whatever else it holds
+abbrev pub References : Type 0
+References = (T : Tables) (k : Kind) (es : List (Entry Tree)) (s : List ℕ) → held (codes "$ref") es ≡ text s
+    → form T (ref_to k) (object (members_of es)) ≡ reference s
+
+-- whether a name has a say in which rows an object is read by
+abbrev pub steers : Kind → List ℕ → Bool
+steers (tagged n cs) m = same_text n m
+steers a_schema m = has kind_names m
+steers a_schema_kind m = has kind_names m
+steers _ m = false
+
+-- P holds of each element
+abbrev pub Every : {A : Type 0} → (A → Type 0) → List A → Type 0
+Every P [] = Unit {0}
+Every P (x ∷ xs) = P x × Every P xs
+
+-- an object under an object kind, of the rows that a choice gives
+abbrev pub ReadBy : Kind → Choice → List (Entry Tree) → Type 0
+ReadBy k c es = choice k es ≡ Some c
+
+-- a member that no row takes, and that is not the tag, may be added or taken away without a change of the form
+abbrev pub Ignored : Type 0
+Ignored = (T : Tables) (k : Kind) (c : Choice) (before after : List (Entry Tree)) (e : Entry Tree)
+    → ReadBy k c (join before after) → steers k e.name ≡ false → Every (λ w. takes w e.name ≡ false) (rows_of T k c)
+    → form T k (object (members_of (join before (e ∷ after)))) ≡ form T k (object (members_of (join before after)))
+
+-- two neighbours of different names that no row takes both may change places without a change of the form
+abbrev pub Order : Type 0
+Order = (T : Tables) (k : Kind) (c : Choice) (before after : List (Entry Tree)) (d e : Entry Tree)
+    → ReadBy k c (join before (d ∷ e ∷ after)) → same_text d.name e.name ≡ false
+    → Every (λ w. (takes w d.name && takes w e.name) ≡ false) (rows_of T k c)
+    → form T k (object (members_of (join before (e ∷ d ∷ after))))
+    ≡ form T k (object (members_of (join before (d ∷ e ∷ after))))
+
+-- what was read is read again from what it is written as, exactly when it stays
+abbrev pub FirstValue : Type 0
+FirstValue = (T : Tables) (k : Kind) (t : Tree) → tables_sound T ≡ true → sound T k ≡ true
+    → (again T k (form T k t) ≡ form T k t) ↔ (stays T k (form T k t) ≡ true)
+
+-- x is an element of a list
+abbrev pub Among : {A : Type 0} → A → List A → Type 0
+Among x [] = ⊥
+Among x (y ∷ ys) = (x ≡ y) ⊎ Among x ys
+
+-- where something that is asked is broken the root does not conform, and where the root does not conform something
+-- that is asked is broken
+abbrev pub Faults : Type 0
+Faults = (T : Tables) (k : Kind) (t : Tree) → tables_sound T ≡ true → sound T k ≡ true
+    → ((a : Asking) (c : Cause) → Among a (asked T k t) → Among c (causes T a.kind a.tree) → conforms T k t ≡ false)
+    × (conforms T k t ≡ false → (a : Asking) × (c : Cause) × Among a (asked T k t) × Among c (causes T a.kind a.tree))
+
+-- a proper form is written as a tree that conforms, of which a proper form is read; of every tree that conforms a
+-- proper form is read; and it is cleaned to a tree of at most twice its size
+abbrev pub ReadsItsWriting : Type 0
+ReadsItsWriting = (T : Tables) (k : Kind) → tables_sound T ≡ true → sound T k ≡ true
+    → ((f : Form) → proper T k f ≡ true → (conforms T k (print T k f) ≡ true) × (proper T k (again T k f) ≡ true))
+    × ((t : Tree) → conforms T k t ≡ true → proper T k (form T k t) ≡ true)
+    × (tables_small T ≡ true → (t : Tree) → conforms T k t ≡ true → size_of (clean T k t) ≤ 2 * size_of t)
+
+-- what is read again of a proper form is settled
+abbrev pub Settles : Type 0
+Settles = (T : Tables) (k : Kind) (f : Form) → tables_sound T ≡ true → sound T k ≡ true → proper T k f ≡ true
+    → again T k (again T k f) ≡ again T k f
+
+-- cleaning three times gives what cleaning twice gives; and two trees are the same cleaned twice exactly where,
+-- cleaned once, the same is read of them
+abbrev pub Canonical : Type 0
+Canonical = (T : Tables) (k : Kind) → tables_sound T ≡ true → sound T k ≡ true
+    → ((t : Tree) → conforms T k t ≡ true → clean T k (clean T k (clean T k t)) ≡ clean T k (clean T k t))
+    × ((t u : Tree) → conforms T k t ≡ true → conforms T k u ≡ true
+    → (clean T k (clean T k t) ≡ clean T k (clean T k u)) ↔ (form T k (clean T k t) ≡ form T k (clean T k u)))
+
+-- every tree that conforms by the tables where callbacks are maps of path items conforms by those where they may be
+-- references and may have extensions
+abbrev pub CallbacksKept : Type 0
+CallbacksKept = (k : Kind) (t : Tree) → sound tables_before_xml k ≡ true
+    → conforms tables_before_callbacks k t ≡ true → conforms tables_before_xml k t ≡ true
+
+-- a tree conforms by the tables where a schema may have `xml` exactly where it conforms by those where it may not,
+-- and what is asked under `xml` conforms
+abbrev pub XmlKept : Type 0
+XmlKept = (k : Kind) (t : Tree) → sound tables_before_xml k ≡ true → sound final_tables k ≡ true
+    → (conforms final_tables k t ≡ true)
+    ↔ ((conforms tables_before_xml k t ≡ true)
+    × ((a : Asking) → Among a (asked final_tables k t) → a.kind ≡ by xml_object
+    → conforms final_tables (by xml_object) a.tree ≡ true))
+
+-- of a tree whose objects name no member twice, a form is read whose maps hold no key twice; and a proper form whose
+-- maps hold no key twice is written as a tree whose objects name no member twice
+abbrev pub DistinctNames : Type 0
+DistinctNames = (T : Tables) (k : Kind)
+    → ((t : Tree) → well_named t ≡ true → distinct (form T k t) ≡ true)
+    × ((f : Form) → tables_sound T ≡ true → sound T k ≡ true → proper T k f ≡ true → distinct f ≡ true
+    → well_named (print T k f) ≡ true)
+
+-- a form is proper exactly where it is one of a value of the kind and none of its names and codes is unwritable:
+-- extensions begin with `x-`, the names of a callback do not, paths begin with `/`, and codes are of three digits
+-- from 100 or ranges of one digit
+abbrev pub Writable : Type 0
+Writable =
+    ((T : Tables) (k : Kind) (f : Form) → (proper T k f ≡ true) ↔ ((shaped T k f ≡ true) × (unwritable T k f ≡ [])))
+    × ((n : List ℕ) → is_written extensions (name n) ≡ begins (codes "x-") n)
+    × ((n : List ℕ) → is_written callback_names (name n) ≡ not (begins (codes "x-") n))
+    × ((n : List ℕ) → is_written path_names (name n) ≡ begins (codes "/") n)
+    × ((c : Code) → is_written status_names (coded c) ≡ writable_code c)

@@ -1,0 +1,3 @@
+pub mod CodeEq
+pub mod CodeTexts
+pub mod WordLaws

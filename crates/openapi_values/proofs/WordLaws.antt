@@ -1,0 +1,36 @@
+-- Looking for a word along the values of a set.
+use Rattle.std.proofs.Common.{◌≡◌, ℕ, suc, ◌+◌, ◌<◌, Bool, true, false, ◌&&◌, ◌||◌, ◌==◌, List, [], ◌∷◌}
+use Rattle.std.proofs.Common.{length, get_or, drop, map, refl, sym, ap, ◌∙◌, add-one}
+use Rattle.std.proofs.Math.Seq.{drop-cons}
+use Rattle.std.specs.Str.{bytes_eq}
+use Rattle.openapi_tables.specs.Lists.{same_text, has}
+
+-- the two tests of texts agree
+pub same_text-bytes_eq : (s t : List ℕ) → same_text s t ≡ bytes_eq s t
+same_text-bytes_eq [] [] = refl
+same_text-bytes_eq [] (b ∷ t) = refl
+same_text-bytes_eq (a ∷ s) [] = refl
+same_text-bytes_eq (a ∷ s) (b ∷ t) = ap (λ r. a == b && r) (same_text-bytes_eq s t)
+
+-- the values from an index on have the word where the first does, or those after it
+step : {X : Type 0} → (word : X → List ℕ) (xs : List X) (i : ℕ) (x : X) (t : List ℕ)
+    → i < length xs → x ≡ get_or xs i x
+    → has (map word (drop i xs)) t ≡ (bytes_eq (word x) t || has (map word (drop (i + 1) xs)) t)
+step word xs i x t low is =
+    ap (λ l. has (map word l) t) (drop-cons xs i x low)
+    ∙ ap (λ y. same_text (word y) t || has (map word (drop (suc i) xs)) t) (sym is)
+    ∙ ap (λ b. b || has (map word (drop (suc i) xs)) t) (same_text-bytes_eq (word x) t)
+    ∙ ap (λ k. bytes_eq (word x) t || has (map word (drop k xs)) t) (sym (add-one i))
+
+-- the set has the word, by a value whose word it is
+pub found : {X : Type 0} → (word : X → List ℕ) (xs : List X) (i : ℕ) (x : X) (t : List ℕ) (b : Bool)
+    → b ≡ has (map word (drop i xs)) t → i < length xs → x ≡ get_or xs i x → bytes_eq (word x) t ≡ true → true ≡ b
+found word xs i x t b left low is same =
+    sym (left ∙ step word xs i x t low is ∙ ap (λ c. c || has (map word (drop (i + 1) xs)) t) same)
+
+-- the set has the word where a later value has, by a value whose word it is not
+pub passed : {X : Type 0} → (word : X → List ℕ) (xs : List X) (i : ℕ) (x : X) (t : List ℕ) (b : Bool)
+    → b ≡ has (map word (drop i xs)) t → i < length xs → x ≡ get_or xs i x → bytes_eq (word x) t ≡ false
+    → b ≡ has (map word (drop (i + 1) xs)) t
+passed word xs i x t b left low is other =
+    left ∙ step word xs i x t low is ∙ ap (λ c. c || has (map word (drop (i + 1) xs)) t) other

@@ -1,0 +1,4 @@
+pub mod Reference
+pub mod StatusCode
+pub mod VariantOr
+pub mod Words

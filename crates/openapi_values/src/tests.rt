@@ -1,0 +1,280 @@
+ghost use Rattle.std.specs.Prelude.{◌≡◌, IfOk, is_ok, string_bytes};
+ghost use Rattle.openapi_tables.specs.Lists.{has};
+ghost use Rattle.openapi_tables.specs.Tables.{number_formats};
+ghost use Rattle.openapi_values.specs.VariantOr.{format_form, variant_form};
+ghost use Rattle.openapi_values.specs.Words.{number_format_word};
+
+use crate::*;
+use openapi_node::Whole;
+use std::alloc::{AllocError, Global};
+use std::fmt;
+use std::process::Abort;
+use std::str::FromStr;
+use std::test::Fail;
+
+mod recursion;
+
+/// Why a reader refuses a text.
+#[derive(Clone, Copy, Debug, PartialEq)]
+enum Refusal {
+    UnknownVariant,
+}
+
+/// A reader of one of a set, written once for every set.
+fn one_of<T: Word>(text: &str) -> Result<T, Refusal>
+    ensures found { is_ok result ≡ has T.words text.now }
+    ensures value { IfOk result (λ value. T.word_of value ≡ text.now) }
+{
+    T::from_word(text).ok_or(Refusal::UnknownVariant)
+}
+
+/// The format of a number that a text gives. It shows that the conversion is exact for a format.
+fn number_format(text: String) -> VariantOrUnknown<NumberFormat>
+    ensures { variant_form number_format_word result ≡ format_form number_formats (string_bytes text) }
+{
+    text.into()
+}
+
+/// An item that went into a box and out of it.
+fn boxed_and_unboxed<T: Drop>(alloc: Global, item: T) -> Result<ReferenceOr<T>, AllocError>
+    ensures { IfOk result (λ made. made ≡ ReferenceOr.Item item) }
+{
+    Ok(ReferenceOr::boxed_item(alloc, item)?.unbox())
+}
+
+fn debug_text<T: fmt::Debug>(alloc: Global, value: &T) -> Result<String, AllocError> {
+    format!(in alloc; "{value:?}")
+}
+
+fn reads_set<T>(rt: &impl Abort, set: &[(T, &str)])
+where
+    T: Word + FromStr<Err = ()> + PartialEq + fmt::Debug,
+{
+    assert_eq!(rt; T::all().len(), set.len());
+    for (value, word) in set {
+        assert_eq!(rt; value.as_str(), *word);
+        assert_eq!(rt; T::from_str(*word), Ok(*value));
+        assert_eq!(rt; one_of(*word), Ok(*value));
+    }
+    for other in ["", "other", "Date", "simples", "for"] {
+        assert_eq!(rt; T::from_str(other), Err(()));
+        assert_eq!(rt; one_of::<T>(other), Err(Refusal::UnknownVariant));
+    }
+}
+
+#[test]
+fn reads_status_codes(rt: HostRuntime) -> Result<(), Fail> {
+    let texts = [
+        ("099", Err(())),
+        ("+20", Err(())),
+        ("6666", Err(())),
+        ("2XY", Err(())),
+        ("", Err(())),
+        ("2X", Err(())),
+        ("XXX", Err(())),
+        ("2é", Err(())),
+        ("0XX", Ok(StatusCode::Range(0))),
+        ("9xX", Ok(StatusCode::Range(9))),
+        ("4xx", Ok(StatusCode::Range(4))),
+        ("200", Ok(StatusCode::Code(200))),
+    ];
+    for (text, want) in texts {
+        assert_eq!(rt; StatusCode::from_str(text), want, "of {text}");
+    }
+    let numbers = [
+        (-200, Err(())),
+        (99, Err(())),
+        (1000, Err(())),
+        (100, Ok(StatusCode::Code(100))),
+        (200, Ok(StatusCode::Code(200))),
+        (999, Ok(StatusCode::Code(999))),
+    ];
+    for (number, want) in numbers {
+        let whole = Whole::new(number).ok_or("a whole number")?;
+        assert_eq!(rt; StatusCode::try_from(whole), want, "of {number}");
+    }
+    Ok(())
+}
+
+#[test]
+fn orders_and_prints_status_codes(rt: HostRuntime) -> Result<(), Fail> {
+    let rising = [
+        (StatusCode::Code(99), "99", false),
+        (StatusCode::Code(100), "100", true),
+        (StatusCode::Code(404), "404", true),
+        (StatusCode::Code(999), "999", true),
+        (StatusCode::Code(1000), "1000", false),
+        (StatusCode::Range(0), "0XX", true),
+        (StatusCode::Range(4), "4XX", true),
+        (StatusCode::Range(9), "9XX", true),
+        (StatusCode::Range(10), "10XX", false),
+    ];
+    for (place, (code, text, writable)) in rising.iter().enumerate() {
+        assert_eq!(rt; code.to_string(rt.alloc())?.as_str(), *text);
+        assert_eq!(rt; code.is_writable(), *writable, "of {text}");
+        for (later, (other, ..)) in rising.iter().enumerate() {
+            assert_eq!(rt; code.cmp(other), place.cmp(&later), "of {text}");
+            assert_eq!(rt; code == other, place == later, "of {text}");
+        }
+    }
+    assert_eq!(rt;
+        debug_text(rt.alloc(), &StatusCode::Range(4))?.as_str(),
+        "Range(4)"
+    );
+    Ok(())
+}
+
+#[test]
+fn reads_sets_of_words(rt: HostRuntime) -> Result<(), Fail> {
+    reads_set(
+        &rt,
+        &[
+            (NumberFormat::Float, "float"),
+            (NumberFormat::Double, "double"),
+        ],
+    );
+    reads_set(
+        &rt,
+        &[
+            (IntegerFormat::Int32, "int32"),
+            (IntegerFormat::Int64, "int64"),
+        ],
+    );
+    reads_set(
+        &rt,
+        &[
+            (StringFormat::Date, "date"),
+            (StringFormat::DateTime, "date-time"),
+            (StringFormat::Password, "password"),
+            (StringFormat::Byte, "byte"),
+            (StringFormat::Binary, "binary"),
+        ],
+    );
+    reads_set(
+        &rt,
+        &[
+            (PathStyle::Matrix, "matrix"),
+            (PathStyle::Label, "label"),
+            (PathStyle::Simple, "simple"),
+        ],
+    );
+    reads_set(
+        &rt,
+        &[
+            (QueryStyle::Form, "form"),
+            (QueryStyle::SpaceDelimited, "spaceDelimited"),
+            (QueryStyle::PipeDelimited, "pipeDelimited"),
+            (QueryStyle::DeepObject, "deepObject"),
+        ],
+    );
+    reads_set(&rt, &[(CookieStyle::Form, "form")]);
+    reads_set(&rt, &[(HeaderStyle::Simple, "simple")]);
+    reads_set(
+        &rt,
+        &[
+            (APIKeyLocation::Query, "query"),
+            (APIKeyLocation::Header, "header"),
+            (APIKeyLocation::Cookie, "cookie"),
+        ],
+    );
+    Ok(())
+}
+
+#[test]
+fn prints_formats_and_gives_defaults(rt: HostRuntime) -> Result<(), Fail> {
+    let alloc = rt.alloc();
+    assert_eq!(rt; NumberFormat::Double.to_string(alloc)?.as_str(), "double");
+    assert_eq!(rt; IntegerFormat::Int64.to_string(alloc)?.as_str(), "int64");
+    assert_eq!(rt;
+        StringFormat::DateTime.to_string(alloc)?.as_str(),
+        "date-time"
+    );
+    let padded = format!(in alloc; "{:>7}", StringFormat::Date)?;
+    assert_eq!(rt; padded.as_str(), "   date");
+    assert_eq!(rt;
+        debug_text(alloc, &StringFormat::DateTime)?.as_str(),
+        "DateTime"
+    );
+    assert_eq!(rt; PathStyle::default(), PathStyle::Simple);
+    assert_eq!(rt; QueryStyle::default(), QueryStyle::Form);
+    assert_eq!(rt; CookieStyle::default(), CookieStyle::Form);
+    assert_eq!(rt; HeaderStyle::default(), HeaderStyle::Simple);
+    assert!(rt; is_false(&false) && !is_false(&true));
+    Ok(())
+}
+
+#[test]
+fn keeps_texts_that_are_no_known_word(rt: HostRuntime) -> Result<(), Fail> {
+    let alloc = rt.alloc();
+    let yolo = String::from_str(alloc, "yolo")?;
+    let cases = [
+        (None, VariantOrUnknownOrEmpty::Empty, "Empty"),
+        (
+            Some("date"),
+            VariantOrUnknownOrEmpty::Item(StringFormat::Date),
+            "Item(Date)",
+        ),
+        (
+            Some("yolo"),
+            VariantOrUnknownOrEmpty::Unknown(yolo),
+            "Unknown(\"yolo\")",
+        ),
+    ];
+    for (text, want, debug) in &cases {
+        let made = match text {
+            Some(text) => VariantOrUnknownOrEmpty::from(Some(String::from_str(alloc, *text)?)),
+            None => VariantOrUnknownOrEmpty::from(None),
+        };
+        assert_eq!(rt; &made, want);
+        assert_eq!(rt; &made.clone()?, want);
+        assert_eq!(rt; made.as_str(), *text);
+        assert_eq!(rt; made.is_empty(), text.is_none());
+        assert_eq!(rt; debug_text(alloc, &made)?.as_str(), *debug);
+        if let Some(text) = text {
+            assert_eq!(rt; &VariantOrUnknownOrEmpty::from_text(alloc, *text)?, want);
+        }
+    }
+    assert_eq!(rt;
+        VariantOrUnknownOrEmpty::<u8>::default(),
+        VariantOrUnknownOrEmpty::Empty
+    );
+    let known = number_format(String::from_str(alloc, "double")?);
+    assert_eq!(rt; known.as_str(), "double");
+    assert_eq!(rt; known, VariantOrUnknown::Item(NumberFormat::Double));
+    let other = number_format(String::from_str(alloc, "int32")?);
+    assert_eq!(rt; other.as_str(), "int32");
+    assert_eq!(rt;
+        &other.clone()?,
+        &VariantOrUnknown::from_text(alloc, "int32")?
+    );
+    assert_eq!(rt; debug_text(alloc, &other)?.as_str(), "Unknown(\"int32\")");
+    let number: VariantOrUnknown<u8> = String::from_str(alloc, "256")?.into();
+    assert_eq!(rt;
+        number,
+        VariantOrUnknown::Unknown(String::from_str(alloc, "256")?)
+    );
+    Ok(())
+}
+
+#[test]
+fn keeps_references_and_items(rt: HostRuntime) -> Result<(), Fail> {
+    let alloc = rt.alloc();
+    let item = ReferenceOr::Item(1);
+    assert_eq!(rt; item.as_item(), Some(&1));
+    assert_eq!(rt; item.clone()?, ReferenceOr::Item(1));
+    assert_eq!(rt; debug_text(alloc, &item)?.as_str(), "Item(1)");
+    assert_eq!(rt; item.into_item(), Some(1));
+    let empty = ReferenceOr::<u8>::Reference {
+        reference: String::new(alloc),
+    };
+    assert_eq!(rt; empty.as_item(), None);
+    assert_eq!(rt; empty.into_item(), None);
+    let reference = ReferenceOr::<Box<u8>>::ref_(alloc, "#/a")?.unbox();
+    assert_eq!(rt; &reference, &ReferenceOr::ref_(alloc, "#/a")?);
+    assert_eq!(rt;
+        debug_text(alloc, &reference)?.as_str(),
+        "Reference { reference: \"#/a\" }"
+    );
+    assert_eq!(rt; boxed_and_unboxed(alloc, 7)?, ReferenceOr::Item(7));
+    Ok(())
+}

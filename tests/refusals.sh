@@ -1,0 +1,66 @@
+#!/usr/bin/env bash
+# Runs the built program with its Nth request for memory refused, for N from 1 until a run meets no refusal. Each run
+# that met one must write nothing, say `out of memory` and end with status 3; the last must write what a run with ample
+# memory does.
+#
+# usage: tests/refusals.sh COMMAND FILE [COMMAND FILE ..]      (with none: tag examples/tag.json)
+set -eu
+top=$(cd "$(dirname "${BASH_SOURCE[0]}")/.." && pwd)
+[ $# -gt 0 ] || set -- tag "$top/examples/tag.json"
+work=$(mktemp -d)
+trap 'rm -rf "$work"' EXIT
+
+cat > "$work/refuse.c" <<'C'
+#define _GNU_SOURCE
+#include <dlfcn.h>
+#include <errno.h>
+#include <stdlib.h>
+#include <unistd.h>
+
+/* Refuses one request for memory, the one whose number REFUSE gives, and tells on descriptor 9 that it did. */
+static long number = -1, count;
+
+static int refused(void) {
+    if (number < 0) {
+        const char *text = getenv("REFUSE");
+        number = text ? atol(text) : 0;
+    }
+    if (++count != number) return 0;
+    if (write(9, "refused\n", 8) < 0) abort();
+    errno = ENOMEM;
+    return 1;
+}
+
+#define REAL(name) static __typeof__(&name) real; if (!real) real = dlsym(RTLD_NEXT, #name)
+
+void *malloc(size_t size) { REAL(malloc); return refused() ? 0 : real(size); }
+void *realloc(void *p, size_t size) { REAL(realloc); return refused() ? 0 : real(p, size); }
+void *aligned_alloc(size_t a, size_t size) { REAL(aligned_alloc); return refused() ? 0 : real(a, size); }
+int posix_memalign(void **p, size_t a, size_t size) { REAL(posix_memalign); return refused() ? ENOMEM : real(p, a, size); }
+C
+cc -shared -fPIC -O1 -o "$work/refuse.so" "$work/refuse.c" -ldl
+
+while [ $# -gt 1 ]; do
+  command=$1 input=$2
+  shift 2
+  want=$("$top/openapi_clean" "$command" < "$input")
+  program=$top/crates/openapi_clean/out/openapi_clean
+  met=0
+  for ((n = 1; ; n++)); do
+    status=0
+    REFUSE=$n LD_PRELOAD=$work/refuse.so "$program" "$command" \
+      < "$input" > "$work/out" 2> "$work/err" 9> "$work/met" || status=$?
+    if [ ! -s "$work/met" ]; then break; fi
+    met=$((met + 1))
+    said=$(cat "$work/err")
+    if [ $status -ne 3 ] || [ -s "$work/out" ] || [ "$said" != 'out of memory' ]; then
+      echo "request $n of $command on $input refused: status $status, said '$said'"
+      exit 1
+    fi
+  done
+  if [ $status -ne 0 ] || [ "$(cat "$work/out")" != "$want" ]; then
+    echo "$command on $input: with none refused, status $status"
+    exit 1
+  fi
+  echo "$command on $input: each of $met requests for memory was refused in turn and told as out of memory"
+done

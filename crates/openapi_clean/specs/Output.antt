@@ -12,7 +12,7 @@ use Rattle.openapi_tables.specs.Kind.{Kind}
 use Rattle.openapi_tables.specs.Tables.{final_tables}
 use Rattle.openapi_tables.specs.Conforms.{conforms}
 use Rattle.openapi_tables.specs.Print.{clean}
-use Rattle.openapi_records.specs.Gives.{Fails}
+use Rattle.openapi_rows.specs.Gives.{Fails}
 use Rattle.openapi_clean.specs.declared.fault.RunFault.{RunFault}
 use Rattle.openapi_clean.specs.declared.fault.RunFault.TheVariants.{Refused, NotJson, Memory, Read, Write}
 

@@ -1,4 +1,1 @@
-pub mod Forms
-pub mod Gives
-pub mod Entries
 pub mod Objects

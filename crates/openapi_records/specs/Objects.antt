@@ -1,7 +1,7 @@
 -- The forms of the fields of each object that is read by a table, in the order of its rows.
 use Rattle.std.specs.Prelude.{List, [], ◌∷◌}
 use Rattle.openapi_tables.specs.Form.{Form, leaf}
-use Rattle.openapi_records.specs.Forms.{
+use Rattle.openapi_rows.specs.Forms.{
   text_form,
   flag_form,
   optional_form,

@@ -3,20 +3,18 @@ ghost use Rattle.std.proofs.Common.{lit≤, refl};
 ghost use Rattle.std.specs.Prelude.{◌≡◌, ◌+◌, ◌≤◌, ◌*◌, true, false, [], None};
 ghost use Rattle.openapi_tables.specs.Kind.{by, oauth2_flows};
 ghost use Rattle.openapi_tables.proofs.SlotWriting.{final_apart};
-ghost use Rattle.openapi_records.specs.Forms.{record_form, record_slots};
+ghost use Rattle.openapi_rows.specs.Forms.{record_form, record_slots};
 ghost use Rattle.openapi_records.specs.Objects.{oauth2_flows_rows};
 
 use crate::authorization_code_flow::AuthorizationCodeOAuth2Flow;
-use crate::classes::{extensions, put_extensions};
 use crate::client_credentials_flow::ClientCredentialsOAuth2Flow;
-use crate::from_node::FromNode;
 use crate::implicit_flow::ImplicitOAuth2Flow;
-use crate::object::{Object, Record, read_record, write_record};
 use crate::password_flow::PasswordOAuth2Flow;
-use crate::put_rows::put_optional;
-use crate::rows::optional;
-use crate::to_node::ToNode;
 use openapi_node::{Fault, Node, OrderedMap, Steps, View};
+use openapi_rows::{
+    FromNode, Object, Record, ToNode, extensions, optional, put_extensions, put_optional,
+    read_record, write_record,
+};
 use std::alloc::Global;
 
 /// The OAuth Flows Object: the flows that a server offers.

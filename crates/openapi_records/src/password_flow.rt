@@ -3,16 +3,14 @@ ghost use Rattle.std.proofs.Common.{lit≤, refl};
 ghost use Rattle.std.specs.Prelude.{◌≡◌, ◌+◌, ◌≤◌, ◌*◌, true, false};
 ghost use Rattle.openapi_tables.specs.Kind.{by, password_flow};
 ghost use Rattle.openapi_tables.proofs.SlotWriting.{final_apart};
-ghost use Rattle.openapi_records.specs.Forms.{record_form, record_slots};
+ghost use Rattle.openapi_rows.specs.Forms.{record_form, record_slots};
 ghost use Rattle.openapi_records.specs.Objects.{password_flow_rows};
 
-use crate::classes::{extensions, put_extensions};
-use crate::from_node::FromNode;
-use crate::object::{Object, Record, read_record, write_record};
-use crate::put_rows::{put_optional, put_required};
-use crate::rows::{optional, required};
-use crate::to_node::ToNode;
 use openapi_node::{Fault, Node, OrderedMap, Steps, View};
+use openapi_rows::{
+    FromNode, Object, Record, ToNode, extensions, optional, put_extensions, put_optional,
+    put_required, read_record, required, write_record,
+};
 use std::alloc::Global;
 
 /// The OAuth Flow Object: the flow by the password of the owner.

@@ -1,6 +1,7 @@
 //! Each object read and written by its table, and the names that are not writable.
 use crate::*;
 use openapi_node::{Cause, Fault, Node, OrderedMap, Steps, View};
+use openapi_rows::{FromNode, ToNode};
 use serde_json::Value;
 use std::alloc::Global;
 use std::test::Fail;

@@ -35,7 +35,7 @@ use Rattle.openapi_schema.specs.Enumerations.{entry_tree, GivesEntries}
 use Rattle.openapi_schema.specs.KindNames.{trees_form}
 use Rattle.openapi_schema.specs.Kinds.{GivesEnumeration, trees_in, trees_or_none}
 use Rattle.openapi_tables.specs.Form.{Form, leaf, known, other, sequence, named, no_forms, no_named, forms_of}
-use Rattle.openapi_records.specs.Forms.{optional_form, text_form, map_form}
+use Rattle.openapi_rows.specs.Forms.{optional_form, text_form, map_form}
 use Rattle.openapi_values.specs.VariantOr.{IsVariantOrEmptyOf, variant_or_empty_form}
 use Rattle.openapi_values.specs.Words.{IsWordRead}
 use Rattle.openapi_values.specs.declared.variant_or.VariantOrUnknownOrEmpty.{VariantOrUnknownOrEmpty}

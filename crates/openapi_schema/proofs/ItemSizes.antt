@@ -2,7 +2,7 @@
 use Rattle.std.proofs.Common.{◌≡◌, ℕ, ◌+◌, ◌<◌, ◌≤◌, List, [], ◌∷◌, length, get_or, drop, sym, ap, ◌∙◌, add-one, arith}
 use Rattle.std.proofs.Math.Seq.{drop-cons}
 use Rattle.openapi_node.specs.Tree.{Tree, size_of, items_of, items_size}
-use Rattle.openapi_records.proofs.Below.{size-positive}
+use Rattle.openapi_rows.proofs.Below.{size-positive}
 
 -- what is left from an element on is that element, and what is left after it
 pub items_size_drop : (ts : List Tree) (i : ℕ) (t : Tree) → i < length ts → t ≡ get_or ts i t

@@ -13,7 +13,7 @@ use Rattle.openapi_tables.specs.Members.{
   array_sort,
   any_sort,
 }
-use Rattle.openapi_records.specs.Forms.{text_form, optional_form, map_form}
+use Rattle.openapi_rows.specs.Forms.{text_form, optional_form, map_form}
 use Rattle.openapi_values.specs.Reference.{reference_form}
 use Rattle.openapi_values.specs.declared.reference.ReferenceOr.{ReferenceOr}
 use Rattle.openapi_values.specs.declared.reference.ReferenceOr.TheVariants as r

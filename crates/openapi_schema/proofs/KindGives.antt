@@ -30,7 +30,7 @@ use Rattle.openapi_tables.specs.ByRow.{row_form, AreRows, rows_weight, asking, B
 use Rattle.openapi_tables.proofs.ListLaws.{each-join}
 use Rattle.openapi_tables.proofs.Taken.{trees_of-members}
 use Rattle.openapi_tables.proofs.ByRowLaws.{rows_hold, rows_weight-le, among_right}
-use Rattle.openapi_records.specs.Gives.{FailsBy, Fails}
+use Rattle.openapi_rows.specs.Gives.{FailsBy, Fails}
 use Rattle.openapi_schema.specs.RawSlots.{optional_rows, sort_slots}
 use Rattle.openapi_schema.proofs.SortSlots.{sort_slots-read}
 

@@ -28,7 +28,7 @@ use Rattle.openapi_tables.specs.Members.{Sort, any_sort, sort_of, further}
 use Rattle.openapi_tables.specs.Form.{Form}
 use Rattle.openapi_tables.specs.Proper.{is_absent}
 use Rattle.openapi_tables.specs.ByRow.{AreRows}
-use Rattle.openapi_records.specs.Forms.{text_form, optional_form, map_form}
+use Rattle.openapi_rows.specs.Forms.{text_form, optional_form, map_form}
 use Rattle.openapi_values.specs.Reference.{reference_form}
 use Rattle.openapi_values.specs.declared.reference.ReferenceOr.{ReferenceOr}
 use Rattle.openapi_values.specs.declared.reference.ReferenceOr.TheVariants as r

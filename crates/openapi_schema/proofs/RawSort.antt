@@ -53,7 +53,7 @@ use Rattle.openapi_tables.specs.Read.{form, root_form}
 use Rattle.openapi_tables.specs.Proper.{is_absent}
 use Rattle.openapi_tables.specs.ByRow.{RowGives, AreRows}
 use Rattle.openapi_tables.proofs.ByRowLaws.{any_form}
-use Rattle.openapi_records.specs.Forms.{optional_form, text_form}
+use Rattle.openapi_rows.specs.Forms.{optional_form, text_form}
 use Rattle.openapi_schema.specs.Masks.{presence, IsType, sort_by_names}
 use Rattle.openapi_schema.specs.RawSlots.{optional_rows}
 use Rattle.openapi_schema.specs.SchemaForms.{number_form}

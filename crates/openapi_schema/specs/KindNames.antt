@@ -3,7 +3,7 @@ use Rattle.std.specs.Prelude.{Bool, List, [], ◌∷◌, is_some}
 use Rattle.openapi_node.specs.Tree.{Tree}
 use Rattle.openapi_tables.specs.Lists.{each, join}
 use Rattle.openapi_tables.specs.Form.{Form, leaf, sequence, forms_of}
-use Rattle.openapi_records.specs.Forms.{text_form, optional_form, map_form}
+use Rattle.openapi_rows.specs.Forms.{text_form, optional_form, map_form}
 use Rattle.openapi_values.specs.Reference.{reference_form}
 use Rattle.openapi_schema.specs.SchemaForms.{flag_form, number_form, size_form, list_form, schema_form, additional_form}
 use Rattle.openapi_schema.specs.declared.kind_names.FirstNames.{FirstNames}

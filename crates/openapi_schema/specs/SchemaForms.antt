@@ -19,7 +19,7 @@ use Rattle.openapi_tables.specs.Members.{
   any_sort,
   sort,
 }
-use Rattle.openapi_records.specs.Forms.{text_form, optional_form, map_form, extensions_form}
+use Rattle.openapi_rows.specs.Forms.{text_form, optional_form, map_form, extensions_form}
 use Rattle.openapi_values.specs.Reference.{reference_form}
 use Rattle.openapi_values.specs.VariantOr.{variant_or_empty_form}
 use Rattle.openapi_values.specs.Words.{number_format_word, integer_format_word, string_format_word}

@@ -9,9 +9,10 @@ pub use openapi_map::OrderedMap;
 pub use openapi_node::{Cause, Expected, Fault, Node, PlaceStep, Steps, View, Whole};
 pub use openapi_records::{
     AuthorizationCodeOAuth2Flow, ClientCredentialsOAuth2Flow, Contact, Discriminator, Example,
-    ExternalDocumentation, FromNode, ImplicitOAuth2Flow, Info, License, OAuth2Flows,
-    PasswordOAuth2Flow, Server, ServerVariable, Tag, ToNode, Xml,
+    ExternalDocumentation, ImplicitOAuth2Flow, Info, License, OAuth2Flows,
+    PasswordOAuth2Flow, Server, ServerVariable, Tag, Xml,
 };
+pub use openapi_rows::{FromNode, ToNode};
 pub use openapi_tables::laws;
 pub use openapi_values::{
     APIKeyLocation, CookieStyle, HeaderStyle, IntegerFormat, NumberFormat, PathStyle, QueryStyle,

@@ -1,9 +1,0 @@
-pub mod Below
-pub mod RowReading
-pub mod Records
-pub mod Losing
-pub mod Chosen
-pub mod Written
-pub mod Classed
-pub mod Elements
-pub mod Mapped

@@ -1,0 +1,88 @@
+//! Lists.
+ghost use Rattle.std.proofs.Common.{lit≤, refl};
+ghost use Rattle.std.specs.Prelude.{◌≡◌, ◌+◌, ◌≤◌, ◌*◌, true, false, [], ◌++◌, ◌∷◌, OnOk, IfErr};
+ghost use Rattle.openapi_node.specs.Fault.{IsMemory};
+ghost use Rattle.openapi_node.specs.Tree.{list, items_of, items_size};
+ghost use Rattle.openapi_tables.specs.Kind.{list_of};
+ghost use Rattle.openapi_rows.specs.Forms.{list_form};
+ghost use Rattle.openapi_rows.specs.Gives.{Gives, WrittenAs};
+
+use crate::from_node::FromNode;
+use crate::place::at_index;
+use crate::to_node::ToNode;
+use openapi_node::{Cause, Expected, Fault, Node, Steps, View};
+use std::alloc::Global;
+
+/// Reads the elements of a list, in order.
+pub fn items<T: FromNode + Drop>(
+    alloc: Global,
+    nodes: &[Node],
+    steps: &mut Steps,
+) -> Result<Vec<T>, Fault>
+    ensures reads { Gives (list_form T.form_of) result (list_of T.kind) (list (items_of nodes.now)) }
+    ensures rises { steps.old ≤ steps.new }
+    ensures count { steps.new ≤ steps.old + 3 * items_size (items_of nodes.now) }
+{
+    let Ok(mut values) = Vec::with_capacity(alloc, nodes.len()) else {
+        return Err(Fault::memory(alloc));
+    };
+    for (i, node) in nodes.iter().enumerate() {
+        match at_index(alloc, i, T::from_node(alloc, node, steps)) {
+            Ok(value) => push(alloc, &mut values, value)?,
+            Err(fault) => return Err(fault),
+        }
+    }
+    Ok(values)
+}
+
+/// Puts a value last.
+fn push<T: Drop>(alloc: Global, values: &mut Vec<T>, value: T) -> Result<(), Fault>
+    ensures ok { OnOk result (values.new.items ≡ values.old.items ++ value ∷ []) }
+    ensures err { IfErr result IsMemory }
+{
+    match values.push(value) {
+        Ok(()) => Ok(()),
+        Err(_) => Err(Fault::memory(alloc)),
+    }
+}
+
+/// Writes the elements of a list, in order.
+pub fn write_items<T: ToNode>(alloc: Global, values: &Vec<T>) -> Result<Node, Fault>
+    ensures { WrittenAs (list_of T.kind) (list_form T.form_of values.now) result }
+{
+    let Ok(mut nodes) = Vec::with_capacity(alloc, values.len()) else {
+        return Err(Fault::memory(alloc));
+    };
+    for (i, value) in values.iter().enumerate() {
+        match value.to_node(alloc) {
+            Ok(node) => push(alloc, &mut nodes, node)?,
+            Err(fault) => return Err(fault.at_index(alloc, i)),
+        }
+    }
+    Ok(Node::list(nodes))
+}
+
+impl<T: FromNode + Drop> FromNode for Vec<T> {
+    ghost kind = { list_of T.kind };
+
+    ghost form_of = { list_form T.form_of };
+
+    fn from_view(alloc: Global, view: &View<'_>, steps: &mut Steps) -> Result<Vec<T>, Fault> {
+        match view {
+            View::List(nodes) => items(alloc, nodes, steps),
+            _ => Err(Fault::new(alloc, Cause::WrongKind(Expected::List))),
+        }
+    }
+
+    ghost few = { lit≤ tt };
+
+    ghost well_made = { T.well_made };
+}
+
+impl<T: ToNode + Drop> ToNode for Vec<T> {
+    fn to_node(&self, alloc: Global) -> Result<Node, Fault> {
+        write_items(alloc, self)
+    }
+
+    ghost there = { λ x. refl };
+}

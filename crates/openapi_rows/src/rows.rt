@@ -1,0 +1,182 @@
+//! The rows of a table, read among the members of an object.
+ghost use Rattle.std.specs.Prelude.{◌≡◌, ◌+◌, ◌≤◌, ◌*◌, Some};
+ghost use Rattle.openapi_node.specs.Tree.{members_of, find};
+ghost use Rattle.openapi_node.specs.View.{shown};
+ghost use Rattle.openapi_tables.specs.ByRow.{row_where, is_named, row_weight, rows_asked};
+ghost use Rattle.openapi_tables.specs.Kind as kinds;
+ghost use Rattle.openapi_tables.specs.Members.{is_null};
+ghost use Rattle.openapi_tables.specs.Tables.{final_tables};
+ghost use Rattle.openapi_rows.specs.Forms.{flag_form, optional_form};
+ghost use Rattle.openapi_rows.specs.Gives.{GivesRow, GivesMember, unless_null};
+
+use crate::collection::Collection;
+use crate::from_node::FromNode;
+use crate::object::Object;
+use crate::place::at_name;
+use openapi_node::{Cause, Fault, Node, OrderedMap, Steps, View, find_member};
+use std::alloc::Global;
+
+/// The member of a name, where it is there.
+fn found<T: FromNode>(
+    alloc: Global,
+    members: &OrderedMap<Node>,
+    name: &str,
+    steps: &mut Steps,
+) -> Result<Option<T>, Fault>
+    ensures reads { GivesMember T.form_of result T.kind name.now (find name.now (members_of members.now)) }
+    ensures rises { steps.old ≤ steps.new }
+    ensures count { steps.new ≤ steps.old + 3 * row_weight (kinds.row name.now kinds.required T.kind)
+        (members_of members.now) }
+{
+    let Some(node) = find_member(members, name) else {
+        return Ok(None);
+    };
+    match at_name(alloc, name, T::from_node(alloc, node, steps)) {
+        Ok(value) => Ok(Some(value)),
+        Err(fault) => Err(fault),
+    }
+}
+
+/// Whether null is shown.
+fn is_null(view: &View<'_>) -> bool
+    ensures { result ≡ is_null (shown view.now) }
+{
+    match view {
+        View::Null => true,
+        _ => false,
+    }
+}
+
+/// The member of a name, where it is there and not null.
+fn present<T: FromNode>(
+    alloc: Global,
+    members: &OrderedMap<Node>,
+    name: &str,
+    steps: &mut Steps,
+) -> Result<Option<T>, Fault>
+    ensures reads { GivesMember T.form_of result T.kind name.now (unless_null (find name.now
+        (members_of members.now))) }
+    ensures rises { steps.old ≤ steps.new }
+    ensures count { steps.new ≤ steps.old + 3 * row_weight (kinds.row name.now kinds.optional T.kind)
+        (members_of members.now) }
+{
+    let Some(node) = find_member(members, name) else {
+        return Ok(None);
+    };
+    let view = node.open(steps);
+    if is_null(&view) {
+        return Ok(None);
+    }
+    match at_name(alloc, name, T::from_view(alloc, &view, steps)) {
+        Ok(value) => Ok(Some(value)),
+        Err(fault) => Err(fault),
+    }
+}
+
+/// A member that has to be there.
+pub fn required<R: Object, T: FromNode>(
+    alloc: Global,
+    members: &OrderedMap<Node>,
+    name: &'static str,
+    steps: &mut Steps,
+) -> Result<T, Fault>
+    requires row { row_where (is_named name.now) (rows_asked final_tables R.object) ≡ Some
+        (kinds.row name.now kinds.required T.kind) }
+    ensures reads { GivesRow T.form_of result R.object (kinds.row name.entry.now kinds.required T.kind)
+        (members_of members.now) }
+    ensures rises { steps.old ≤ steps.new }
+    ensures count { steps.new ≤ steps.old + 3 * row_weight (kinds.row name.entry.now kinds.required T.kind)
+        (members_of members.now) }
+{
+    match found(alloc, members, name, steps) {
+        Ok(member) => match member {
+            Some(value) => Ok(value),
+            None => Err(Fault::new(alloc, Cause::Missing(name))),
+        },
+        Err(fault) => Err(fault),
+    }
+}
+
+/// A member that may be missing or null.
+pub fn optional<R: Object, T: FromNode>(
+    alloc: Global,
+    members: &OrderedMap<Node>,
+    name: &'static str,
+    steps: &mut Steps,
+) -> Result<Option<T>, Fault>
+    requires row { row_where (is_named name.now) (rows_asked final_tables R.object) ≡ Some
+        (kinds.row name.now kinds.optional T.kind) }
+    ensures reads { GivesRow (optional_form T.form_of) result R.object
+        (kinds.row name.entry.now kinds.optional T.kind) (members_of members.now) }
+    ensures rises { steps.old ≤ steps.new }
+    ensures count { steps.new ≤ steps.old + 3 * row_weight (kinds.row name.entry.now kinds.optional T.kind)
+        (members_of members.now) }
+{
+    present(alloc, members, name, steps)
+}
+
+/// A member that may be missing or null, and is written as null where it is.
+pub fn nullable<R: Object, T: FromNode>(
+    alloc: Global,
+    members: &OrderedMap<Node>,
+    name: &'static str,
+    steps: &mut Steps,
+) -> Result<Option<T>, Fault>
+    requires row { row_where (is_named name.now) (rows_asked final_tables R.object) ≡ Some
+        (kinds.row name.now kinds.nullable T.kind) }
+    ensures reads { GivesRow (optional_form T.form_of) result R.object
+        (kinds.row name.entry.now kinds.nullable T.kind) (members_of members.now) }
+    ensures rises { steps.old ≤ steps.new }
+    ensures count { steps.new ≤ steps.old + 3 * row_weight (kinds.row name.entry.now kinds.nullable T.kind)
+        (members_of members.now) }
+{
+    present(alloc, members, name, steps)
+}
+
+/// A list or a map that is empty where the member is missing.
+pub fn listed<R: Object, T: Collection>(
+    alloc: Global,
+    members: &OrderedMap<Node>,
+    name: &'static str,
+    steps: &mut Steps,
+) -> Result<T, Fault>
+    requires row { row_where (is_named name.now) (rows_asked final_tables R.object) ≡ Some
+        (kinds.row name.now kinds.listed T.kind) }
+    ensures reads { GivesRow T.form_of result R.object (kinds.row name.entry.now kinds.listed T.kind)
+        (members_of members.now) }
+    ensures rises { steps.old ≤ steps.new }
+    ensures count { steps.new ≤ steps.old + 3 * row_weight (kinds.row name.entry.now kinds.listed T.kind)
+        (members_of members.now) }
+{
+    match found(alloc, members, name, steps) {
+        Ok(member) => match member {
+            Some(value) => Ok(value),
+            None => Ok(T::empty(alloc)),
+        },
+        Err(fault) => Err(fault),
+    }
+}
+
+/// A flag that is false where the member is missing.
+pub fn flag<R: Object>(
+    alloc: Global,
+    members: &OrderedMap<Node>,
+    name: &'static str,
+    steps: &mut Steps,
+) -> Result<bool, Fault>
+    requires row { row_where (is_named name.now) (rows_asked final_tables R.object) ≡ Some
+        (kinds.row name.now kinds.flagged kinds.any_flag) }
+    ensures reads { GivesRow flag_form result R.object (kinds.row name.entry.now kinds.flagged kinds.any_flag)
+        (members_of members.now) }
+    ensures rises { steps.old ≤ steps.new }
+    ensures count { steps.new ≤ steps.old + 3 * row_weight (kinds.row name.entry.now kinds.flagged kinds.any_flag)
+        (members_of members.now) }
+{
+    match found::<bool>(alloc, members, name, steps) {
+        Ok(member) => match member {
+            Some(value) => Ok(value),
+            None => Ok(false),
+        },
+        Err(fault) => Err(fault),
+    }
+}

@@ -64,6 +64,72 @@ fn tags_are_cleaned(rt: HostRuntime) -> Result<(), Fail> {
     Ok(())
 }
 
+// What a run of `tag` comes to, as one text: the exit status, what was written, and what is told of a failure.
+fn tag_report(rt: &HostRuntime, input: &[u8]) -> Result<String, Fail> {
+    let alloc = rt.alloc();
+    let mut reader = input;
+    let mut written = Vec::new(alloc);
+    let mut steps = Steps::new(rt);
+    let outcome = run(alloc, Command::Tag, &mut reader, &mut written, &mut steps);
+    let line = String::from_utf8_lossy(alloc, written.as_slice())?;
+    match outcome {
+        Ok(()) => Ok(format!(in alloc; "0: {line}")?),
+        Err(fault) => {
+            let status = fault.status();
+            Ok(format!(in alloc; "{status}: {line}{fault}")?)
+        }
+    }
+}
+
+#[test]
+fn inputs_are_refused(rt: HostRuntime) -> Result<(), Fail> {
+    let rows: [(&[u8], &str); 13] = [
+        (b"{\"description\":\"d\"}", "1: missing field `name` at #"),
+        (
+            b"{\"externalDocs\":{},\"name\":\"t\"}",
+            "1: missing field `url` at #/externalDocs",
+        ),
+        (b"[]", "1: invalid type, expected object at #"),
+        (
+            b"{\"name\":null}",
+            "1: invalid type, expected text at #/name",
+        ),
+        (
+            b"{\"name\":\"t\",\"description\":5}",
+            "1: invalid type, expected text at #/description",
+        ),
+        (
+            b"{\"name\":\"t\",\"externalDocs\":\"u\"}",
+            "1: invalid type, expected object at #/externalDocs",
+        ),
+        (
+            b"{\"name\":\"t\",\"externalDocs\":{\"url\":7}}",
+            "1: invalid type, expected text at #/externalDocs/url",
+        ),
+        // The whole value becomes a tree first, and a tree holds whole numbers alone.
+        (
+            b"{\"name\":\"t\",\"wat\":1.5}",
+            "1: number not whole at #/wat",
+        ),
+        (
+            b"{\"name\":\"t\",\"x-a~/b\":[0.5]}",
+            "1: number not whole at #/x-a~0~1b/0",
+        ),
+        (
+            b"{\"x-a\":18446744073709551616}",
+            "1: number not whole at #/x-a",
+        ),
+        (b"", "2: not JSON"),
+        (b"{\"name\":\"t\"}}", "2: not JSON"),
+        (b"{\"name\":\"\xff\"}", "2: not JSON"),
+    ];
+    for (input, report) in rows {
+        let told = tag_report(&rt, input)?;
+        assert_eq!(rt; told.as_str(), report);
+    }
+    Ok(())
+}
+
 // No proper beginning of a JSON object is JSON.
 #[test]
 fn beginnings_are_not_json(rt: HostRuntime) -> Result<(), Fail> {

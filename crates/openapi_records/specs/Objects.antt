@@ -10,21 +10,12 @@ use Rattle.openapi_rows.specs.Forms.{
   extensions_form,
   record_form,
 }
-use Rattle.openapi_records.specs.declared.authorization_code_flow.AuthorizationCodeOAuth2Flow.{
-  AuthorizationCodeOAuth2Flow,
-}
-use Rattle.openapi_records.specs.declared.client_credentials_flow.ClientCredentialsOAuth2Flow.{
-  ClientCredentialsOAuth2Flow,
-}
 use Rattle.openapi_records.specs.declared.contact.Contact.{Contact}
 use Rattle.openapi_records.specs.declared.discriminator.Discriminator.{Discriminator}
 use Rattle.openapi_records.specs.declared.example.Example.{Example}
 use Rattle.openapi_records.specs.declared.external_documentation.ExternalDocumentation.{ExternalDocumentation}
-use Rattle.openapi_records.specs.declared.implicit_flow.ImplicitOAuth2Flow.{ImplicitOAuth2Flow}
 use Rattle.openapi_records.specs.declared.info.Info.{Info}
 use Rattle.openapi_records.specs.declared.license.License.{License}
-use Rattle.openapi_records.specs.declared.oauth2_flows.OAuth2Flows.{OAuth2Flows}
-use Rattle.openapi_records.specs.declared.password_flow.PasswordOAuth2Flow.{PasswordOAuth2Flow}
 use Rattle.openapi_records.specs.declared.server.Server.{Server}
 use Rattle.openapi_records.specs.declared.server_variable.ServerVariable.{ServerVariable}
 use Rattle.openapi_records.specs.declared.tag.Tag.{Tag}
@@ -120,52 +111,5 @@ xml_rows x =
     ∷ optional_form text_form x.prefix
     ∷ flag_form x.attribute
     ∷ flag_form x.wrapped
-    ∷ extensions_form x.extensions
-    ∷ []
-
--- OAuth Flow Object: the implicit flow
-abbrev pub implicit_flow_rows : ImplicitOAuth2Flow → List Form
-implicit_flow_rows x =
-    text_form x.authorization_url
-    ∷ optional_form text_form x.refresh_url
-    ∷ map_form text_form x.scopes
-    ∷ extensions_form x.extensions
-    ∷ []
-
--- OAuth Flow Object: the flow by the password of the owner
-abbrev pub password_flow_rows : PasswordOAuth2Flow → List Form
-password_flow_rows x =
-    optional_form text_form x.refresh_url
-    ∷ text_form x.token_url
-    ∷ map_form text_form x.scopes
-    ∷ extensions_form x.extensions
-    ∷ []
-
--- OAuth Flow Object: the flow by the credentials of the client
-abbrev pub client_credentials_flow_rows : ClientCredentialsOAuth2Flow → List Form
-client_credentials_flow_rows x =
-    optional_form text_form x.refresh_url
-    ∷ text_form x.token_url
-    ∷ map_form text_form x.scopes
-    ∷ extensions_form x.extensions
-    ∷ []
-
--- OAuth Flow Object: the flow by an authorization code
-abbrev pub authorization_code_flow_rows : AuthorizationCodeOAuth2Flow → List Form
-authorization_code_flow_rows x =
-    text_form x.authorization_url
-    ∷ text_form x.token_url
-    ∷ optional_form text_form x.refresh_url
-    ∷ map_form text_form x.scopes
-    ∷ extensions_form x.extensions
-    ∷ []
-
--- OAuth Flows Object
-abbrev pub oauth2_flows_rows : OAuth2Flows → List Form
-oauth2_flows_rows x =
-    optional_form (record_form implicit_flow_rows) x.implicit
-    ∷ optional_form (record_form password_flow_rows) x.password
-    ∷ optional_form (record_form client_credentials_flow_rows) x.client_credentials
-    ∷ optional_form (record_form authorization_code_flow_rows) x.authorization_code
     ∷ extensions_form x.extensions
     ∷ []

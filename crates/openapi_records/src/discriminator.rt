@@ -8,8 +8,8 @@ ghost use Rattle.openapi_records.specs.Objects.{discriminator_rows};
 
 use openapi_node::{Fault, Node, OrderedMap, Steps, View};
 use openapi_rows::{
-    FromNode, Object, Record, ToNode, extensions, listed, put_extensions, put_listed, put_required,
-    read_record, required, write_record,
+    FromNode, Object, Record, ToNode, extensions, or_implied, put_extensions, put_implied,
+    put_required, read_record, required, write_record,
 };
 use std::alloc::Global;
 
@@ -58,14 +58,14 @@ impl Record for Discriminator {
     ) -> Result<Discriminator, Fault> {
         Ok(Discriminator {
             property_name: required::<Self, _>(alloc, members, "propertyName", steps)?,
-            mapping: listed::<Self, _>(alloc, members, "mapping", steps)?,
+            mapping: or_implied::<Self, _>(alloc, members, "mapping", steps)?,
             extensions: extensions::<Self>(alloc, members, steps)?,
         })
     }
 
     fn put_rows(&self, alloc: Global, out: &mut OrderedMap<Node>) -> Result<(), Fault> {
         put_required(alloc, self, out, "propertyName", &self.property_name)?;
-        put_listed(alloc, self, out, "mapping", &self.mapping)?;
+        put_implied(alloc, self, out, "mapping", &self.mapping)?;
         put_extensions(alloc, self, out, &self.extensions)
     }
 

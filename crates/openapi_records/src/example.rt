@@ -1,16 +1,21 @@
 //! The Example Object.
 ghost use Rattle.std.proofs.Common.{lit≤, refl};
 ghost use Rattle.std.specs.Prelude.{◌≡◌, ◌+◌, ◌≤◌, ◌*◌, true, false, [], None};
-ghost use Rattle.openapi_tables.specs.Kind.{by, example};
+ghost use Rattle.openapi_node.specs.Tree.{size_of};
+ghost use Rattle.openapi_tables.specs.Kind.{by, example, ref_to};
 ghost use Rattle.openapi_tables.proofs.SlotWriting.{final_apart};
+ghost use Rattle.openapi_values.specs.Reference.{reference_form};
 ghost use Rattle.openapi_rows.specs.Forms.{record_form, record_slots};
+ghost use Rattle.openapi_rows.specs.Gives.{Gives, Refuses, WrittenAs};
+ghost use Rattle.openapi_rows.proofs.Spared.{example_spares};
 ghost use Rattle.openapi_records.specs.Objects.{example_rows};
 
 use openapi_node::{Fault, Node, OrderedMap, Steps, View};
 use openapi_rows::{
-    FromNode, Object, Record, ToNode, extensions, optional, put_extensions, put_optional,
-    read_record, write_record,
+    FromNode, Object, Record, Referable, ToNode, extensions, optional, put_extensions,
+    put_optional, read_record, write_record,
 };
+use openapi_values::ReferenceOr;
 use std::alloc::Global;
 
 /// The Example Object: an example of a value.
@@ -106,4 +111,33 @@ impl ToNode for Example {
     }
 
     ghost there = { λ x. refl };
+}
+
+impl Referable for Example {
+    ghost direct = { refl };
+
+    ghost spares_ref = { example_spares };
+}
+
+/// Reads an example or a reference to one. Err names a rule that the tree breaks, at its place, or says that memory ran
+/// out.
+pub fn example_ref_from_node(
+    alloc: Global,
+    node: &Node,
+    steps: &mut Steps,
+) -> Result<ReferenceOr<Example>, Fault>
+    ensures reads { Gives (reference_form (record_form example_rows)) result (ref_to (by example)) node.now }
+    ensures refuses { Refuses result (ref_to (by example)) node.now }
+    ensures rises { steps.old + 1 ≤ steps.new }
+    ensures count { steps.new ≤ steps.old + 3 * size_of node.now }
+{
+    ReferenceOr::from_node(alloc, node, steps)
+}
+
+/// Writes an example or a reference to one. Err at a name of an extension that does not begin with `x-`, or for want of
+/// memory.
+pub fn example_ref_to_node(alloc: Global, value: &ReferenceOr<Example>) -> Result<Node, Fault>
+    ensures { WrittenAs (ref_to (by example)) (reference_form (record_form example_rows) value.now) result }
+{
+    value.to_node(alloc)
 }

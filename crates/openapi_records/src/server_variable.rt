@@ -8,8 +8,8 @@ ghost use Rattle.openapi_records.specs.Objects.{server_variable_rows};
 
 use openapi_node::{Fault, Node, OrderedMap, Steps, View};
 use openapi_rows::{
-    FromNode, Object, Record, ToNode, extensions, listed, nullable, put_extensions, put_listed,
-    put_nullable, put_required, read_record, required, write_record,
+    FromNode, Object, Record, ToNode, extensions, nullable, or_implied, put_extensions,
+    put_implied, put_nullable, put_required, read_record, required, write_record,
 };
 use std::alloc::Global;
 
@@ -61,7 +61,7 @@ impl Record for ServerVariable {
         steps: &mut Steps,
     ) -> Result<ServerVariable, Fault> {
         Ok(ServerVariable {
-            enumeration: listed::<Self, _>(alloc, members, "enum", steps)?,
+            enumeration: or_implied::<Self, _>(alloc, members, "enum", steps)?,
             default: required::<Self, _>(alloc, members, "default", steps)?,
             description: nullable::<Self, _>(alloc, members, "description", steps)?,
             extensions: extensions::<Self>(alloc, members, steps)?,
@@ -69,7 +69,7 @@ impl Record for ServerVariable {
     }
 
     fn put_rows(&self, alloc: Global, out: &mut OrderedMap<Node>) -> Result<(), Fault> {
-        put_listed(alloc, self, out, "enum", &self.enumeration)?;
+        put_implied(alloc, self, out, "enum", &self.enumeration)?;
         put_required(alloc, self, out, "default", &self.default)?;
         put_nullable(alloc, self, out, "description", &self.description)?;
         put_extensions(alloc, self, out, &self.extensions)

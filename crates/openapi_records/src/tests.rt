@@ -240,52 +240,6 @@ fn records(rt: HostRuntime) -> Result<(), Fail> {
 }
 
 #[test]
-fn flows(rt: HostRuntime) -> Result<(), Fail> {
-    let alloc = rt.alloc();
-    let mut steps = Steps::new(&rt);
-    let implicit = r#"{"authorizationUrl":"a","refreshUrl":"r","scopes":{"s":"d"}}"#;
-    cleaned::<ImplicitOAuth2Flow>(
-        alloc,
-        &mut steps,
-        implicit,
-        implicit,
-        "authorizationUrl refreshUrl scopes ",
-    )?;
-    let token = r#"{"refreshUrl":"r","scopes":{},"tokenUrl":"t","x-a":0}"#;
-    cleaned::<PasswordOAuth2Flow>(
-        alloc,
-        &mut steps,
-        token,
-        token,
-        "refreshUrl tokenUrl scopes x-a ",
-    )?;
-    cleaned::<ClientCredentialsOAuth2Flow>(
-        alloc,
-        &mut steps,
-        token,
-        token,
-        "refreshUrl tokenUrl scopes x-a ",
-    )?;
-    let code = r#"{"authorizationUrl":"a","refreshUrl":"r","scopes":{},"tokenUrl":"t"}"#;
-    cleaned::<AuthorizationCodeOAuth2Flow>(
-        alloc,
-        &mut steps,
-        code,
-        code,
-        "authorizationUrl tokenUrl refreshUrl scopes ",
-    )?;
-    let flows =
-        r#"{"clientCredentials":{"scopes":{},"tokenUrl":"t"},"implicit":{"authorizationUrl":"a","scopes":{}}}"#;
-    cleaned::<OAuth2Flows>(
-        alloc,
-        &mut steps,
-        flows,
-        flows,
-        "implicit clientCredentials ",
-    )
-}
-
-#[test]
 fn refusals_of_records(rt: HostRuntime) -> Result<(), Fail> {
     let alloc = rt.alloc();
     let mut steps = Steps::new(&rt);
@@ -323,13 +277,6 @@ fn refusals_of_records(rt: HostRuntime) -> Result<(), Fail> {
         &mut steps,
         r#"{"summary":5}"#,
         "invalid type, expected text at #/summary",
-    )?;
-    let flow = r#"{"implicit":{"authorization_url":"a","scopes":{}}}"#;
-    refused::<OAuth2Flows>(
-        alloc,
-        &mut steps,
-        flow,
-        "missing field `authorizationUrl` at #/implicit",
     )?;
     let written = Info::new(alloc)
         .to_node(alloc)?

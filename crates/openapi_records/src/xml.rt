@@ -8,8 +8,8 @@ ghost use Rattle.openapi_records.specs.Objects.{xml_rows};
 
 use openapi_node::{Fault, Node, OrderedMap, Steps, View};
 use openapi_rows::{
-    FromNode, Object, Record, ToNode, extensions, flag, optional, put_extensions, put_flag,
-    put_optional, read_record, write_record,
+    FromNode, Object, Record, ToNode, extensions, optional, or_implied, put_extensions,
+    put_implied, put_optional, read_record, write_record,
 };
 use std::alloc::Global;
 
@@ -72,8 +72,8 @@ impl Record for Xml {
             name: optional::<Self, _>(alloc, members, "name", steps)?,
             namespace: optional::<Self, _>(alloc, members, "namespace", steps)?,
             prefix: optional::<Self, _>(alloc, members, "prefix", steps)?,
-            attribute: flag::<Self>(alloc, members, "attribute", steps)?,
-            wrapped: flag::<Self>(alloc, members, "wrapped", steps)?,
+            attribute: or_implied::<Self, _>(alloc, members, "attribute", steps)?,
+            wrapped: or_implied::<Self, _>(alloc, members, "wrapped", steps)?,
             extensions: extensions::<Self>(alloc, members, steps)?,
         })
     }
@@ -82,8 +82,8 @@ impl Record for Xml {
         put_optional(alloc, self, out, "name", &self.name)?;
         put_optional(alloc, self, out, "namespace", &self.namespace)?;
         put_optional(alloc, self, out, "prefix", &self.prefix)?;
-        put_flag(alloc, self, out, "attribute", self.attribute)?;
-        put_flag(alloc, self, out, "wrapped", self.wrapped)?;
+        put_implied(alloc, self, out, "attribute", &self.attribute)?;
+        put_implied(alloc, self, out, "wrapped", &self.wrapped)?;
         put_extensions(alloc, self, out, &self.extensions)
     }
 

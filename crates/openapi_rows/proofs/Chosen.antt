@@ -117,6 +117,13 @@ module _ (p : List ℕ → Bool) (ms : Entries Tree) (i : ℕ) (n : List ℕ) (t
               1) ms)),
         )
 
+    pub next_first : chosen p (take i ms) ≡ [] → slice_get (chosen p ms) 0 ≡ Some (n, t)
+    next_first none =
+        let split : chosen p ms ≡ chosen p (take (i + 1) ms) ++ chosen p (drop (i + 1) ms) =
+        ap (chosen p) (sym (take-append-drop (i + 1) ms)) ∙ chosen-append p (take (i + 1) ms) (drop (i + 1) ms) in
+        ap (λ l. slice_get l 0)
+        (split ∙ ap (λ l. l ++ chosen p (drop (i + 1) ms)) (next_taken ∙ ap (λ l. l ++ (n, t) ∷ []) none))
+
     pub next_holds : (k : Kind) → every (λ (e : List ℕ × Tree). conforms final_tables k e.1) (chosen p (take i ms))
         ≡ true
         → conforms final_tables k t ≡ true

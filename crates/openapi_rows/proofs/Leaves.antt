@@ -1,5 +1,5 @@
 -- Values that stand by themselves, and looks that show no such value.
-use Rattle.std.proofs.Common.{◌≡◌, ℕ, ℤ, pos, negsuc, Bool, true, false, List, [], Option, Some, None, refl, sym, ap, ◌∙◌, subst, inl, cond, arith, rules}
+use Rattle.std.proofs.Common.{◌≡◌, ℕ, ℤ, pos, negsuc, Bool, true, false, List, [], Option, Some, None, refl, sym, ap, ◌∙◌, subst, inl, cond, arith, rules, true≢false}
 use Rattle.std.specs.Prelude.{◌≤ℤ◌, FitsSigned, nat_le, ◌&&◌}
 use Rattle.std.proofs.lemmas.Bool.{leb-true}
 use Rattle.std.specs.Int.{w64}
@@ -19,8 +19,10 @@ use Rattle.openapi_tables.specs.Tables.{final_tables}
 use Rattle.openapi_tables.specs.Faults.{causes, unless, wrong_kind, not_allowed, unknown_variant}
 use Rattle.openapi_tables.specs.Laws.{Among}
 use Rattle.openapi_tables.proofs.ByRowLaws.{broken_root}
+use Rattle.openapi_tables.specs.Form.{Form, leaf}
+use Rattle.openapi_values.specs.Words.{word_form}
 use Rattle.openapi_values.specs.StatusCode.{code_of_number}
-use Rattle.openapi_rows.specs.Gives.{Fails}
+use Rattle.openapi_rows.specs.Gives.{Fails, Reads}
 use Rattle.openapi_rows.proofs.Below.{fails_here}
 
 -- a look that shows no whole number
@@ -129,3 +131,17 @@ no_code_number f z p e h =
     refused : (z : ℤ) → None ≡ code_of_number z → Among not_allowed (causes final_tables status_code (whole z))
     refused (pos n) g = in_range (nat_le 100 n && nat_le n 999) n g
     refused (negsuc n) g = inl refl
+
+-- what a word is read of is its text
+abbrev tree_in : Form → Tree
+tree_in (leaf t) = t
+tree_in f = null
+
+pub word_read : {X : Type 0} (word : X → List ℕ) (ws : List (List ℕ)) (x : X) (t : Tree)
+    → Reads (word_form word) x (one_of ws) t → t ≡ text (word x)
+word_read word ws x null h = absurd (true≢false (sym h.0))
+word_read word ws x (flag b) h = absurd (true≢false (sym h.0))
+word_read word ws x (whole z) h = absurd (true≢false (sym h.0))
+word_read word ws x (text s) h = ap tree_in h.1
+word_read word ws x (list ts) h = absurd (true≢false (sym h.0))
+word_read word ws x (object ms) h = absurd (true≢false (sym h.0))

@@ -8,3 +8,7 @@ pub mod Classed
 pub mod Elements
 pub mod Mapped
 pub mod Leaves
+pub mod Referring
+pub mod Deciding
+pub mod Tagging
+pub mod Spared

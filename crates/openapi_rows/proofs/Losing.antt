@@ -38,8 +38,13 @@ use Rattle.openapi_tables.specs.Kind.{
   a_schema_kind,
   status_code,
   Mode,
+  required,
   optional,
+  nullable,
   listed,
+  flagged,
+  styled,
+  formatted,
   row,
 }
 use Rattle.openapi_tables.specs.Tables.{final_tables}
@@ -193,7 +198,7 @@ empty_map a_schema = refl
 empty_map a_schema_kind = refl
 empty_map status_code = refl
 
-pub empty_lost : (k : Kind) (f : Form) → is_silent listed f ≡ true → unwritable final_tables k f ≡ []
+empty_lost : (k : Kind) (f : Form) → is_silent listed f ≡ true → unwritable final_tables k f ≡ []
 empty_lost k absent h = cc
 empty_lost k (leaf t) h = cc
 empty_lost k (of_code c) h = cc
@@ -208,6 +213,49 @@ empty_lost k (named_form no_named) h = empty_map (bare k)
 empty_lost k (named_form (under n f es)) h = cc
 empty_lost k (deciding n f) h = cc
 empty_lost k (fields c fs) h = cc
+
+-- what a row does not write loses nothing
+pub silent_lost : (m : Mode) (k : Kind) (f : Form) → is_silent m f ≡ true → unwritable final_tables k f ≡ []
+silent_lost listed k f h = empty_lost k f h
+silent_lost required k f h = cc
+silent_lost nullable k f h = cc
+silent_lost (styled s) k f h = cc
+silent_lost optional k absent h = refl
+silent_lost optional k (leaf t) h = cc
+silent_lost optional k (of_code c) h = cc
+silent_lost optional k (known s) h = cc
+silent_lost optional k (other s) h = cc
+silent_lost optional k unset h = cc
+silent_lost optional k (reference s) h = cc
+silent_lost optional k (an_item f) h = cc
+silent_lost optional k (sequence fs) h = cc
+silent_lost optional k (named_form es) h = cc
+silent_lost optional k (deciding n f) h = cc
+silent_lost optional k (fields c fs) h = cc
+silent_lost flagged k (leaf t) h = refl
+silent_lost flagged k absent h = cc
+silent_lost flagged k (of_code c) h = cc
+silent_lost flagged k (known s) h = cc
+silent_lost flagged k (other s) h = cc
+silent_lost flagged k unset h = cc
+silent_lost flagged k (reference s) h = cc
+silent_lost flagged k (an_item f) h = cc
+silent_lost flagged k (sequence fs) h = cc
+silent_lost flagged k (named_form es) h = cc
+silent_lost flagged k (deciding n f) h = cc
+silent_lost flagged k (fields c fs) h = cc
+silent_lost formatted k unset h = refl
+silent_lost formatted k absent h = cc
+silent_lost formatted k (leaf t) h = cc
+silent_lost formatted k (of_code c) h = cc
+silent_lost formatted k (known s) h = cc
+silent_lost formatted k (other s) h = cc
+silent_lost formatted k (reference s) h = cc
+silent_lost formatted k (an_item f) h = cc
+silent_lost formatted k (sequence fs) h = cc
+silent_lost formatted k (named_form es) h = cc
+silent_lost formatted k (deciding n f) h = cc
+silent_lost formatted k (fields c fs) h = cc
 
 -- a list without elements, and a map without entries, are left out
 pub none_listed : {X : Type 0} (view : X → Form) (xs : List X)

@@ -47,7 +47,7 @@ use Rattle.openapi_rows.specs.Gives.{Gives, GivesRows, is_by}
 use Rattle.openapi_rows.proofs.Below.{not_object}
 
 -- a kind that is an object by a table
-table_of : (P : Kind → Type 0) (k : Kind) → is_by k ≡ true → ((i : TableName) → P (by i)) → P k
+pub table_of : (P : Kind → Type 0) (k : Kind) → is_by k ≡ true → ((i : TableName) → P (by i)) → P k
 table_of P (by i) b h = h i
 table_of P any_text b h = cc
 table_of P any_flag b h = cc

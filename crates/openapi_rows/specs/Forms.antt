@@ -1,15 +1,17 @@
 -- The forms of values, and the slots that an object is written as.
-use Rattle.std.specs.Prelude.{ℕ, ℤ, pos, Bool, List, Option, Some, None, String, string_bytes}
+use Rattle.std.specs.Prelude.{ℕ, ℤ, pos, Bool, ◌||◌, List, ◌∷◌, Option, Some, None, String, string_bytes}
 use Rattle.std.specs.Global.{Vec}
 use Rattle.std.specs.declared.alloc.Global.{Global}
 use Rattle.openapi_map.specs.Entries.{Entries}
 use Rattle.openapi_node.specs.Tree.{Tree, flag, whole, text}
-use Rattle.openapi_tables.specs.Lists.{each}
-use Rattle.openapi_tables.specs.Kind.{TableName}
+use Rattle.openapi_tables.specs.Lists.{each, same_text}
+use Rattle.openapi_tables.specs.Kind.{TableName, Case, constant}
 use Rattle.openapi_tables.specs.Tables.{final_tables}
-use Rattle.openapi_tables.specs.Members.{plain}
-use Rattle.openapi_tables.specs.Form.{Form, absent, leaf, sequence, named, fields, forms_of, named_of}
+use Rattle.openapi_tables.specs.Members.{plain, tag, case_rows}
+use Rattle.openapi_tables.specs.Form.{Form, absent, leaf, sequence, named, deciding, fields, forms_of, named_of}
 use Rattle.openapi_tables.specs.Slots.{Slot, slots, pairs_of}
+use Rattle.openapi_rows.specs.declared.either.Either.{Either}
+use Rattle.openapi_rows.specs.declared.either.Either.TheVariants.{First, Second}
 
 -- a text
 abbrev pub text_form : String Global → Form
@@ -51,3 +53,21 @@ number_form z = leaf (whole z)
 -- a size
 abbrev pub size_form : ℕ → Form
 size_form n = leaf (whole (pos n))
+
+-- whether a name is one of two
+abbrev pub is_either : List ℕ → List ℕ → List ℕ → Bool
+is_either a b n = same_text a n || same_text b n
+
+-- what stands under the one of two names that decides
+abbrev pub either_form : {X Y : Type 0} → List ℕ → (X → Form) → List ℕ → (Y → Form) → Either X Y → Form
+either_form a f b g (First x) = deciding a (f x)
+either_form a f b g (Second y) = deciding b (g y)
+
+-- an object by the table of its tag, with the word of the tag and the forms of the rows
+abbrev pub tagged_form : {X : Type 0} → (X → List ℕ) → (X → List Form) → X → Form
+tagged_form word rows x = fields (tag (word x)) (forms_of (absent ∷ rows x))
+
+-- the slots of an object by the table of its tag
+abbrev pub tagged_slots : {X : Type 0} → List ℕ → List Case → (X → List ℕ) → (X → List Form) → X → List Slot
+tagged_slots n cs word rows x =
+    (constant n (word x), absent) ∷ slots (case_rows final_tables cs (word x)) (rows x)

@@ -2,7 +2,7 @@
 use Rattle.std.specs.Prelude.{◌≡◌, ℕ, ◌+◌, Bool, true, false, List, [], Option, Some, None, Result, Ok, Err, if◌then◌else◌}
 use Rattle.openapi_node.specs.Fault.{GoesUp, place_of}
 use Rattle.openapi_node.specs.Place.{Step, Place, named}
-use Rattle.openapi_node.specs.Tree.{Tree, object, Members}
+use Rattle.openapi_node.specs.Tree.{Tree, text, object, Members}
 use Rattle.openapi_node.specs.declared.fault.Cause.{Cause}
 use Rattle.openapi_node.specs.declared.fault.Cause.TheVariants.{
   Missing,
@@ -16,15 +16,16 @@ use Rattle.openapi_node.specs.declared.fault.Cause.TheVariants.{
 }
 use Rattle.openapi_node.specs.declared.fault.Fault.{Fault}
 use Rattle.openapi_node.specs.declared.node.Node.{Node}
-use Rattle.openapi_tables.specs.Kind.{Kind, null_or, by, ref_to, flag_or_schema, Row}
+use Rattle.openapi_tables.specs.Tree.{members_list}
+use Rattle.openapi_tables.specs.Kind.{Kind, null_or, by, tagged, ref_to, flag_or_schema, Case, Row}
 use Rattle.openapi_tables.specs.Tables.{final_tables}
-use Rattle.openapi_tables.specs.Members.{is_null}
+use Rattle.openapi_tables.specs.Members.{is_null, held}
 use Rattle.openapi_tables.specs.Conforms.{conforms}
 use Rattle.openapi_tables.specs.Form.{Form}
 use Rattle.openapi_tables.specs.Read.{form}
 use Rattle.openapi_tables.specs.Print.{print}
 use Rattle.openapi_tables.specs.Unwritable.{unwritable}
-use Rattle.openapi_tables.specs.Faults.{missing, missing_either, wrong_kind, not_allowed, unknown_variant}
+use Rattle.openapi_tables.specs.Faults.{missing, missing_either, wrong_kind, not_allowed, unknown_variant, words}
 use Rattle.openapi_tables.specs.Laws.{Among}
 use Rattle.openapi_tables.specs.ByRow.{Broken, RowGives, AreRows, rows_asked}
 
@@ -124,3 +125,8 @@ WrittenAs k f (Err e) = Loses e (unwritable final_tables k f)
 -- a refusal of what is written one step below
 abbrev pub LosesBelow : Step → Fault → List Place → Type 0
 LosesBelow s f ps = (e : Fault) × GoesUp s e f × Loses e ps
+
+-- what was read of a tag: the word that stands there, or a refusal of each object whose tag has these words
+abbrev pub GivesTag : {X : Type 0} → (X → List ℕ) → Result X Fault → List ℕ → List (List ℕ) → Members → Type 0
+GivesTag word (Ok x) n ws ms = held n (members_list ms) ≡ text (word x)
+GivesTag word (Err f) n ws ms = (cs : List Case) → words cs ≡ ws → Fails f (tagged n cs) (object ms)

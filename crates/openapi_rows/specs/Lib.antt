@@ -1,3 +1,4 @@
 pub mod Forms
 pub mod Gives
 pub mod Entries
+pub mod References

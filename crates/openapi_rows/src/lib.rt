@@ -2,10 +2,11 @@
 //! Reading and writing by tables: what a type that is read from trees and written as trees offers, and the rows of
 //! an object by their modes, the same for every type.
 mod classes;
-mod collection;
+mod either;
 mod entries;
 mod formats;
 mod from_node;
+mod implied;
 mod lists;
 mod maps;
 mod names;
@@ -13,24 +14,27 @@ mod numbers;
 mod object;
 mod place;
 mod put_rows;
+mod references;
 mod rows;
 mod scalars;
 mod status_codes;
+mod tags;
 mod to_node;
 mod words;
 
 pub use classes::{class_entries, extensions, put_class, put_extensions};
-pub use collection::Collection;
+pub use either::{Either, decided, put_first, put_second};
 pub use entries::{put_entries, read_entries};
 pub use from_node::FromNode;
+pub use implied::{Implied, or_implied, put_implied};
 pub use lists::{items, write_items};
 pub use maps::write_map;
 pub use names::{AllNames, ClassNames, Extensions, Names};
 pub use object::{Object, Record, read_record, write_record};
 pub use place::{at_index, at_name};
-pub use put_rows::{
-    put, put_flag, put_listed, put_nullable, put_optional, put_required, put_value,
-};
-pub use rows::{flag, listed, nullable, optional, required};
+pub use put_rows::{put, put_nullable, put_optional, put_required, put_value};
+pub use references::{Referable, reference_text, write_reference};
+pub use rows::{nullable, optional, required};
+pub use tags::{put_tag, tag};
 pub use to_node::ToNode;
 pub use words::{read_word, write_word};

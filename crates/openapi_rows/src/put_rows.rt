@@ -9,10 +9,9 @@ ghost use Rattle.openapi_tables.specs.Print.{print};
 ghost use Rattle.openapi_tables.specs.Slots.{slot_where, before, through, slots_lost, IsWritten};
 ghost use Rattle.openapi_tables.specs.Tables.{final_tables};
 ghost use Rattle.openapi_tables.specs.Unwritable.{unwritable};
-ghost use Rattle.openapi_rows.specs.Forms.{flag_form, optional_form};
+ghost use Rattle.openapi_rows.specs.Forms.{optional_form};
 ghost use Rattle.openapi_rows.specs.Gives.{Loses, LosesBelow};
 
-use crate::collection::Collection;
 use crate::object::Object;
 use crate::to_node::ToNode;
 use openapi_node::{Fault, Node, OrderedMap};
@@ -115,46 +114,4 @@ pub fn put_nullable<R: Object, T: ToNode>(
         None => put(alloc, out, name, Node::null()),
         Some(value) => put_value(alloc, out, name, value),
     }
-}
-
-/// A list or a map that is left out where it is empty.
-pub fn put_listed<R: Object, T: Collection + ToNode>(
-    alloc: Global,
-    owner: &R,
-    out: &mut OrderedMap<Node>,
-    name: &'static str,
-    value: &T,
-) -> Result<(), Fault>
-    requires slot { slot_where (is_named name.now) (R.slots_of owner.now) ≡ Some
-        (kinds.row name.now kinds.listed T.kind, T.form_of value.now) }
-    requires before { IsWritten final_tables (before (is_named name.now) (R.slots_of owner.now)) out.old }
-    ensures ok { OnOk result (IsWritten final_tables (through (is_named name.entry.now)
-        (R.slots_of owner.now)) out.new) }
-    ensures err { IfErr result (λ f. Loses f (slots_lost final_tables (R.slots_of owner.now))) }
-{
-    if value.has_none() {
-        return Ok(());
-    }
-    put_value(alloc, out, name, value)
-}
-
-/// A flag that is left out where it is false.
-pub fn put_flag<R: Object>(
-    alloc: Global,
-    owner: &R,
-    out: &mut OrderedMap<Node>,
-    name: &'static str,
-    value: bool,
-) -> Result<(), Fault>
-    requires slot { slot_where (is_named name.now) (R.slots_of owner.now) ≡ Some
-        (kinds.row name.now kinds.flagged kinds.any_flag, flag_form value) }
-    requires before { IsWritten final_tables (before (is_named name.now) (R.slots_of owner.now)) out.old }
-    ensures ok { OnOk result (IsWritten final_tables (through (is_named name.entry.now)
-        (R.slots_of owner.now)) out.new) }
-    ensures err { IfErr result (λ f. Loses f (slots_lost final_tables (R.slots_of owner.now))) }
-{
-    if !value {
-        return Ok(());
-    }
-    put_value(alloc, out, name, &value)
 }

@@ -6,10 +6,9 @@ ghost use Rattle.openapi_tables.specs.ByRow.{row_where, is_named, row_weight, ro
 ghost use Rattle.openapi_tables.specs.Kind as kinds;
 ghost use Rattle.openapi_tables.specs.Members.{is_null};
 ghost use Rattle.openapi_tables.specs.Tables.{final_tables};
-ghost use Rattle.openapi_rows.specs.Forms.{flag_form, optional_form};
+ghost use Rattle.openapi_rows.specs.Forms.{optional_form};
 ghost use Rattle.openapi_rows.specs.Gives.{GivesRow, GivesMember, unless_null};
 
-use crate::collection::Collection;
 use crate::from_node::FromNode;
 use crate::object::Object;
 use crate::place::at_name;
@@ -17,7 +16,7 @@ use openapi_node::{Cause, Fault, Node, OrderedMap, Steps, View, find_member};
 use std::alloc::Global;
 
 /// The member of a name, where it is there.
-fn found<T: FromNode>(
+pub(crate) fn found<T: FromNode>(
     alloc: Global,
     members: &OrderedMap<Node>,
     name: &str,
@@ -131,52 +130,4 @@ pub fn nullable<R: Object, T: FromNode>(
         (members_of members.now) }
 {
     present(alloc, members, name, steps)
-}
-
-/// A list or a map that is empty where the member is missing.
-pub fn listed<R: Object, T: Collection>(
-    alloc: Global,
-    members: &OrderedMap<Node>,
-    name: &'static str,
-    steps: &mut Steps,
-) -> Result<T, Fault>
-    requires row { row_where (is_named name.now) (rows_asked final_tables R.object) ≡ Some
-        (kinds.row name.now kinds.listed T.kind) }
-    ensures reads { GivesRow T.form_of result R.object (kinds.row name.entry.now kinds.listed T.kind)
-        (members_of members.now) }
-    ensures rises { steps.old ≤ steps.new }
-    ensures count { steps.new ≤ steps.old + 3 * row_weight (kinds.row name.entry.now kinds.listed T.kind)
-        (members_of members.now) }
-{
-    match found(alloc, members, name, steps) {
-        Ok(member) => match member {
-            Some(value) => Ok(value),
-            None => Ok(T::empty(alloc)),
-        },
-        Err(fault) => Err(fault),
-    }
-}
-
-/// A flag that is false where the member is missing.
-pub fn flag<R: Object>(
-    alloc: Global,
-    members: &OrderedMap<Node>,
-    name: &'static str,
-    steps: &mut Steps,
-) -> Result<bool, Fault>
-    requires row { row_where (is_named name.now) (rows_asked final_tables R.object) ≡ Some
-        (kinds.row name.now kinds.flagged kinds.any_flag) }
-    ensures reads { GivesRow flag_form result R.object (kinds.row name.entry.now kinds.flagged kinds.any_flag)
-        (members_of members.now) }
-    ensures rises { steps.old ≤ steps.new }
-    ensures count { steps.new ≤ steps.old + 3 * row_weight (kinds.row name.entry.now kinds.flagged kinds.any_flag)
-        (members_of members.now) }
-{
-    match found::<bool>(alloc, members, name, steps) {
-        Ok(member) => match member {
-            Some(value) => Ok(value),
-            None => Ok(false),
-        },
-        Err(fault) => Err(fault),
-    }
 }

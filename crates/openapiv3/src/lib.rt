@@ -8,11 +8,16 @@
 pub use openapi_map::OrderedMap;
 pub use openapi_node::{Cause, Expected, Fault, Node, PlaceStep, Steps, View, Whole};
 pub use openapi_records::{
-    AuthorizationCodeOAuth2Flow, ClientCredentialsOAuth2Flow, Contact, Discriminator, Example,
-    ExternalDocumentation, ImplicitOAuth2Flow, Info, License, OAuth2Flows,
-    PasswordOAuth2Flow, Server, ServerVariable, Tag, Xml,
+    Contact, Discriminator, Example, ExternalDocumentation, Info, License, Link, LinkOperation,
+    Server, ServerVariable, Tag, Xml, example_ref_from_node, example_ref_to_node,
+    link_ref_from_node, link_ref_to_node,
 };
 pub use openapi_rows::{FromNode, ToNode};
+pub use openapi_security::{
+    AuthorizationCodeOAuth2Flow, ClientCredentialsOAuth2Flow, ImplicitOAuth2Flow, OAuth2Flows,
+    PasswordOAuth2Flow, SecurityRequirement, SecurityScheme, security_requirement_from_node,
+    security_requirement_to_node, security_scheme_ref_from_node, security_scheme_ref_to_node,
+};
 pub use openapi_tables::laws;
 pub use openapi_values::{
     APIKeyLocation, CookieStyle, HeaderStyle, IntegerFormat, NumberFormat, PathStyle, QueryStyle,

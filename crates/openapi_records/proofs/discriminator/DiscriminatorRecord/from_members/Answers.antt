@@ -4,4 +4,4 @@ use Rattle.openapi_records.proofs.discriminator.DiscriminatorRecord.from_members
 pub returns-clause-reads : goal.returns-clause-reads
 unfolding final_tables tables_with
 returns-clause-reads c =
-    (c.in_ok-required.ensures.reads, (c.in_ok-listed.ensures.reads, (c.in_ok-extensions.ensures.reads, tt)))
+    (c.in_ok-required.ensures.reads, (c.in_ok-or_implied.ensures.reads, (c.in_ok-extensions.ensures.reads, tt)))

@@ -4,7 +4,7 @@ use Rattle.openapi_records.proofs.server_variable.ServerVariableRecord.from_memb
 pub returns-clause-reads : goal.returns-clause-reads
 unfolding final_tables tables_with
 returns-clause-reads c = (
-  c.in_ok-listed.ensures.reads,
+  c.in_ok-or_implied.ensures.reads,
   (
     c.in_ok-required.ensures.reads,
     (

@@ -9,7 +9,7 @@ returns-clause-reads c = (
     c.in_ok-optional-2.ensures.reads,
     (
       c.in_ok-optional-3.ensures.reads,
-      (c.in_ok-flag.ensures.reads, (c.in_ok-flag-2.ensures.reads, (c.in_ok-extensions.ensures.reads, tt))),
+      (c.in_ok-or_implied.ensures.reads, (c.in_ok-or_implied-2.ensures.reads, (c.in_ok-extensions.ensures.reads, tt))),
     ),
   ),
 )

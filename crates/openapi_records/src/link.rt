@@ -1,0 +1,130 @@
+//! The Link Object.
+ghost use Rattle.std.proofs.Common.{lit≤, refl};
+ghost use Rattle.std.specs.Prelude.{◌≡◌, ◌+◌, ◌≤◌, ◌*◌, true, false};
+ghost use Rattle.openapi_node.specs.Tree.{size_of};
+ghost use Rattle.openapi_tables.specs.Kind.{by, link, ref_to};
+ghost use Rattle.openapi_tables.proofs.SlotWriting.{final_apart};
+ghost use Rattle.openapi_values.specs.Reference.{reference_form};
+ghost use Rattle.openapi_rows.specs.Forms.{record_form, record_slots};
+ghost use Rattle.openapi_rows.specs.Gives.{Gives, Refuses, WrittenAs};
+ghost use Rattle.openapi_rows.proofs.Spared.{link_spares};
+ghost use Rattle.openapi_records.specs.Links.{link_rows};
+
+use crate::link_operation::{LinkOperation, operation, put_operation};
+use crate::server::Server;
+use openapi_node::{Fault, Node, OrderedMap, Steps, View};
+use openapi_rows::{
+    FromNode, Object, Record, Referable, ToNode, extensions, optional, or_implied, put_extensions,
+    put_implied, put_optional, read_record, write_record,
+};
+use openapi_values::ReferenceOr;
+use std::alloc::Global;
+
+/// The Link Object: an operation that a response leads to.
+#[derive(Clone, Debug, PartialEq, Drop)]
+pub struct Link {
+    /// What the link is for.
+    pub description: Option<String>,
+    /// The operation.
+    pub operation: LinkOperation,
+    /// A value or an expression for the body of its request.
+    pub request_body: Option<Node>,
+    /// Values or expressions for its parameters, by their names.
+    pub parameters: OrderedMap<Node>,
+    /// The server that offers it.
+    pub server: Option<Server>,
+    /// Extensions, by names that begin with `x-`.
+    pub extensions: OrderedMap<Node>,
+}
+
+impl Object for Link {
+    ghost object = { by link };
+
+    ghost slots_of = { record_slots link link_rows };
+
+    ghost apart = { λ x. final_apart link (link_rows x) };
+}
+
+#[tactic(auto, unfolding(openapi_tables::specs::Tables::final_tables, openapi_tables::specs::Tables::tables_with))]
+impl Record for Link {
+    ghost rows_of = { link_rows };
+
+    fn from_members(
+        alloc: Global,
+        members: &OrderedMap<Node>,
+        steps: &mut Steps,
+    ) -> Result<Link, Fault> {
+        Ok(Link {
+            description: optional::<Self, _>(alloc, members, "description", steps)?,
+            operation: operation::<Self>(alloc, members, steps)?,
+            request_body: optional::<Self, _>(alloc, members, "requestBody", steps)?,
+            parameters: or_implied::<Self, _>(alloc, members, "parameters", steps)?,
+            server: optional::<Self, _>(alloc, members, "server", steps)?,
+            extensions: extensions::<Self>(alloc, members, steps)?,
+        })
+    }
+
+    fn put_rows(&self, alloc: Global, out: &mut OrderedMap<Node>) -> Result<(), Fault> {
+        put_optional(alloc, self, out, "description", &self.description)?;
+        put_operation(alloc, self, out, &self.operation)?;
+        put_optional(alloc, self, out, "requestBody", &self.request_body)?;
+        put_implied(alloc, self, out, "parameters", &self.parameters)?;
+        put_optional(alloc, self, out, "server", &self.server)?;
+        put_extensions(alloc, self, out, &self.extensions)
+    }
+
+    ghost by_table = { refl };
+
+    ghost by_rows = { λ x. refl };
+}
+
+impl FromNode for Link {
+    ghost kind = { by link };
+
+    ghost form_of = { record_form link_rows };
+
+    fn from_view(alloc: Global, view: &View<'_>, steps: &mut Steps) -> Result<Link, Fault> {
+        read_record(alloc, view, steps)
+    }
+
+    ghost few = { lit≤ tt };
+
+    ghost well_made = { refl };
+}
+
+impl ToNode for Link {
+    fn to_node(&self, alloc: Global) -> Result<Node, Fault> {
+        write_record(alloc, self)
+    }
+
+    ghost there = { λ x. refl };
+}
+
+impl Referable for Link {
+    ghost direct = { refl };
+
+    ghost spares_ref = { link_spares };
+}
+
+/// Reads a link or a reference to one. Err names a rule that the tree breaks, at its place, or says that memory ran
+/// out.
+pub fn link_ref_from_node(
+    alloc: Global,
+    node: &Node,
+    steps: &mut Steps,
+) -> Result<ReferenceOr<Link>, Fault>
+    ensures reads { Gives (reference_form (record_form link_rows)) result (ref_to (by link)) node.now }
+    ensures refuses { Refuses result (ref_to (by link)) node.now }
+    ensures rises { steps.old + 1 ≤ steps.new }
+    ensures count { steps.new ≤ steps.old + 3 * size_of node.now }
+{
+    ReferenceOr::from_node(alloc, node, steps)
+}
+
+/// Writes a link or a reference to one. Err at a name of an extension that does not begin with `x-`, or for want of
+/// memory.
+pub fn link_ref_to_node(alloc: Global, value: &ReferenceOr<Link>) -> Result<Node, Fault>
+    ensures { WrittenAs (ref_to (by link)) (reference_form (record_form link_rows) value.now) result }
+{
+    value.to_node(alloc)
+}

@@ -1,0 +1,37 @@
+-- The objects in whose place a reference may stand hold no name of their own under `$ref`.
+use Rattle.std.proofs.Common.{◌≡◌, true, refl}
+use Rattle.openapi_tables.specs.Kind.{by, example, header, link, path_item, request_body, response}
+use Rattle.openapi_tables.specs.Sound.{under_ref}
+use Rattle.openapi_tables.specs.Tables.{final_tables, tables_with, parameter, security_scheme}
+
+pub example_spares : under_ref final_tables (by example) ≡ true
+unfolding final_tables tables_with
+example_spares = refl
+
+pub header_spares : under_ref final_tables (by header) ≡ true
+unfolding final_tables tables_with
+header_spares = refl
+
+pub link_spares : under_ref final_tables (by link) ≡ true
+unfolding final_tables tables_with
+link_spares = refl
+
+pub parameter_spares : under_ref final_tables parameter ≡ true
+unfolding final_tables tables_with
+parameter_spares = refl
+
+pub path_item_spares : under_ref final_tables (by path_item) ≡ true
+unfolding final_tables tables_with
+path_item_spares = refl
+
+pub request_body_spares : under_ref final_tables (by request_body) ≡ true
+unfolding final_tables tables_with
+request_body_spares = refl
+
+pub response_spares : under_ref final_tables (by response) ≡ true
+unfolding final_tables tables_with
+response_spares = refl
+
+pub security_scheme_spares : under_ref final_tables security_scheme ≡ true
+unfolding final_tables tables_with
+security_scheme_spares = refl

@@ -1,5 +1,0 @@
-use Rattle.openapi_rows.proofs.Losing.{none_mapped}
-use Rattle.openapi_rows.proofs.collection.OrderedMapCollection.has_none.Goals as goal
-
-pub returns : goal.returns
-returns g c = none_mapped g.T.FromNode.form_of c.is_empty.result c.args.self.now c.is_empty.ensures

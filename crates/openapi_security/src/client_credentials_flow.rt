@@ -1,0 +1,90 @@
+//! The OAuth Flow Object: the flow by the credentials of the client.
+ghost use Rattle.std.proofs.Common.{lit≤, refl};
+ghost use Rattle.std.specs.Prelude.{◌≡◌, ◌+◌, ◌≤◌, ◌*◌, true, false};
+ghost use Rattle.openapi_tables.specs.Kind.{by, client_credentials_flow};
+ghost use Rattle.openapi_tables.proofs.SlotWriting.{final_apart};
+ghost use Rattle.openapi_rows.specs.Forms.{record_form, record_slots};
+ghost use Rattle.openapi_security.specs.Flows.{client_credentials_flow_rows};
+
+use openapi_node::{Fault, Node, OrderedMap, Steps, View};
+use openapi_rows::{
+    FromNode, Object, Record, ToNode, extensions, optional, put_extensions, put_optional,
+    put_required, read_record, required, write_record,
+};
+use std::alloc::Global;
+
+/// The OAuth Flow Object: the flow by the credentials of the client.
+#[derive(Clone, Debug, PartialEq, Drop)]
+pub struct ClientCredentialsOAuth2Flow {
+    /// Where a token is renewed, as a URL.
+    pub refresh_url: Option<String>,
+    /// Where a token is had, as a URL.
+    pub token_url: String,
+    /// What each scope allows, by its name.
+    pub scopes: OrderedMap<String>,
+    /// Extensions, by names that begin with `x-`.
+    pub extensions: OrderedMap<Node>,
+}
+
+impl Object for ClientCredentialsOAuth2Flow {
+    ghost object = { by client_credentials_flow };
+
+    ghost slots_of = { record_slots client_credentials_flow client_credentials_flow_rows };
+
+    ghost apart = { λ x. final_apart client_credentials_flow (client_credentials_flow_rows x) };
+}
+
+#[tactic(auto, unfolding(openapi_tables::specs::Tables::final_tables, openapi_tables::specs::Tables::tables_with))]
+impl Record for ClientCredentialsOAuth2Flow {
+    ghost rows_of = { client_credentials_flow_rows };
+
+    fn from_members(
+        alloc: Global,
+        members: &OrderedMap<Node>,
+        steps: &mut Steps,
+    ) -> Result<ClientCredentialsOAuth2Flow, Fault> {
+        Ok(ClientCredentialsOAuth2Flow {
+            refresh_url: optional::<Self, _>(alloc, members, "refreshUrl", steps)?,
+            token_url: required::<Self, _>(alloc, members, "tokenUrl", steps)?,
+            scopes: required::<Self, _>(alloc, members, "scopes", steps)?,
+            extensions: extensions::<Self>(alloc, members, steps)?,
+        })
+    }
+
+    fn put_rows(&self, alloc: Global, out: &mut OrderedMap<Node>) -> Result<(), Fault> {
+        put_optional(alloc, self, out, "refreshUrl", &self.refresh_url)?;
+        put_required(alloc, self, out, "tokenUrl", &self.token_url)?;
+        put_required(alloc, self, out, "scopes", &self.scopes)?;
+        put_extensions(alloc, self, out, &self.extensions)
+    }
+
+    ghost by_table = { refl };
+
+    ghost by_rows = { λ x. refl };
+}
+
+impl FromNode for ClientCredentialsOAuth2Flow {
+    ghost kind = { by client_credentials_flow };
+
+    ghost form_of = { record_form client_credentials_flow_rows };
+
+    fn from_view(
+        alloc: Global,
+        view: &View<'_>,
+        steps: &mut Steps,
+    ) -> Result<ClientCredentialsOAuth2Flow, Fault> {
+        read_record(alloc, view, steps)
+    }
+
+    ghost few = { lit≤ tt };
+
+    ghost well_made = { refl };
+}
+
+impl ToNode for ClientCredentialsOAuth2Flow {
+    fn to_node(&self, alloc: Global) -> Result<Node, Fault> {
+        write_record(alloc, self)
+    }
+
+    ghost there = { λ x. refl };
+}

@@ -1,0 +1,125 @@
+//! The OAuth Flows Object.
+ghost use Rattle.std.proofs.Common.{lit≤, refl};
+ghost use Rattle.std.specs.Prelude.{◌≡◌, ◌+◌, ◌≤◌, ◌*◌, true, false, [], None};
+ghost use Rattle.openapi_tables.specs.Kind.{by, oauth2_flows};
+ghost use Rattle.openapi_tables.proofs.SlotWriting.{final_apart};
+ghost use Rattle.openapi_rows.specs.Forms.{record_form, record_slots};
+ghost use Rattle.openapi_security.specs.Flows.{oauth2_flows_rows};
+
+use crate::authorization_code_flow::AuthorizationCodeOAuth2Flow;
+use crate::client_credentials_flow::ClientCredentialsOAuth2Flow;
+use crate::implicit_flow::ImplicitOAuth2Flow;
+use crate::password_flow::PasswordOAuth2Flow;
+use openapi_node::{Fault, Node, OrderedMap, Steps, View};
+use openapi_rows::{
+    FromNode, Object, Record, ToNode, extensions, optional, put_extensions, put_optional,
+    read_record, write_record,
+};
+use std::alloc::Global;
+
+/// The OAuth Flows Object: the flows that a server offers.
+#[derive(Clone, Debug, PartialEq, Drop)]
+pub struct OAuth2Flows {
+    /// The implicit flow.
+    pub implicit: Option<ImplicitOAuth2Flow>,
+    /// The flow by the password of the owner.
+    pub password: Option<PasswordOAuth2Flow>,
+    /// The flow by the credentials of the client.
+    pub client_credentials: Option<ClientCredentialsOAuth2Flow>,
+    /// The flow by an authorization code.
+    pub authorization_code: Option<AuthorizationCodeOAuth2Flow>,
+    /// Extensions, by names that begin with `x-`.
+    pub extensions: OrderedMap<Node>,
+}
+
+impl OAuth2Flows {
+    /// Empty texts, lists and maps, and nothing else.
+    pub fn new(alloc: Global) -> OAuth2Flows
+        ensures implicit { result.implicit ≡ None }
+        ensures password { result.password ≡ None }
+        ensures client_credentials { result.client_credentials ≡ None }
+        ensures authorization_code { result.authorization_code ≡ None }
+        ensures extensions { result.extensions ≡ [] }
+    {
+        OAuth2Flows {
+            implicit: None,
+            password: None,
+            client_credentials: None,
+            authorization_code: None,
+            extensions: OrderedMap::new(alloc),
+        }
+    }
+}
+
+impl Object for OAuth2Flows {
+    ghost object = { by oauth2_flows };
+
+    ghost slots_of = { record_slots oauth2_flows oauth2_flows_rows };
+
+    ghost apart = { λ x. final_apart oauth2_flows (oauth2_flows_rows x) };
+}
+
+#[tactic(auto, unfolding(openapi_tables::specs::Tables::final_tables, openapi_tables::specs::Tables::tables_with))]
+impl Record for OAuth2Flows {
+    ghost rows_of = { oauth2_flows_rows };
+
+    fn from_members(
+        alloc: Global,
+        members: &OrderedMap<Node>,
+        steps: &mut Steps,
+    ) -> Result<OAuth2Flows, Fault> {
+        Ok(OAuth2Flows {
+            implicit: optional::<Self, _>(alloc, members, "implicit", steps)?,
+            password: optional::<Self, _>(alloc, members, "password", steps)?,
+            client_credentials: optional::<Self, _>(alloc, members, "clientCredentials", steps)?,
+            authorization_code: optional::<Self, _>(alloc, members, "authorizationCode", steps)?,
+            extensions: extensions::<Self>(alloc, members, steps)?,
+        })
+    }
+
+    fn put_rows(&self, alloc: Global, out: &mut OrderedMap<Node>) -> Result<(), Fault> {
+        put_optional(alloc, self, out, "implicit", &self.implicit)?;
+        put_optional(alloc, self, out, "password", &self.password)?;
+        put_optional(
+            alloc,
+            self,
+            out,
+            "clientCredentials",
+            &self.client_credentials,
+        )?;
+        put_optional(
+            alloc,
+            self,
+            out,
+            "authorizationCode",
+            &self.authorization_code,
+        )?;
+        put_extensions(alloc, self, out, &self.extensions)
+    }
+
+    ghost by_table = { refl };
+
+    ghost by_rows = { λ x. refl };
+}
+
+impl FromNode for OAuth2Flows {
+    ghost kind = { by oauth2_flows };
+
+    ghost form_of = { record_form oauth2_flows_rows };
+
+    fn from_view(alloc: Global, view: &View<'_>, steps: &mut Steps) -> Result<OAuth2Flows, Fault> {
+        read_record(alloc, view, steps)
+    }
+
+    ghost few = { lit≤ tt };
+
+    ghost well_made = { refl };
+}
+
+impl ToNode for OAuth2Flows {
+    fn to_node(&self, alloc: Global) -> Result<Node, Fault> {
+        write_record(alloc, self)
+    }
+
+    ghost there = { λ x. refl };
+}

@@ -1,0 +1,37 @@
+//! The Security Requirement Object.
+ghost use Rattle.std.specs.Prelude.{◌≡◌, ◌+◌, ◌≤◌, ◌*◌};
+ghost use Rattle.openapi_node.specs.Tree.{size_of};
+ghost use Rattle.openapi_tables.specs.Tables.{security_requirement};
+ghost use Rattle.openapi_rows.specs.Gives.{Gives, Refuses, WrittenAs};
+ghost use Rattle.openapi_security.specs.Schemes.{security_requirement_form};
+
+use openapi_node::{Fault, Node, OrderedMap, Steps};
+use openapi_rows::{FromNode, ToNode};
+use std::alloc::Global;
+
+/// The Security Requirement Object: for each name of a security scheme the scopes that a call needs.
+pub type SecurityRequirement = OrderedMap<Vec<String>>;
+
+/// Reads a security requirement. Err names a rule that the tree breaks, at its place, or says that memory ran out.
+pub fn security_requirement_from_node(
+    alloc: Global,
+    node: &Node,
+    steps: &mut Steps,
+) -> Result<SecurityRequirement, Fault>
+    ensures reads { Gives security_requirement_form result security_requirement node.now }
+    ensures refuses { Refuses result security_requirement node.now }
+    ensures rises { steps.old + 1 ≤ steps.new }
+    ensures count { steps.new ≤ steps.old + 3 * size_of node.now }
+{
+    SecurityRequirement::from_node(alloc, node, steps)
+}
+
+/// Writes a security requirement. Err only for want of memory.
+pub fn security_requirement_to_node(
+    alloc: Global,
+    requirement: &SecurityRequirement,
+) -> Result<Node, Fault>
+    ensures { WrittenAs security_requirement (security_requirement_form requirement.now) result }
+{
+    requirement.to_node(alloc)
+}

@@ -1,0 +1,380 @@
+//! The Security Scheme Object.
+ghost use Rattle.std.proofs.Common.{lit≤, refl};
+ghost use Rattle.std.specs.Prelude.{◌≡◌, ◌+◌, ◌≤◌, ◌*◌, true, false, [], codes, IfOk, OnOk, IfErr};
+ghost use Rattle.openapi_node.specs.Tree.{members_of, size_of};
+ghost use Rattle.openapi_node.specs.View.{shown};
+ghost use Rattle.openapi_tables.specs.ByRow.{rows_weight};
+ghost use Rattle.openapi_tables.specs.Kind.{TableName, by, ref_to};
+ghost use Rattle.openapi_tables.specs.Kind as kinds;
+ghost use Rattle.openapi_tables.specs.Slots.{slots_lost, IsWritten};
+ghost use Rattle.openapi_tables.specs.Tables.{final_tables, security_scheme};
+ghost use Rattle.openapi_rows.specs.Gives.{Gives, GivesRows, Loses, Refuses, WrittenAs};
+ghost use Rattle.openapi_rows.proofs.Spared.{security_scheme_spares};
+ghost use Rattle.openapi_rows.proofs.Tagging.{security_scheme_sound, tagged_apart};
+ghost use Rattle.openapi_values.specs.Reference.{reference_form};
+ghost use Rattle.openapi_security.specs.Schemes.{scheme_types, scheme_cases, scheme_type_word};
+ghost use Rattle.openapi_security.specs.Schemes.{security_scheme_word, security_scheme_rows};
+ghost use Rattle.openapi_security.specs.Schemes.{security_scheme_form, security_scheme_slots};
+ghost use Rattle.openapi_security.specs.Schemes.{security_scheme_known};
+
+use crate::oauth2_flows::OAuth2Flows;
+use openapi_node::{Cause, Expected, Fault, Node, OrderedMap, Steps, View};
+use openapi_rows::{
+    FromNode, Object, Referable, ToNode, extensions, optional, put_extensions, put_optional,
+    put_required, put_tag, required, tag,
+};
+use openapi_values::{APIKeyLocation, ReferenceOr, Word};
+use std::alloc::Global;
+
+/// The Security Scheme Object: a way in which callers say who they are.
+#[derive(Clone, Debug, PartialEq, Drop)]
+pub enum SecurityScheme {
+    /// `apiKey`: by a key.
+    APIKey {
+        /// `in`: the part of a request that holds the key.
+        location: APIKeyLocation,
+        /// The name of the header, of the parameter or of the cookie.
+        name: String,
+        /// What the scheme is for.
+        description: Option<String>,
+        /// Extensions, by names that begin with `x-`.
+        extensions: OrderedMap<Node>,
+    },
+    /// `http`: by the header `Authorization` of HTTP.
+    HTTP {
+        /// The scheme of HTTP, as `basic`.
+        scheme: String,
+        /// How a token of the scheme `bearer` is made.
+        bearer_format: Option<String>,
+        /// What the scheme is for.
+        description: Option<String>,
+        /// Extensions, by names that begin with `x-`.
+        extensions: OrderedMap<Node>,
+    },
+    /// `oauth2`: by OAuth 2.
+    OAuth2 {
+        /// The flows that are offered.
+        flows: OAuth2Flows,
+        /// What the scheme is for.
+        description: Option<String>,
+        /// Extensions, by names that begin with `x-`.
+        extensions: OrderedMap<Node>,
+    },
+    /// `openIdConnect`: by OpenID Connect.
+    OpenIDConnect {
+        /// Where the server says how it is reached.
+        open_id_connect_url: String,
+        /// What the scheme is for.
+        description: Option<String>,
+        /// Extensions, by names that begin with `x-`.
+        extensions: OrderedMap<Node>,
+    },
+}
+
+/// The types of security schemes.
+#[derive(Clone, Copy)]
+pub(crate) enum SchemeType {
+    ApiKey,
+    Http,
+    OAuth2,
+    OpenIdConnect,
+}
+
+impl Word for SchemeType {
+    ghost use Rattle.openapi_security.specs.declared.security_scheme.SchemeType.TheVariants as types;
+
+    ghost words = { scheme_types };
+
+    ghost word_of = { scheme_type_word };
+
+    ghost known = { elim [
+      | types.ApiKey ↦ refl
+      | types.Http ↦ refl
+      | types.OAuth2 ↦ refl
+      | types.OpenIdConnect ↦ refl
+    ] };
+
+    fn all() -> &'static [SchemeType] {
+        &[
+            SchemeType::ApiKey,
+            SchemeType::Http,
+            SchemeType::OAuth2,
+            SchemeType::OpenIdConnect,
+        ]
+    }
+
+    fn as_str(&self) -> &'static str {
+        match self {
+            SchemeType::ApiKey => "apiKey",
+            SchemeType::Http => "http",
+            SchemeType::OAuth2 => "oauth2",
+            SchemeType::OpenIdConnect => "openIdConnect",
+        }
+    }
+}
+
+/// The table of the schemes by an API key.
+struct ApiKeyTable;
+
+impl Object for ApiKeyTable {
+    ghost object = { by kinds.api_key_scheme };
+
+    ghost slots_of = { λ x. [] };
+
+    ghost apart = { λ x. refl };
+}
+
+/// The table of the schemes by HTTP.
+struct HttpTable;
+
+impl Object for HttpTable {
+    ghost object = { by kinds.http_scheme };
+
+    ghost slots_of = { λ x. [] };
+
+    ghost apart = { λ x. refl };
+}
+
+/// The table of the schemes by OAuth 2.
+struct OAuth2Table;
+
+impl Object for OAuth2Table {
+    ghost object = { by kinds.oauth2_scheme };
+
+    ghost slots_of = { λ x. [] };
+
+    ghost apart = { λ x. refl };
+}
+
+/// The table of the schemes by OpenID Connect.
+struct OpenIdConnectTable;
+
+impl Object for OpenIdConnectTable {
+    ghost object = { by kinds.open_id_connect_scheme };
+
+    ghost slots_of = { λ x. [] };
+
+    ghost apart = { λ x. refl };
+}
+
+/// Reads a scheme by an API key.
+#[tactic(auto, unfolding(openapi_tables::specs::Tables::final_tables, openapi_tables::specs::Tables::tables_with))]
+fn api_key(
+    alloc: Global,
+    members: &OrderedMap<Node>,
+    steps: &mut Steps,
+) -> Result<SecurityScheme, Fault>
+    ensures reads { GivesRows security_scheme_rows result (by kinds.api_key_scheme) (members_of members.now) }
+    ensures word { IfOk result (λ x. security_scheme_word x ≡ codes "apiKey") }
+    ensures rises { steps.old ≤ steps.new }
+    ensures count { steps.new ≤ steps.old + 3 * rows_weight (final_tables kinds.api_key_scheme) (members_of members.now) }
+{
+    Ok(SecurityScheme::APIKey {
+        location: required::<ApiKeyTable, _>(alloc, members, "in", steps)?,
+        name: required::<ApiKeyTable, _>(alloc, members, "name", steps)?,
+        description: optional::<ApiKeyTable, _>(alloc, members, "description", steps)?,
+        extensions: extensions::<ApiKeyTable>(alloc, members, steps)?,
+    })
+}
+
+/// Reads a scheme by HTTP.
+#[tactic(auto, unfolding(openapi_tables::specs::Tables::final_tables, openapi_tables::specs::Tables::tables_with))]
+fn http(
+    alloc: Global,
+    members: &OrderedMap<Node>,
+    steps: &mut Steps,
+) -> Result<SecurityScheme, Fault>
+    ensures reads { GivesRows security_scheme_rows result (by kinds.http_scheme) (members_of members.now) }
+    ensures word { IfOk result (λ x. security_scheme_word x ≡ codes "http") }
+    ensures rises { steps.old ≤ steps.new }
+    ensures count { steps.new ≤ steps.old + 3 * rows_weight (final_tables kinds.http_scheme) (members_of members.now) }
+{
+    Ok(SecurityScheme::HTTP {
+        scheme: required::<HttpTable, _>(alloc, members, "scheme", steps)?,
+        bearer_format: optional::<HttpTable, _>(alloc, members, "bearerFormat", steps)?,
+        description: optional::<HttpTable, _>(alloc, members, "description", steps)?,
+        extensions: extensions::<HttpTable>(alloc, members, steps)?,
+    })
+}
+
+/// Reads a scheme by OAuth 2.
+#[tactic(auto, unfolding(openapi_tables::specs::Tables::final_tables, openapi_tables::specs::Tables::tables_with))]
+fn oauth2(
+    alloc: Global,
+    members: &OrderedMap<Node>,
+    steps: &mut Steps,
+) -> Result<SecurityScheme, Fault>
+    ensures reads { GivesRows security_scheme_rows result (by kinds.oauth2_scheme) (members_of members.now) }
+    ensures word { IfOk result (λ x. security_scheme_word x ≡ codes "oauth2") }
+    ensures rises { steps.old ≤ steps.new }
+    ensures count { steps.new ≤ steps.old + 3 * rows_weight (final_tables kinds.oauth2_scheme) (members_of members.now) }
+{
+    Ok(SecurityScheme::OAuth2 {
+        flows: required::<OAuth2Table, _>(alloc, members, "flows", steps)?,
+        description: optional::<OAuth2Table, _>(alloc, members, "description", steps)?,
+        extensions: extensions::<OAuth2Table>(alloc, members, steps)?,
+    })
+}
+
+/// Reads a scheme by OpenID Connect.
+#[tactic(auto, unfolding(openapi_tables::specs::Tables::final_tables, openapi_tables::specs::Tables::tables_with))]
+fn open_id_connect(
+    alloc: Global,
+    members: &OrderedMap<Node>,
+    steps: &mut Steps,
+) -> Result<SecurityScheme, Fault>
+    ensures reads { GivesRows security_scheme_rows result (by kinds.open_id_connect_scheme) (members_of members.now) }
+    ensures word { IfOk result (λ x. security_scheme_word x ≡ codes "openIdConnect") }
+    ensures rises { steps.old ≤ steps.new }
+    ensures count { steps.new ≤ steps.old + 3 * rows_weight (final_tables kinds.open_id_connect_scheme) (members_of members.now) }
+{
+    Ok(SecurityScheme::OpenIDConnect {
+        open_id_connect_url: required::<OpenIdConnectTable, _>(
+            alloc,
+            members,
+            "openIdConnectUrl",
+            steps,
+        )?,
+        description: optional::<OpenIdConnectTable, _>(alloc, members, "description", steps)?,
+        extensions: extensions::<OpenIdConnectTable>(alloc, members, steps)?,
+    })
+}
+
+impl FromNode for SecurityScheme {
+    ghost kind = { security_scheme };
+
+    ghost form_of = { security_scheme_form };
+
+    fn from_view(
+        alloc: Global,
+        view: &View<'_>,
+        steps: &mut Steps,
+    ) -> Result<SecurityScheme, Fault> {
+        let View::Object(members) = view else {
+            return Err(Fault::new(alloc, Cause::WrongKind(Expected::Object)));
+        };
+        match tag(alloc, members, "type", steps) {
+            Ok(SchemeType::ApiKey) => api_key(alloc, members, steps),
+            Ok(SchemeType::Http) => http(alloc, members, steps),
+            Ok(SchemeType::OAuth2) => oauth2(alloc, members, steps),
+            Ok(SchemeType::OpenIdConnect) => open_id_connect(alloc, members, steps),
+            Err(fault) => Err(fault),
+        }
+    }
+
+    ghost few = { lit≤ tt };
+
+    ghost well_made = { security_scheme_sound };
+}
+
+impl Object for SecurityScheme {
+    ghost object = { security_scheme };
+
+    ghost slots_of = { security_scheme_slots };
+
+    ghost apart = { λ x. tagged_apart (codes "type") scheme_cases security_scheme_word security_scheme_rows x
+        (security_scheme_known x) security_scheme_sound };
+}
+
+/// Writes the members of a scheme.
+#[tactic(auto, unfolding(openapi_tables::specs::Tables::final_tables, openapi_tables::specs::Tables::tables_with))]
+fn put_scheme(
+    alloc: Global,
+    value: &SecurityScheme,
+    out: &mut OrderedMap<Node>,
+) -> Result<(), Fault>
+    requires { IsWritten final_tables [] out.old }
+    ensures ok { OnOk result (IsWritten final_tables (security_scheme_slots value.now) out.new) }
+    ensures err { IfErr result (λ f. Loses f (slots_lost final_tables (security_scheme_slots value.now))) }
+{
+    match value {
+        SecurityScheme::APIKey {
+            location,
+            name,
+            description,
+            extensions,
+        } => {
+            put_tag(alloc, value, out, "type", "apiKey")?;
+            put_required(alloc, value, out, "in", location)?;
+            put_required(alloc, value, out, "name", name)?;
+            put_optional(alloc, value, out, "description", description)?;
+            put_extensions(alloc, value, out, extensions)
+        }
+        SecurityScheme::HTTP {
+            scheme,
+            bearer_format,
+            description,
+            extensions,
+        } => {
+            put_tag(alloc, value, out, "type", "http")?;
+            put_required(alloc, value, out, "scheme", scheme)?;
+            put_optional(alloc, value, out, "bearerFormat", bearer_format)?;
+            put_optional(alloc, value, out, "description", description)?;
+            put_extensions(alloc, value, out, extensions)
+        }
+        SecurityScheme::OAuth2 {
+            flows,
+            description,
+            extensions,
+        } => {
+            put_tag(alloc, value, out, "type", "oauth2")?;
+            put_required(alloc, value, out, "flows", flows)?;
+            put_optional(alloc, value, out, "description", description)?;
+            put_extensions(alloc, value, out, extensions)
+        }
+        SecurityScheme::OpenIDConnect {
+            open_id_connect_url,
+            description,
+            extensions,
+        } => {
+            put_tag(alloc, value, out, "type", "openIdConnect")?;
+            put_required(alloc, value, out, "openIdConnectUrl", open_id_connect_url)?;
+            put_optional(alloc, value, out, "description", description)?;
+            put_extensions(alloc, value, out, extensions)
+        }
+    }
+}
+
+impl ToNode for SecurityScheme {
+    fn to_node(&self, alloc: Global) -> Result<Node, Fault> {
+        let mut out = OrderedMap::new(alloc);
+        match put_scheme(alloc, self, &mut out) {
+            Ok(()) => Ok(Node::object(out)),
+            Err(fault) => Err(fault),
+        }
+    }
+
+    ghost there = { λ x. refl };
+}
+
+impl Referable for SecurityScheme {
+    ghost direct = { refl };
+
+    ghost spares_ref = { security_scheme_spares };
+}
+
+/// Reads a security scheme or a reference to one. Err names a rule that the tree breaks, at its place, or says that
+/// memory ran out.
+pub fn security_scheme_ref_from_node(
+    alloc: Global,
+    node: &Node,
+    steps: &mut Steps,
+) -> Result<ReferenceOr<SecurityScheme>, Fault>
+    ensures reads { Gives (reference_form security_scheme_form) result (ref_to security_scheme) node.now }
+    ensures refuses { Refuses result (ref_to security_scheme) node.now }
+    ensures rises { steps.old + 1 ≤ steps.new }
+    ensures count { steps.new ≤ steps.old + 3 * size_of node.now }
+{
+    ReferenceOr::from_node(alloc, node, steps)
+}
+
+/// Writes a security scheme or a reference to one. Err at a name of an extension that does not begin with `x-`, or for
+/// want of memory.
+pub fn security_scheme_ref_to_node(
+    alloc: Global,
+    value: &ReferenceOr<SecurityScheme>,
+) -> Result<Node, Fault>
+    ensures { WrittenAs (ref_to security_scheme) (reference_form security_scheme_form value.now) result }
+{
+    value.to_node(alloc)
+}

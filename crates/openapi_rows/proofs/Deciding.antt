@@ -1,10 +1,10 @@
 -- A row of two names: the first member that has one of them decides.
-use Rattle.std.proofs.Common.{◌≡◌, ℕ, ◌+◌, ◌≤◌, Bool, true, false, cond, ◌||◌, List, [], ◌∷◌, ◌++◌, slice_get, Some, None, refl, sym, ap, ◌∙◌, subst, arith, inl, Result, Ok, Err, OnOk, IfErr}
+use Rattle.std.proofs.Common.{◌≡◌, ℕ, ◌≤◌, Bool, true, false, cond, ◌||◌, List, [], ◌∷◌, ◌++◌, slice_get, Some, None, refl, sym, ap, ◌∙◌, subst, arith, inl, Result, Ok, Err, OnOk, IfErr}
 use Rattle.openapi_map.specs.Entries.{Entries, get}
 use Rattle.openapi_node.specs.Place.{named}
 use Rattle.openapi_node.specs.Tree.{Tree, object, members_of, size_of}
 use Rattle.openapi_node.specs.declared.fault.Fault.{Fault}
-use Rattle.openapi_tables.specs.Kind.{Kind, either, takes}
+use Rattle.openapi_tables.specs.Kind.{Kind, either}
 use Rattle.openapi_tables.specs.Lists.{each, same_text}
 use Rattle.openapi_tables.specs.Tree.{Entry, Seen, Shape, on_entry, of_members, members_list}
 use Rattle.openapi_tables.specs.Tables.{final_tables}

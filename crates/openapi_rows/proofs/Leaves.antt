@@ -1,10 +1,9 @@
 -- Values that stand by themselves, and looks that show no such value.
-use Rattle.std.proofs.Common.{◌≡◌, ℕ, ℤ, pos, negsuc, Bool, true, false, List, [], Option, Some, None, refl, sym, ap, ◌∙◌, subst, inl, cond, arith, rules, true≢false}
+use Rattle.std.proofs.Common.{◌≡◌, ℕ, ℤ, pos, negsuc, Bool, true, false, List, [], Some, None, refl, sym, ap, subst, inl, cond, arith, rules, true≢false}
 use Rattle.std.specs.Prelude.{◌≤ℤ◌, FitsSigned, nat_le, ◌&&◌}
 use Rattle.std.proofs.lemmas.Bool.{leb-true}
 use Rattle.std.specs.Int.{w64}
 use Rattle.std.specs.Borrow.{Bor}
-use Rattle.openapi_map.specs.declared.OrderedMap.{OrderedMap}
 use Rattle.openapi_node.specs.Tree.{Tree, null, flag, whole, text, list, object}
 use Rattle.openapi_node.specs.View.{shown}
 use Rattle.openapi_node.specs.declared.fault.Cause.TheVariants.{NotAllowed, UnknownVariant}
@@ -12,7 +11,7 @@ use Rattle.openapi_node.specs.declared.fault.Expected.TheVariants as words
 use Rattle.openapi_node.specs.declared.fault.Fault.{Fault}
 use Rattle.openapi_node.specs.declared.node.View.{View}
 use Rattle.openapi_node.specs.declared.node.View.TheVariants as v
-use Rattle.openapi_tables.specs.Kind.{Kind, number, one_of, format, status_code, Limits, sizes, signed, within}
+use Rattle.openapi_tables.specs.Kind.{number, one_of, format, status_code, Limits, sizes, signed, within}
 use Rattle.openapi_tables.specs.Kind.{is_code, code_of, code}
 use Rattle.openapi_tables.specs.Lists.{has}
 use Rattle.openapi_tables.specs.Tables.{final_tables}

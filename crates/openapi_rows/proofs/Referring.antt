@@ -1,5 +1,5 @@
 -- What is read of a tree where a reference may stand: the reference, or what is read of the tree itself.
-use Rattle.std.proofs.Common.{◌≡◌, ℕ, ◌+◌, ◌≤◌, Bool, true, List, Option, Some, None, Result, Ok, Err, refl, sym, ap, ◌∙◌, subst, inr}
+use Rattle.std.proofs.Common.{◌≡◌, ℕ, true, List, Some, None, refl, sym, ap, ◌∙◌, subst, inr}
 use Rattle.std.specs.Borrow.{Bor}
 use Rattle.openapi_node.specs.Fault.{place_of}
 use Rattle.openapi_node.specs.Place.{Place}
@@ -24,7 +24,7 @@ use Rattle.openapi_tables.specs.Tables.{final_tables}
 use Rattle.openapi_tables.specs.Tree.{members_list}
 use Rattle.openapi_tables.specs.Members.{held, first_tree}
 use Rattle.openapi_tables.specs.Conforms.{conforms, reference_or, root_conforms, text_in}
-use Rattle.openapi_tables.specs.Form.{Form, reference, an_item}
+use Rattle.openapi_tables.specs.Form.{Form, reference}
 use Rattle.openapi_tables.specs.Read.{form, reference_or_item, root_form}
 use Rattle.openapi_tables.specs.Faults as faults
 use Rattle.openapi_tables.specs.Faults.{Asking, asked, root_asks, unless_reference}
@@ -33,9 +33,8 @@ use Rattle.openapi_tables.specs.ByRow.{Broken, asking}
 use Rattle.openapi_tables.proofs.ByRowLaws.{own-found, own-missing}
 use Rattle.openapi_tables.proofs.AskedLaws.{reference_of}
 use Rattle.openapi_values.specs.Reference.{reference_form}
-use Rattle.openapi_values.specs.declared.reference.ReferenceOr.{ReferenceOr}
 use Rattle.openapi_values.specs.declared.reference.ReferenceOr.TheVariants as v
-use Rattle.openapi_rows.specs.Gives.{FailsBy, Fails, Reads, Gives}
+use Rattle.openapi_rows.specs.Gives.{FailsBy, Fails, Reads}
 use Rattle.openapi_rows.specs.References.{reference_in}
 
 -- where all that one kind asks of a tree another one asks of it too, a refusal by the first is one by the other

@@ -1,6 +1,6 @@
 -- Objects whose tag says by which table they are read.
 use Rattle.std.proofs.Common.{◌≡◌, ℕ, ◌+◌, ◌≤◌, Bool, true, false, cond, ◌&&◌, ◌||◌, List, [], ◌∷◌, ◌++◌, Option, Some, None, Result, Ok, Err, OnOk, IfOk, refl, sym, ap, ◌∙◌, subst, arith, inl, inr}
-use Rattle.std.proofs.lemmas.Bool.{and_parts, and_from}
+use Rattle.std.proofs.lemmas.Bool.{and_parts}
 use Rattle.std.specs.Borrow.{Bor}
 use Rattle.openapi_map.specs.Entries.{Entries, get}
 use Rattle.openapi_map.specs.declared.OrderedMap.{OrderedMap}
@@ -12,9 +12,9 @@ use Rattle.openapi_node.specs.declared.fault.Fault.{Fault}
 use Rattle.openapi_node.specs.declared.node.Node.{Node}
 use Rattle.openapi_node.specs.declared.node.View.{View}
 use Rattle.openapi_node.specs.declared.node.View.TheVariants as v
-use Rattle.openapi_tables.specs.Kind.{Kind, any_tree, by, tagged, one_of, required, Case, Row, row, constant}
+use Rattle.openapi_tables.specs.Kind.{Kind, any_tree, by, tagged, one_of, required, Case, row, constant}
 use Rattle.openapi_tables.specs.Lists.{every, each, same_text}
-use Rattle.openapi_tables.specs.Tree.{Entry, Seen, Shape, on_entry, of_members, members_list}
+use Rattle.openapi_tables.specs.Tree.{Seen, Shape, on_entry, of_members, members_list}
 use Rattle.openapi_tables.specs.Tables.{final_tables, tables_with, security_scheme, parameter}
 use Rattle.openapi_tables.specs.Members.{own, held, first_tree, trees, tag, tag_choice, choice, is_case, case_rows}
 use Rattle.openapi_tables.specs.Members.{rows_of, checked_rows}
@@ -25,11 +25,11 @@ use Rattle.openapi_tables.specs.Print.{print, one}
 use Rattle.openapi_tables.specs.Unwritable.{unwritable}
 use Rattle.openapi_tables.specs.Sound.{sound, rows_apart}
 use Rattle.openapi_tables.specs.Faults.{causes, wrong_kind}
-use Rattle.openapi_tables.specs.Faults.{Asking, Cause, missing, tag_misses, words, tag_table, root_asks, asked, asks_own}
+use Rattle.openapi_tables.specs.Faults.{Asking, missing, tag_misses, words, tag_table, root_asks, asked, asks_own}
 use Rattle.openapi_tables.specs.Faults.{asks_tag, below}
 use Rattle.openapi_tables.specs.Laws.{Among}
 use Rattle.openapi_tables.specs.ByRow.{AreRows, rows_weight, row_weight, Broken, StepsTo, asking, is_named}
-use Rattle.openapi_tables.specs.Slots.{Slot, slots, slot_where, before, through, slots_apart, slots_lost, IsWritten}
+use Rattle.openapi_tables.specs.Slots.{Slot, slot_where, before, through, slots_apart, slots_lost, IsWritten}
 use Rattle.openapi_tables.proofs.ListLaws.{same_text_eq, same_text-refl}
 use Rattle.openapi_tables.proofs.TreeLaws.{see}
 use Rattle.openapi_tables.proofs.Taken.{trees_of-members}
@@ -38,7 +38,7 @@ use Rattle.openapi_tables.proofs.ByRowLaws.{own-found, own-missing, own-members,
 use Rattle.openapi_tables.proofs.ByRowLaws.{among_left, among_right, among_below}
 use Rattle.openapi_tables.proofs.SlotWriting.{slots_apart-rows, fields_print, fields_lost, is_new, one_put}
 use Rattle.openapi_rows.specs.Forms.{tagged_form, tagged_slots}
-use Rattle.openapi_rows.specs.Gives.{Fails, Reads, Gives, GivesRows}
+use Rattle.openapi_rows.specs.Gives.{Gives, GivesRows}
 use Rattle.openapi_rows.proofs.Referring.{fails_wider, held_found, held_missing}
 
 -- the kinds with a tag are well made

@@ -1,4 +1,5 @@
-//! The words of fixed sets: the styles of parameters and headers, and the parts of a request that hold an API key.
+//! The words of fixed sets: formats, the styles of parameters and headers, and the parts of a request that hold an API
+//! key.
 ghost use Rattle.std.proofs.Common.{lit≤, refl};
 ghost use Rattle.std.specs.Prelude.{◌≡◌, ◌+◌, ◌≤◌, ◌*◌, true, false, IfOk, IfErr};
 ghost use Rattle.openapi_node.specs.Fault.{IsMemory};
@@ -6,15 +7,20 @@ ghost use Rattle.openapi_node.specs.Tree as tree;
 ghost use Rattle.openapi_node.specs.View.{shown};
 ghost use Rattle.openapi_tables.specs.Kind.{one_of};
 ghost use Rattle.openapi_tables.specs.Tables.{path_styles, query_styles, cookie_styles, header_styles};
+ghost use Rattle.openapi_tables.specs.Tables.{number_formats, integer_formats, string_formats};
 ghost use Rattle.openapi_values.specs.Words.{word_form, api_key_locations, api_key_location_word};
 ghost use Rattle.openapi_values.specs.Words.{path_style_word, query_style_word, cookie_style_word};
-ghost use Rattle.openapi_values.specs.Words.{header_style_word};
+ghost use Rattle.openapi_values.specs.Words.{header_style_word, number_format_word, integer_format_word};
+ghost use Rattle.openapi_values.specs.Words.{string_format_word};
 ghost use Rattle.openapi_rows.specs.Gives.{Gives, WrittenAs};
 
 use crate::from_node::FromNode;
 use crate::to_node::ToNode;
 use openapi_node::{Cause, Expected, Fault, Node, Steps, View};
-use openapi_values::{APIKeyLocation, CookieStyle, HeaderStyle, PathStyle, QueryStyle, Word};
+use openapi_values::{
+    APIKeyLocation, CookieStyle, HeaderStyle, IntegerFormat, NumberFormat, PathStyle, QueryStyle,
+    StringFormat, Word,
+};
 use std::alloc::Global;
 
 /// Reads a text that is to be a word of a set.
@@ -155,6 +161,87 @@ impl FromNode for APIKeyLocation {
 }
 
 impl ToNode for APIKeyLocation {
+    fn to_node(&self, alloc: Global) -> Result<Node, Fault> {
+        write_word(alloc, self)
+    }
+
+    ghost there = { λ x. refl };
+}
+
+/// A format by itself: a word that is known.
+impl FromNode for NumberFormat {
+    ghost kind = { one_of number_formats };
+
+    ghost form_of = { word_form number_format_word };
+
+    fn from_view(
+        alloc: Global,
+        view: &View<'_>,
+        _steps: &mut Steps,
+    ) -> Result<NumberFormat, Fault> {
+        read_word(alloc, view)
+    }
+
+    ghost few = { lit≤ tt };
+
+    ghost well_made = { refl };
+}
+
+impl ToNode for NumberFormat {
+    fn to_node(&self, alloc: Global) -> Result<Node, Fault> {
+        write_word(alloc, self)
+    }
+
+    ghost there = { λ x. refl };
+}
+
+/// A format by itself: a word that is known.
+impl FromNode for IntegerFormat {
+    ghost kind = { one_of integer_formats };
+
+    ghost form_of = { word_form integer_format_word };
+
+    fn from_view(
+        alloc: Global,
+        view: &View<'_>,
+        _steps: &mut Steps,
+    ) -> Result<IntegerFormat, Fault> {
+        read_word(alloc, view)
+    }
+
+    ghost few = { lit≤ tt };
+
+    ghost well_made = { refl };
+}
+
+impl ToNode for IntegerFormat {
+    fn to_node(&self, alloc: Global) -> Result<Node, Fault> {
+        write_word(alloc, self)
+    }
+
+    ghost there = { λ x. refl };
+}
+
+/// A format by itself: a word that is known.
+impl FromNode for StringFormat {
+    ghost kind = { one_of string_formats };
+
+    ghost form_of = { word_form string_format_word };
+
+    fn from_view(
+        alloc: Global,
+        view: &View<'_>,
+        _steps: &mut Steps,
+    ) -> Result<StringFormat, Fault> {
+        read_word(alloc, view)
+    }
+
+    ghost few = { lit≤ tt };
+
+    ghost well_made = { refl };
+}
+
+impl ToNode for StringFormat {
     fn to_node(&self, alloc: Global) -> Result<Node, Fault> {
         write_word(alloc, self)
     }

@@ -1,4 +1,5 @@
 pub mod AnyForms
+pub mod CombinedForms
 pub mod FormatSlots
 pub mod HeldRows
 pub mod ItemSizes
@@ -7,6 +8,11 @@ pub mod KindGives
 pub mod KindSorts
 pub mod KindTests
 pub mod MaskLaws
+pub mod PartRows
+pub mod PresentRows
 pub mod RawSort
+pub mod References
+pub mod SchemaReads
 pub mod SortByNames
 pub mod SortSlots
+pub mod ToldSorts

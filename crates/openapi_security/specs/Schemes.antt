@@ -4,7 +4,7 @@ use Rattle.std.proofs.Common.{refl}
 use Rattle.std.specs.Global.{Vec}
 use Rattle.std.specs.declared.alloc.Global.{Global}
 use Rattle.openapi_map.specs.Entries.{Entries}
-use Rattle.openapi_tables.specs.Kind.{Case, Kind, by, http_scheme, api_key_scheme, oauth2_scheme, open_id_connect_scheme}
+use Rattle.openapi_tables.specs.Kind.{Case, http_scheme, api_key_scheme, oauth2_scheme, open_id_connect_scheme}
 use Rattle.openapi_tables.specs.Rows.{case}
 use Rattle.openapi_tables.specs.Members.{is_case}
 use Rattle.openapi_tables.specs.Form.{Form}

@@ -1,5 +1,4 @@
 use Rattle.std.proofs.Common.{cond, ap, ◌||◌}
-use Rattle.openapi_tables.specs.Lists.{same_text}
 use Rattle.openapi_tables.proofs.ListLaws.{same_text-refl}
 use Rattle.openapi_rows.proofs.Deciding.{decided_new, decided_put, decided_loses}
 use Rattle.openapi_rows.proofs.either.put_second.Goals as goal

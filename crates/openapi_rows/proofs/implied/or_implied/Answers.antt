@@ -1,4 +1,4 @@
-use Rattle.std.proofs.Common.{refl, Some, None, Ok, sym, ◌∙◌, arith}
+use Rattle.std.proofs.Common.{Some, None, Ok, sym, ◌∙◌, arith}
 use Rattle.openapi_node.specs.Tree.{members_of, find}
 use Rattle.openapi_tables.specs.Kind.{required}
 use Rattle.openapi_rows.specs.Gives.{GivesMember}

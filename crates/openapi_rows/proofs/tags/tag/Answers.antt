@@ -1,6 +1,6 @@
-use Rattle.std.proofs.Common.{sym, ap, ◌∙◌, subst, arith}
+use Rattle.std.proofs.Common.{sym, ◌∙◌, subst, arith}
 use Rattle.openapi_node.specs.Place.{named}
-use Rattle.openapi_node.specs.Tree.{text, object, members_of}
+use Rattle.openapi_node.specs.Tree.{object, members_of}
 use Rattle.openapi_node.specs.View.{shown}
 use Rattle.openapi_node.specs.declared.fault.Cause.TheVariants.{Missing}
 use Rattle.openapi_tables.specs.Kind.{one_of, tagged, required}

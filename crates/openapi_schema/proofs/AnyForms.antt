@@ -1,4 +1,4 @@
--- The forms of schemas of no sort in particular, by the forms of what
+-- The forms of schemas of no sort in particular, and of the kinds that only combine schemas, by the forms of what
 -- they hold.
 use Rattle.std.proofs.Common.{◌≡◌, List, [], ◌∷◌, Option, Some, None, refl, ap, ◌∙◌, map, string_bytes}
 use Rattle.std.specs.Global.{Box}
@@ -80,13 +80,13 @@ any_items d None = refl
 any_items d (Some (r.Reference s)) = refl
 any_items d (Some (r.Item b)) = refl
 
-pub each_map : {X Y : Type 0} → (g : X → Y) (view : Y → Form) (kept : X → Form) → ((x : X) → view (g x) ≡ kept x)
+each_map : {X Y : Type 0} → (g : X → Y) (view : Y → Form) (kept : X → Form) → ((x : X) → view (g x) ≡ kept x)
     → (xs : List X)
     → each view (map g xs) ≡ each kept xs
 each_map g view kept h [] = refl
 each_map g view kept h (x ∷ xs) = λ i. h x i ∷ each_map g view kept h xs i
 
-pub by_cases : (p q : ReferenceOr Schema → Form) → ((s : _) → p (r.Reference s) ≡ q (r.Reference s)) → ((y : Schema)
+by_cases : (p q : ReferenceOr Schema → Form) → ((s : _) → p (r.Reference s) ≡ q (r.Reference s)) → ((y : Schema)
     → p (r.Item y) ≡ q (r.Item y))
     → (x : ReferenceOr Schema) → p x ≡ q x
 by_cases p q h k (r.Reference s) = h s

@@ -1,5 +1,4 @@
 pub mod AnyForms
-pub mod CombinedForms
 pub mod FormatSlots
 pub mod HeldRows
 pub mod ItemSizes
@@ -8,11 +7,6 @@ pub mod KindGives
 pub mod KindSorts
 pub mod KindTests
 pub mod MaskLaws
-pub mod PartRows
-pub mod PresentRows
 pub mod RawSort
-pub mod References
-pub mod SchemaReads
 pub mod SortByNames
 pub mod SortSlots
-pub mod ToldSorts

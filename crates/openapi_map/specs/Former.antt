@@ -1,7 +1,10 @@
 -- A list of entries as a former of its values.
-use Rattle.std.specs.Prelude.{◌≡◌, ℕ, max, List, [], ◌∷◌, map, Option, Some, None, String, string_bytes}
-use Rattle.std.specs.List.{IsDistinct, IsDistinct-prop}
-use Rattle.std.specs.Map.{values_of}
+use Rattle.std.specs.Prelude.{◌≡◌, ℕ, max, Bool, true, false, cond, ◌&&◌, List, [], ◌∷◌, map, Option, Some, None}
+use Rattle.std.specs.Prelude.{String, string_bytes}
+use Rattle.std.specs.HashMap.{entries_eq}
+use Rattle.std.specs.List.{IsDistinct, IsDistinct-prop, list_all}
+use Rattle.std.specs.Map.{keys_of, values_of, lookup_entry}
+use Rattle.std.specs.Option.{option_eq, option_map}
 use Rattle.std.specs.Str.{bytes_eq}
 use Rattle.std.specs.declared.alloc.Global.{Global}
 use Rattle.std.specs.declared.boxed.Box.{Box}
@@ -85,3 +88,67 @@ Indexed index names = IsDistinct bytes_eq names × IsIndexAt names index
 
 pub Indexed-prop : (index : Option (Box Index Global)) (names : List (List ℕ)) → IsProp (Indexed index names)
 Indexed-prop index names = ×_prop (IsDistinct-prop bytes_eq names) (IsIndexAt-prop names index)
+
+-- whether both entries are there and have equal values, or neither is there
+abbrev agree : {V : Type 0} → (V → V → Bool) → Option (List ℕ × V) → Option (List ℕ × V) → Bool
+agree eq = option_eq (λ e f. eq e.1 f.1)
+
+-- whether the entries of each of the names agree
+abbrev agree_at : {V : Type 0} → (V → V → Bool) → Entries V → Entries V → List (List ℕ) → Bool
+agree_at eq es fs =
+    list_all (λ name. agree eq (lookup_entry (bytes_eq name) es) (lookup_entry (bytes_eq name) fs))
+
+module _ {X Y : Type 0} (h : X → Y) where
+  -- an entry is chosen before its value is mapped or after
+  chosen-map : (b : Bool) (e : List ℕ × X) (rest : Option (List ℕ × X))
+      → cond b (Some (on_value h e)) (option_map (on_value h) rest)
+      ≡ option_map (on_value h) (cond b (Some e) rest)
+  chosen-map true e rest = refl
+  chosen-map false e rest = refl
+
+  -- the entry of a name among mapped ones is its entry, mapped
+  found-map : (name : List ℕ) (es : Entries X)
+      → lookup_entry (bytes_eq name) (map (on_value h) es)
+      ≡ option_map (on_value h) (lookup_entry (bytes_eq name) es)
+  found-map name [] = refl
+  found-map name (e ∷ es) =
+      ap (λ rest. cond (bytes_eq name e.0) (Some (on_value h e)) rest) (found-map name es)
+      ∙ chosen-map (bytes_eq name e.0) e (lookup_entry (bytes_eq name) es)
+
+  -- a map of the values keeps the names
+  keys_of-map : (es : Entries X) → keys_of (map (on_value h) es) ≡ keys_of es
+  keys_of-map [] = refl
+  keys_of-map (e ∷ es) = ap (λ names. e.0 ∷ names) (keys_of-map es)
+
+  module _ (eq : Y → Y → Bool) where
+    -- whether two values are equal once they are mapped
+    abbrev eq_after : X → X → Bool
+    eq_after x y = eq (h x) (h y)
+
+    -- mapped entries agree where the entries do by the mapped values
+    agree-map : (p q : Option (List ℕ × X))
+        → agree eq (option_map (on_value h) p) (option_map (on_value h) q) ≡ agree eq_after p q
+    agree-map None None = refl
+    agree-map None (Some f) = refl
+    agree-map (Some e) None = refl
+    agree-map (Some e) (Some f) = refl
+
+    module _ (es fs : Entries X) where
+      -- the same at each of the names
+      agree_at-map : (names : List (List ℕ))
+          → agree_at eq (map (on_value h) es) (map (on_value h) fs) names ≡ agree_at eq_after es fs names
+      agree_at-map [] = refl
+      agree_at-map (name ∷ names) =
+          let p = lookup_entry (bytes_eq name) es in
+          let q = lookup_entry (bytes_eq name) fs in
+          let first = (λ i. agree eq (found-map name es i) (found-map name fs i)) ∙ agree-map p q in
+          λ i. first i && agree_at-map names i
+
+      -- maps of mapped values are equal where the maps are by the mapped values
+      pub entries_eq-map : entries_eq bytes_eq (λ e f. eq e.1 f.1) (map (on_value h) es) (map (on_value h) fs)
+          ≡ entries_eq bytes_eq (λ e f. eq_after e.1 f.1) es fs
+      unfolding entries_eq
+      entries_eq-map =
+          let mapped = agree_at eq (map (on_value h) es) (map (on_value h) fs) in
+          λ i. (ap mapped (keys_of-map es) ∙ agree_at-map (keys_of es)) i
+          && (ap mapped (keys_of-map fs) ∙ agree_at-map (keys_of fs)) i

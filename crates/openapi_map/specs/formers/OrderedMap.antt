@@ -12,13 +12,16 @@ use denote.Model.Placed.{view_places}
 use Rattle.std.specs.Map.{values_of}
 use Rattle.std.specs.declared.alloc.Global.{Global}
 use Rattle.std.specs.declared.boxed.Box.{Box}
+use Rattle.std.specs.declared.cmp.PartialEq as eq
 use Rattle.std.specs.formers.vec.Vec as vec
 use Rattle.std.specs.contracts.alloc.Global as heap
 use Rattle.std.specs.contracts.impls.GlobalAllocator.TheImpl.{ghosts}
 use Rattle.openapi_map.specs.Entries.{Entries, names_of}
+use Rattle.openapi_map.specs.Equality.{entries_eq}
 use Rattle.openapi_map.specs.Index.{Index}
 use Rattle.openapi_map.specs.Former.{entry, stored, on_stored, entries_puts, values_listed, entries_recoded}
-use Rattle.openapi_map.specs.Former.{entries_of-map, names_of-map, entries_of-held, Indexed, Indexed-prop}
+use Rattle.openapi_map.specs.Former.{entries_of-map, names_of-map, entries_of-held, entries_eq-map}
+use Rattle.openapi_map.specs.Former.{Indexed, Indexed-prop}
 use Rattle.openapi_map.specs.declared.OrderedMap.TheInside.{Inside}
 use Rattle.openapi_map.specs.declared.OrderedMap.TheView.{view, invariant}
 use Rattle.openapi_map.specs.contracts.Entry as E
@@ -77,3 +80,9 @@ module _ (R R' : RattleType) (h : R.Denot → R'.Denot) where
   pub the_codes_placed : Recodes R R' h
       → Recodes (C.the_row R) (C.the_row R') ((the_former this).map R.Denot R'.Denot h)
   the_codes_placed e m = entries_recoded R R' h e m
+
+-- maps of mapped values are equal where the maps are by the mapped values
+pub the_eq_natural : (X Y : Type 0) (h : X → Y) (V : eq.Ghosts Y) (a b : Entries X)
+    → entries_eq V.eq ((the_former this).map X Y h a) ((the_former this).map X Y h b)
+    ≡ entries_eq (λ x y. V.eq (h x) (h y)) a b
+the_eq_natural X Y h V a b = entries_eq-map h V.eq a b

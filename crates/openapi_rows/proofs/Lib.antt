@@ -12,3 +12,4 @@ pub mod Referring
 pub mod Deciding
 pub mod Tagging
 pub mod Spared
+pub mod OrNull

@@ -3,7 +3,7 @@ use Rattle.std.specs.Prelude.{ℕ, ℤ, pos, Bool, ◌||◌, List, ◌∷◌, Op
 use Rattle.std.specs.Global.{Vec}
 use Rattle.std.specs.declared.alloc.Global.{Global}
 use Rattle.openapi_map.specs.Entries.{Entries}
-use Rattle.openapi_node.specs.Tree.{Tree, flag, whole, text}
+use Rattle.openapi_node.specs.Tree.{Tree, null, flag, whole, text}
 use Rattle.openapi_tables.specs.Lists.{each, same_text}
 use Rattle.openapi_tables.specs.Kind.{TableName, Case, constant}
 use Rattle.openapi_tables.specs.Tables.{final_tables}
@@ -25,6 +25,11 @@ flag_form b = leaf (flag b)
 abbrev pub optional_form : {X : Type 0} → (X → Form) → Option X → Form
 optional_form view None = absent
 optional_form view (Some x) = view x
+
+-- a value in whose place null may stand
+abbrev pub nullable_form : {X : Type 0} → (X → Form) → Option X → Form
+nullable_form view None = leaf null
+nullable_form view (Some x) = view x
 
 -- a list, in order
 abbrev pub list_form : {X : Type 0} → (X → Form) → Vec X → Form

@@ -1,6 +1,7 @@
 #![tactic(auto)]
 //! Reading and writing by tables: what a type that is read from trees and written as trees offers, and the rows of
 //! an object by their modes, the same for every type.
+mod boxes;
 mod classes;
 mod either;
 mod entries;
@@ -10,6 +11,7 @@ mod implied;
 mod lists;
 mod maps;
 mod names;
+mod nulls;
 mod numbers;
 mod object;
 mod place;
@@ -30,6 +32,7 @@ pub use implied::{Implied, or_implied, put_implied};
 pub use lists::{items, write_items};
 pub use maps::write_map;
 pub use names::{AllNames, ClassNames, Extensions, Names};
+pub use nulls::Nullable;
 pub use object::{Object, Record, read_record, write_record};
 pub use place::{at_index, at_name};
 pub use put_rows::{put, put_nullable, put_optional, put_required, put_value};

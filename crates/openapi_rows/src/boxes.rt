@@ -1,0 +1,42 @@
+//! Values in boxes.
+use crate::from_node::FromNode;
+use crate::references::Referable;
+use crate::to_node::ToNode;
+use openapi_node::{Fault, Node, Steps, View};
+use std::alloc::Global;
+
+/// A value in a box is read as the value is; or memory runs out for the box.
+impl<T: FromNode + Drop> FromNode for Box<T> {
+    ghost kind = { T.kind };
+
+    ghost form_of = { λ b. T.form_of b.value };
+
+    fn from_view(alloc: Global, view: &View<'_>, steps: &mut Steps) -> Result<Box<T>, Fault> {
+        match T::from_view(alloc, view, steps) {
+            Ok(value) => match Box::new(alloc, value) {
+                Ok(boxed) => Ok(boxed),
+                Err(_) => Err(Fault::memory(alloc)),
+            },
+            Err(fault) => Err(fault),
+        }
+    }
+
+    ghost few = { T.few };
+
+    ghost well_made = { T.well_made };
+}
+
+/// A value in a box is written as the value is.
+impl<T: ToNode + Drop> ToNode for Box<T> {
+    fn to_node(&self, alloc: Global) -> Result<Node, Fault> {
+        (**self).to_node(alloc)
+    }
+
+    ghost there = { λ b. T.there b.value };
+}
+
+impl<T: Referable + Drop> Referable for Box<T> {
+    ghost direct = { T.direct };
+
+    ghost spares_ref = { T.spares_ref };
+}

@@ -1,4 +1,4 @@
--- The forms of schemas of no sort in particular, and of the kinds that only combine schemas, by the forms of what
+-- The forms of schemas of no sort in particular, by the forms of what
 -- they hold.
 use Rattle.std.proofs.Common.{◌≡◌, List, [], ◌∷◌, Option, Some, None, refl, ap, ◌∙◌, map, string_bytes}
 use Rattle.std.specs.Global.{Box}
@@ -80,13 +80,13 @@ any_items d None = refl
 any_items d (Some (r.Reference s)) = refl
 any_items d (Some (r.Item b)) = refl
 
-each_map : {X Y : Type 0} → (g : X → Y) (view : Y → Form) (kept : X → Form) → ((x : X) → view (g x) ≡ kept x)
+pub each_map : {X Y : Type 0} → (g : X → Y) (view : Y → Form) (kept : X → Form) → ((x : X) → view (g x) ≡ kept x)
     → (xs : List X)
     → each view (map g xs) ≡ each kept xs
 each_map g view kept h [] = refl
 each_map g view kept h (x ∷ xs) = λ i. h x i ∷ each_map g view kept h xs i
 
-by_cases : (p q : ReferenceOr Schema → Form) → ((s : _) → p (r.Reference s) ≡ q (r.Reference s)) → ((y : Schema)
+pub by_cases : (p q : ReferenceOr Schema → Form) → ((s : _) → p (r.Reference s) ≡ q (r.Reference s)) → ((y : Schema)
     → p (r.Item y) ≡ q (r.Item y))
     → (x : ReferenceOr Schema) → p x ≡ q x
 by_cases p q h k (r.Reference s) = h s
@@ -124,8 +124,10 @@ any_not : (d : Any) (o : Option (Box (ReferenceOr Schema)))
 any_not d None = refl
 any_not d (Some b) = any_not_box d b b.value
 
-pub any_rows-roll : (d : Any) → any_schema_rows (roll-AnySchema d)
-    ≡ optional_form text_form d.typ
+-- its forms, row by row
+abbrev pub listed_any : Any → List Form
+listed_any d =
+    optional_form text_form d.typ
     ∷ optional_form text_form d.pattern
     ∷ optional_form number_form d.multiple_of
     ∷ optional_form flag_form d.exclusive_minimum
@@ -150,10 +152,10 @@ pub any_rows-roll : (d : Any) → any_schema_rows (roll-AnySchema d)
     ∷ list_form (reference_form schema_form) d.any_of
     ∷ optional_form (λ b. reference_form schema_form b.value) d.not
     ∷ []
-any_rows-roll d =
-    fold-roll-AnySchema Form Sorted Sorted (List Form) (List Form) (List Form) Form additional_step schema_kind_step
-    schema_type_step any_schema_step array_type_step object_type_step schema_step d
-    ∙ (λ i. optional_form text_form d.typ
+
+pub any_rows-level : (d : Any) → any_schema_step (any_level d) ≡ listed_any d
+any_rows-level d =
+    (λ i. optional_form text_form d.typ
     ∷ optional_form text_form d.pattern
     ∷ optional_form number_form d.multiple_of
     ∷ optional_form flag_form d.exclusive_minimum
@@ -178,3 +180,9 @@ any_rows-roll d =
     ∷ any_any_of d i
     ∷ any_not d d.not i
     ∷ [])
+
+pub any_rows-roll : (d : Any) → any_schema_rows (roll-AnySchema d) ≡ listed_any d
+any_rows-roll d =
+    fold-roll-AnySchema Form Sorted Sorted (List Form) (List Form) (List Form) Form additional_step schema_kind_step
+    schema_type_step any_schema_step array_type_step object_type_step schema_step d
+    ∙ any_rows-level d

@@ -7,6 +7,7 @@ use Rattle.std.proofs.Common.{
   cond,
   List,
   [],
+  ◌∷◌,
   Option,
   Some,
   None,
@@ -26,11 +27,10 @@ use Rattle.std.specs.declared.alloc.Global.{Global}
 use Rattle.openapi_map.specs.Entries.{Entries}
 use Rattle.openapi_node.specs.Tree.{flag}
 use Rattle.std.specs.Borrow.{Bor}
-use Rattle.openapi_node.specs.Tree.{Tree}
+use Rattle.openapi_node.specs.Tree.{Tree, null}
 use Rattle.openapi_node.specs.declared.node.Node.{Node}
 use Rattle.openapi_node.specs.declared.fault.Fault.{Fault}
 use Rattle.openapi_tables.specs.Lists.{each}
-use Rattle.openapi_tables.proofs.ListLaws.{each-each}
 use Rattle.openapi_schema.specs.Enumerations.{entry_tree, GivesEntries}
 use Rattle.openapi_schema.specs.KindNames.{trees_form}
 use Rattle.openapi_schema.specs.Kinds.{GivesEnumeration, trees_in, trees_or_none}
@@ -41,7 +41,7 @@ use Rattle.openapi_values.specs.Words.{IsWordRead}
 use Rattle.openapi_values.specs.declared.variant_or.VariantOrUnknownOrEmpty.{VariantOrUnknownOrEmpty}
 use Rattle.openapi_values.specs.declared.variant_or.VariantOrUnknownOrEmpty.TheVariants as o
 use Rattle.openapi_schema.specs.RawSlots.{or_else, as_format}
-use Rattle.openapi_schema.specs.SchemaForms.{flag_form, list_form}
+use Rattle.openapi_schema.specs.SchemaForms.{flag_form, list_form, entry_form}
 
 -- what is made of a text that may be missing is the slot of a format
 pub format_slot : {X : Type 0} → (E : Type 0) (word : X → List ℕ) (words : List (List ℕ)) (text : Option
@@ -79,13 +79,19 @@ pub kept_slot : (o : Option (Bor (List Tree))) (v : Vec Node) → v.items ≡ tr
 kept_slot None v h = ap (λ ts. sequence (forms_of (each leaf ts))) h
 kept_slot (Some nodes) v h = ap (λ ts. sequence (forms_of (each leaf ts))) h
 
+-- the form of an entry is its tree
+entry_forms : {X : Type 0} → (tree_in : X → Tree) (os : List (Option X))
+    → each (entry_form tree_in) os ≡ each leaf (each (entry_tree tree_in) os)
+entry_forms tree_in [] = refl
+entry_forms tree_in (None ∷ os) = ap (λ fs. leaf null ∷ fs) (entry_forms tree_in os)
+entry_forms tree_in (Some x ∷ os) = ap (λ fs. leaf (tree_in x) ∷ fs) (entry_forms tree_in os)
+
 pub entries_given : {X : Type 0} → (test : Tree → Bool) (tree_in : X → Tree) (r : Result (Option (Vec
     (Option X))) Fault) (ts : List Tree)
     → GivesEntries test tree_in r ts → GivesEnumeration test tree_in r (Some ts)
 entries_given test tree_in (Ok None) ts h = h
 entries_given test tree_in (Ok (Some v)) ts h = (
   h.0,
-  ap (λ fs. sequence (forms_of fs)) (sym (each-each leaf (entry_tree tree_in) v.items)
-      ∙ ap (λ us. each leaf us) h.1),
+  ap (λ fs. sequence (forms_of fs)) (entry_forms tree_in v.items ∙ ap (λ us. each leaf us) h.1),
 )
 entries_given test tree_in (Err f) ts h = h

@@ -131,13 +131,13 @@ form_there T k (list ts) = root_there T (a_list (of_items (root_form T) ts)) k
 form_there T k (object ms) = root_there T (an_object (of_members (root_form T) ms)) k
 
 module _ (T : Tables) (n : List ℕ) (k : Kind) (ms : Members) where
-  abbrev under_name : Tree
+  abbrev pub under_name : Tree
   under_name = held n (members_list ms)
 
-  under_found : (t : Tree) → find n ms ≡ Some t → held n (members_list ms) ≡ t
+  pub under_found : (t : Tree) → find n ms ≡ Some t → held n (members_list ms) ≡ t
   under_found t e = ap first_tree (own-found n optional k ms t e).is
 
-  under_missing : find n ms ≡ None → held n (members_list ms) ≡ null
+  pub under_missing : find n ms ≡ None → held n (members_list ms) ≡ null
   under_missing e = ap first_tree (own-missing n optional k ms e)
 
   -- an optional row holds where nothing but null stands under the name, or what conforms

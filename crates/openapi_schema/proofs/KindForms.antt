@@ -145,6 +145,18 @@ object_additional : (d : Object) (o : Option AdditionalProperties)
 object_additional d None = refl
 object_additional d (Some a) = refl
 
+pub object_rows-level : (d : Object) → object_type_step (object_level d)
+    ≡ map_form (reference_form (λ b. schema_form b.value)) d.properties
+    ∷ list_form text_form d.required
+    ∷ optional_form additional_form d.additional_properties
+    ∷ optional_form size_form d.min_properties
+    ∷ optional_form size_form d.max_properties
+    ∷ []
+object_rows-level d =
+    (λ i. named (named_of (object_properties d d.properties i)) ∷ list_form text_form d.required
+    ∷ object_additional d d.additional_properties i ∷ optional_form size_form d.min_properties
+    ∷ optional_form size_form d.max_properties ∷ [])
+
 pub object_rows-roll : (d : Object) → object_type_rows (roll-ObjectType d)
     ≡ map_form (reference_form (λ b. schema_form b.value)) d.properties
     ∷ list_form text_form d.required
@@ -155,9 +167,7 @@ pub object_rows-roll : (d : Object) → object_type_rows (roll-ObjectType d)
 object_rows-roll d =
     fold-roll-ObjectType Form Sorted Sorted (List Form) (List Form) (List Form) Form additional_step schema_kind_step
     schema_type_step any_schema_step array_type_step object_type_step schema_step d
-    ∙ (λ i. named (named_of (object_properties d d.properties i)) ∷ list_form text_form d.required
-    ∷ object_additional d d.additional_properties i ∷ optional_form size_form d.min_properties
-    ∷ optional_form size_form d.max_properties ∷ [])
+    ∙ object_rows-level d
 
 -- the same for an array
 abbrev pub Array : Type 0
@@ -177,6 +187,16 @@ array_items d None = refl
 array_items d (Some (r.Reference s)) = refl
 array_items d (Some (r.Item b)) = refl
 
+pub array_rows-level : (d : Array) → array_type_step (array_level d)
+    ≡ optional_form (reference_form (λ b. schema_form b.value)) d.items
+    ∷ optional_form size_form d.min_items
+    ∷ optional_form size_form d.max_items
+    ∷ flag_form d.unique_items
+    ∷ []
+array_rows-level d =
+    (λ i. array_items d d.items i ∷ optional_form size_form d.min_items ∷ optional_form size_form d.max_items
+    ∷ flag_form d.unique_items ∷ [])
+
 pub array_rows-roll : (d : Array) → array_type_rows (roll-ArrayType d)
     ≡ optional_form (reference_form (λ b. schema_form b.value)) d.items
     ∷ optional_form size_form d.min_items
@@ -186,5 +206,4 @@ pub array_rows-roll : (d : Array) → array_type_rows (roll-ArrayType d)
 array_rows-roll d =
     fold-roll-ArrayType Form Sorted Sorted (List Form) (List Form) (List Form) Form additional_step schema_kind_step
     schema_type_step any_schema_step array_type_step object_type_step schema_step d
-    ∙ (λ i. array_items d d.items i ∷ optional_form size_form d.min_items ∷ optional_form size_form d.max_items
-    ∷ flag_form d.unique_items ∷ [])
+    ∙ array_rows-level d

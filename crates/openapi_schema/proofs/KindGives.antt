@@ -48,7 +48,7 @@ kind_gives T fs ms h =
           ∙ ap (λ gs. fields (sort s) (forms_of gs)) (sort_slots-read T ms fs h s),
     )
 
-rows_join : (T : Tables) (ws vs : List Row) (fs gs : List Form) (ms : Members) → AreRows T ws fs ms → AreRows T vs gs ms
+pub rows_join : (T : Tables) (ws vs : List Row) (fs gs : List Form) (ms : Members) → AreRows T ws fs ms → AreRows T vs gs ms
     → AreRows T (join ws vs) (join fs gs) ms
 rows_join T [] vs [] gs ms h k = k
 rows_join T [] vs (f ∷ fs) gs ms h k = absurd h
@@ -114,7 +114,7 @@ kind_fails f ms h = go f.cause h
     go Memory b = b
 
 -- the rows of a schema look at each member once at most
-rows_weight-join : (ws vs : List Row) (ms : Members) → rows_weight (join ws vs) ms
+pub rows_weight-join : (ws vs : List Row) (ms : Members) → rows_weight (join ws vs) ms
     ≡ rows_weight ws ms + rows_weight vs ms
 rows_weight-join [] vs ms = omega arith
 rows_weight-join (w ∷ ws) vs ms = omega (arith, rows_weight-join ws vs ms)

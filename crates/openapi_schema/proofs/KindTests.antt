@@ -44,6 +44,7 @@ use Rattle.openapi_tables.specs.Members.{
 use Rattle.openapi_tables.specs.Form.{Form, sequence, no_forms}
 use Rattle.openapi_tables.specs.ByRow.{AreRows, RowGives}
 use Rattle.openapi_rows.specs.Forms.{optional_form}
+use Rattle.openapi_schema.specs.Masks.{sort_by_names}
 use Rattle.openapi_schema.specs.RawSlots.{optional_rows, or_else}
 use Rattle.openapi_schema.specs.SchemaForms.{list_form, entry_form}
 use Rattle.openapi_schema.specs.KindNames.{kind_name_rows, trees_form}
@@ -55,6 +56,7 @@ use Rattle.openapi_schema.specs.Kinds.{
   entries_test,
   trees_in,
   limit_test,
+  IsKind,
 }
 use Rattle.openapi_schema.specs.declared.kind_names.FirstNames.{FirstNames}
 use Rattle.openapi_schema.specs.declared.kind_names.LastNames.{LastNames}
@@ -120,3 +122,16 @@ fails_by s a b (Ok k) h g = λ ms rows e.
     let P : Sort → Type 0 = λ x. IsKindOf x k a b in
     subst P (sym (sort_fails (members_list ms) s e (h ms rows))) g
 fails_by s a b (Err f) h g = g
+
+-- a kind of the sort that the names allow
+pub chosen_kind : (s : Sort) (a : FirstNames) (b : LastNames) (k : SchemaKind)
+    → ((ms : Members) → AreRows final_tables optional_rows (kind_name_rows a b) ms → s ≡ sort_by_names (members_list ms))
+    → IsKindBy s k a b → IsKind k a b
+chosen_kind s a b k h g = λ ms rows. g ms rows (h ms rows)
+
+pub chosen_any : (a : FirstNames) (b : LastNames) (r : Result SchemaKind Fault)
+    → ((ms : Members) → AreRows final_tables optional_rows (kind_name_rows a b) ms → any_sort ≡ sort_by_names
+    (members_list ms))
+    → IfOk r (λ k. IsKindOf any_sort k a b) → IfOk r (λ k. IsKind k a b)
+chosen_any a b (Ok k) h g = chosen_kind any_sort a b k h (passes_by any_sort a b k (λ ms rows. refl) g)
+chosen_any a b (Err f) h g = g

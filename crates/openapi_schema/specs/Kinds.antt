@@ -1,5 +1,5 @@
 -- The kind of a schema beside what stands under the kind names.
-use Rattle.std.specs.Prelude.{◌≡◌, ℕ, ℤ, Bool, true, false, List, [], Option, Some, None, Result, Ok, Err}
+use Rattle.std.specs.Prelude.{◌≡◌, ℕ, ℤ, Bool, true, false, ◌&&◌, List, [], Option, Some, None, Result, Ok, Err}
 use Rattle.std.specs.Global.{Vec}
 use Rattle.std.specs.Borrow.{Bor}
 use Rattle.openapi_node.specs.Tree.{Tree, whole, items_of, items_size}
@@ -19,6 +19,7 @@ use Rattle.openapi_schema.specs.KindNames.{trees_form, kind_name_rows}
 use Rattle.openapi_schema.specs.declared.kind_names.FirstNames.{FirstNames}
 use Rattle.openapi_schema.specs.declared.kind_names.LastNames.{LastNames}
 use Rattle.openapi_schema.specs.declared.schema.SchemaKind.{SchemaKind}
+use Rattle.openapi_schema.specs.declared.schema_kind.Limits.{Limits}
 
 -- the trees that may be lent
 abbrev pub trees_in : Option (Bor (List Tree)) → Option (List Tree)
@@ -66,6 +67,16 @@ abbrev pub GivesLimit : Option (Option ℤ) → Option ℤ → Type 0
 GivesLimit None o = limit_test o ≡ false
 GivesLimit (Some p) o = (limit_test o ≡ true) × (p ≡ o)
 
+-- whether all limits fit
+abbrev pub limits_test : FirstNames → Bool
+limits_test a = limit_test a.multiple_of && limit_test a.minimum && limit_test a.maximum
+
+-- all limits fit, and are the numbers; or one does not fit
+abbrev pub GivesLimits : Option Limits → FirstNames → Type 0
+GivesLimits None a = limits_test a ≡ false
+GivesLimits (Some x) a =
+    (limits_test a ≡ true) × (x.multiple_of ≡ a.multiple_of) × (x.minimum ≡ a.minimum) × (x.maximum ≡ a.maximum)
+
 -- the trees, none where there are none
 abbrev pub trees_or_none : Option (List Tree) → List Tree
 trees_or_none None = []
@@ -75,4 +86,10 @@ trees_or_none (Some ts) = ts
 abbrev pub IsKindBy : Sort → SchemaKind → FirstNames → LastNames → Type 0
 IsKindBy s k a b =
     (ms : Members) → AreRows final_tables optional_rows (kind_name_rows a b) ms → s ≡ sort_by_names (members_list ms)
+    → IsKindOf (sort_of (members_list ms)) k a b
+
+-- a kind is that of members of which these rows are read
+abbrev pub IsKind : SchemaKind → FirstNames → LastNames → Type 0
+IsKind k a b =
+    (ms : Members) → AreRows final_tables optional_rows (kind_name_rows a b) ms
     → IsKindOf (sort_of (members_list ms)) k a b

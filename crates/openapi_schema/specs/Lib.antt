@@ -1,6 +1,12 @@
 pub mod Enumerations
+pub mod Fields
 pub mod KindNames
 pub mod Kinds
 pub mod Masks
+pub mod PlainNames
+pub mod Present
 pub mod RawSlots
+pub mod Reading
 pub mod SchemaForms
+pub mod TypeForms
+pub mod Writing

@@ -1,9 +1,8 @@
 -- The forms of schemas: a fold over the types that hold one another.
-use Rattle.std.specs.Prelude.{ℕ, ℤ, pos, Bool, List, [], ◌∷◌, Option}
-use Rattle.std.specs.Global.{Vec}
-use Rattle.openapi_node.specs.Tree.{Tree, flag, whole}
-use Rattle.openapi_tables.specs.Lists.{each, join}
-use Rattle.openapi_tables.specs.Form.{Form, absent, leaf, sequence, fields, forms_of}
+use Rattle.std.specs.Prelude.{List, [], ◌∷◌, Option}
+use Rattle.openapi_node.specs.Tree.{Tree}
+use Rattle.openapi_tables.specs.Lists.{join}
+use Rattle.openapi_tables.specs.Form.{Form, absent, leaf, fields, forms_of}
 use Rattle.openapi_tables.specs.Members.{
   Sort,
   string_sort,
@@ -19,11 +18,14 @@ use Rattle.openapi_tables.specs.Members.{
   any_sort,
   sort,
 }
-use Rattle.openapi_rows.specs.Forms.{text_form, optional_form, map_form, extensions_form}
+use Rattle.openapi_rows.specs.Forms.{text_form, optional_form, nullable_form, map_form, record_form, extensions_form}
+use Rattle.openapi_records.specs.Objects.{external_documentation_rows, discriminator_rows, xml_rows}
+-- what others name through this module
+pub use Rattle.openapi_rows.specs.Forms.{flag_form, number_form, size_form, list_form}
 use Rattle.openapi_values.specs.Reference.{reference_form}
 use Rattle.openapi_values.specs.VariantOr.{variant_or_empty_form}
 use Rattle.openapi_values.specs.Words.{number_format_word, integer_format_word, string_format_word}
-use Rattle.openapi_schema.specs.Enumerations.{text_tree, number_tree, signed_tree, flag_tree, entry_tree}
+use Rattle.openapi_schema.specs.Enumerations.{text_tree, number_tree, signed_tree, flag_tree}
 use Rattle.openapi_schema.specs.declared.schema_data.SchemaData.{SchemaData}
 use Rattle.openapi_schema.specs.declared.scalar_types.StringType.{StringType}
 use Rattle.openapi_schema.specs.declared.scalar_types.NumberType.{NumberType}
@@ -55,21 +57,9 @@ use Rattle.openapi_schema.specs.declared.schema.AdditionalProperties.TheFolds.{
   fold-Schema,
 }
 
--- flags, numbers, lists and entries of enumerations
-abbrev pub flag_form : Bool → Form
-flag_form b = leaf (flag b)
-
-abbrev pub number_form : ℤ → Form
-number_form z = leaf (whole z)
-
-abbrev pub size_form : ℕ → Form
-size_form n = leaf (whole (pos n))
-
-abbrev pub list_form : {X : Type 0} → (X → Form) → Vec X → Form
-list_form view v = sequence (forms_of (each view v.items))
-
+-- entries of enumerations
 abbrev pub entry_form : {X : Type 0} → (X → Tree) → Option X → Form
-entry_form tree_in o = leaf (entry_tree tree_in o)
+entry_form tree_in = nullable_form (λ x. leaf (tree_in x))
 
 -- the slots of what every kind of schema can say
 abbrev pub schema_data_rows : SchemaData → List Form
@@ -78,10 +68,13 @@ schema_data_rows d =
     ∷ flag_form d.read_only
     ∷ flag_form d.write_only
     ∷ flag_form d.deprecated
+    ∷ optional_form (record_form external_documentation_rows) d.external_docs
     ∷ optional_form leaf d.example
     ∷ optional_form text_form d.title
     ∷ optional_form text_form d.description
+    ∷ optional_form (record_form discriminator_rows) d.discriminator
     ∷ optional_form leaf d.default
+    ∷ optional_form (record_form xml_rows) d.xml
     ∷ extensions_form d.extensions
     ∷ []
 

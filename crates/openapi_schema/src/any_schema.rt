@@ -1,11 +1,18 @@
 //! Schemas of no sort in particular.
+ghost use Rattle.std.specs.Prelude.{◌≡◌, [], None};
+ghost use Rattle.openapi_tables.specs.Kind.{any_schema, by};
+ghost use Rattle.openapi_tables.proofs.SlotWriting.{final_apart};
+ghost use Rattle.openapi_schema.specs.Fields.{any_fields, any_slots};
+
 use crate::schema::{AdditionalProperties, Schema};
 use openapi_node::{Node, OrderedMap, Whole};
+use openapi_rows::Object;
 use openapi_values::ReferenceOr;
+use std::alloc::Global;
 
 /// A schema with any combination of the members that tell the kinds of schemas apart.
 #[cycle(schema)]
-#[derive(Drop)]
+#[derive(Clone, Debug, PartialEq, Drop)]
 pub struct AnySchema {
     /// `type`: any text.
     pub typ: Option<String>,
@@ -55,4 +62,71 @@ pub struct AnySchema {
     pub any_of: Vec<ReferenceOr<Schema>>,
     /// Not this schema.
     pub not: Option<Box<ReferenceOr<Schema>>>,
+}
+
+impl AnySchema {
+    ghost use Rattle.openapi_schema.specs.declared.any_schema.AnySchema.{out-AnySchema};
+
+    /// A schema that allows anything.
+    pub fn new(alloc: Global) -> AnySchema
+        ensures typ { (out-AnySchema result).typ ≡ None }
+        ensures pattern { (out-AnySchema result).pattern ≡ None }
+        ensures multiple_of { (out-AnySchema result).multiple_of ≡ None }
+        ensures exclusive_minimum { (out-AnySchema result).exclusive_minimum ≡ None }
+        ensures exclusive_maximum { (out-AnySchema result).exclusive_maximum ≡ None }
+        ensures minimum { (out-AnySchema result).minimum ≡ None }
+        ensures maximum { (out-AnySchema result).maximum ≡ None }
+        ensures properties { (out-AnySchema result).properties ≡ [] }
+        ensures required { (out-AnySchema result).required.items ≡ [] }
+        ensures additional_properties { (out-AnySchema result).additional_properties ≡ None }
+        ensures min_properties { (out-AnySchema result).min_properties ≡ None }
+        ensures max_properties { (out-AnySchema result).max_properties ≡ None }
+        ensures items { (out-AnySchema result).items ≡ None }
+        ensures min_items { (out-AnySchema result).min_items ≡ None }
+        ensures max_items { (out-AnySchema result).max_items ≡ None }
+        ensures unique_items { (out-AnySchema result).unique_items ≡ None }
+        ensures enumeration { (out-AnySchema result).enumeration.items ≡ [] }
+        ensures format { (out-AnySchema result).format ≡ None }
+        ensures min_length { (out-AnySchema result).min_length ≡ None }
+        ensures max_length { (out-AnySchema result).max_length ≡ None }
+        ensures one_of { (out-AnySchema result).one_of.items ≡ [] }
+        ensures all_of { (out-AnySchema result).all_of.items ≡ [] }
+        ensures any_of { (out-AnySchema result).any_of.items ≡ [] }
+        ensures not { (out-AnySchema result).not ≡ None }
+    {
+        AnySchema {
+            typ: None,
+            pattern: None,
+            multiple_of: None,
+            exclusive_minimum: None,
+            exclusive_maximum: None,
+            minimum: None,
+            maximum: None,
+            properties: OrderedMap::new(alloc),
+            required: Vec::new(alloc),
+            additional_properties: None,
+            min_properties: None,
+            max_properties: None,
+            items: None,
+            min_items: None,
+            max_items: None,
+            unique_items: None,
+            enumeration: Vec::new(alloc),
+            format: None,
+            min_length: None,
+            max_length: None,
+            one_of: Vec::new(alloc),
+            all_of: Vec::new(alloc),
+            any_of: Vec::new(alloc),
+            not: None,
+        }
+    }
+}
+
+impl Object for AnySchema {
+    ghost object = { by any_schema };
+
+    ghost slots_of = { any_slots };
+
+    ghost apart = { λ x. final_apart any_schema (any_fields x) };
 }

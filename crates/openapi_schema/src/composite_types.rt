@@ -1,14 +1,23 @@
 //! The kinds of schemas of objects and arrays.
-ghost use Rattle.std.specs.Prelude.{◌≡◌, [], None};
+ghost use Rattle.std.proofs.Common.{lit≤, refl};
+ghost use Rattle.std.specs.Prelude.{◌≡◌, ◌+◌, ◌≤◌, ◌*◌, [], None};
+ghost use Rattle.openapi_tables.specs.Kind.{array_type, by, object_type};
+ghost use Rattle.openapi_tables.proofs.SlotWriting.{final_apart};
+ghost use Rattle.openapi_rows.specs.Forms.{record_form};
+ghost use Rattle.openapi_schema.specs.Fields.{array_fields, array_slots, object_fields, object_slots};
 
 use crate::schema::{AdditionalProperties, Schema};
-use openapi_node::OrderedMap;
+use crate::write::{array_rows, object_rows};
+use openapi_node::{Fault, Node, OrderedMap, Steps, View};
+use openapi_rows::{
+    FromNode, Object, Record, ToNode, optional, or_implied, read_record, write_record,
+};
 use openapi_values::ReferenceOr;
 use std::alloc::Global;
 
 /// A schema of `type` `object`.
 #[cycle(schema)]
-#[derive(Drop)]
+#[derive(Clone, Debug, PartialEq, Drop)]
 pub struct ObjectType {
     /// What the members of these names may be.
     pub properties: OrderedMap<ReferenceOr<Box<Schema>>>,
@@ -45,7 +54,7 @@ impl ObjectType {
 
 /// A schema of `type` `array`.
 #[cycle(schema)]
-#[derive(Drop)]
+#[derive(Clone, Debug, PartialEq, Drop)]
 pub struct ArrayType {
     /// What the elements may be.
     pub items: Option<ReferenceOr<Box<Schema>>>,
@@ -55,4 +64,124 @@ pub struct ArrayType {
     pub max_items: Option<usize>,
     /// Whether no two elements may be equal.
     pub unique_items: bool,
+}
+
+impl Object for ObjectType {
+    ghost object = { by object_type };
+
+    ghost slots_of = { object_slots };
+
+    ghost apart = { λ x. final_apart object_type (object_fields x) };
+}
+
+#[tactic(auto, unfolding(openapi_tables::specs::Tables::final_tables, openapi_tables::specs::Tables::tables_with, openapi_tables::specs::Tables::object_rows))]
+impl Record for ObjectType {
+    ghost rows_of = { object_fields };
+
+    fn from_members(
+        alloc: Global,
+        members: &OrderedMap<Node>,
+        steps: &mut Steps,
+    ) -> Result<ObjectType, Fault> {
+        Ok(ObjectType {
+            properties: or_implied::<Self, _>(alloc, members, "properties", steps)?,
+            required: or_implied::<Self, _>(alloc, members, "required", steps)?,
+            additional_properties: optional::<Self, _>(
+                alloc,
+                members,
+                "additionalProperties",
+                steps,
+            )?,
+            min_properties: optional::<Self, _>(alloc, members, "minProperties", steps)?,
+            max_properties: optional::<Self, _>(alloc, members, "maxProperties", steps)?,
+        })
+    }
+
+    fn put_rows(&self, alloc: Global, out: &mut OrderedMap<Node>) -> Result<(), Fault> {
+        *out = object_rows(alloc, self)?;
+        Ok(())
+    }
+
+    ghost by_table = { refl };
+
+    ghost by_rows = { λ x. refl };
+}
+
+impl FromNode for ObjectType {
+    ghost kind = { by object_type };
+
+    ghost form_of = { record_form object_fields };
+
+    fn from_view(alloc: Global, view: &View<'_>, steps: &mut Steps) -> Result<ObjectType, Fault> {
+        read_record(alloc, view, steps)
+    }
+
+    ghost few = { lit≤ tt };
+
+    ghost well_made = { refl };
+}
+
+impl ToNode for ObjectType {
+    fn to_node(&self, alloc: Global) -> Result<Node, Fault> {
+        write_record(alloc, self)
+    }
+
+    ghost there = { λ x. refl };
+}
+
+impl Object for ArrayType {
+    ghost object = { by array_type };
+
+    ghost slots_of = { array_slots };
+
+    ghost apart = { λ x. final_apart array_type (array_fields x) };
+}
+
+#[tactic(auto, unfolding(openapi_tables::specs::Tables::final_tables, openapi_tables::specs::Tables::tables_with, openapi_tables::specs::Tables::array_rows))]
+impl Record for ArrayType {
+    ghost rows_of = { array_fields };
+
+    fn from_members(
+        alloc: Global,
+        members: &OrderedMap<Node>,
+        steps: &mut Steps,
+    ) -> Result<ArrayType, Fault> {
+        Ok(ArrayType {
+            items: optional::<Self, _>(alloc, members, "items", steps)?,
+            min_items: optional::<Self, _>(alloc, members, "minItems", steps)?,
+            max_items: optional::<Self, _>(alloc, members, "maxItems", steps)?,
+            unique_items: or_implied::<Self, _>(alloc, members, "uniqueItems", steps)?,
+        })
+    }
+
+    fn put_rows(&self, alloc: Global, out: &mut OrderedMap<Node>) -> Result<(), Fault> {
+        *out = array_rows(alloc, self)?;
+        Ok(())
+    }
+
+    ghost by_table = { refl };
+
+    ghost by_rows = { λ x. refl };
+}
+
+impl FromNode for ArrayType {
+    ghost kind = { by array_type };
+
+    ghost form_of = { record_form array_fields };
+
+    fn from_view(alloc: Global, view: &View<'_>, steps: &mut Steps) -> Result<ArrayType, Fault> {
+        read_record(alloc, view, steps)
+    }
+
+    ghost few = { lit≤ tt };
+
+    ghost well_made = { refl };
+}
+
+impl ToNode for ArrayType {
+    fn to_node(&self, alloc: Global) -> Result<Node, Fault> {
+        write_record(alloc, self)
+    }
+
+    ghost there = { λ x. refl };
 }

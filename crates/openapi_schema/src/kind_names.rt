@@ -1,8 +1,10 @@
 //! What stands under the names that tell the kinds of schemas apart.
-ghost use Rattle.std.specs.Prelude.{◌≡◌, string_bytes};
+ghost use Rattle.std.proofs.Common.{refl};
+ghost use Rattle.std.specs.Prelude.{◌≡◌, [], string_bytes};
 ghost use Rattle.std.specs.Option.{option_copied, option_map};
 ghost use Rattle.openapi_node.specs.Tree.{Members};
 ghost use Rattle.openapi_tables.specs.Tree.{members_list};
+ghost use Rattle.openapi_tables.specs.Kind.{a_schema_kind};
 ghost use Rattle.openapi_tables.specs.Tables.{final_tables};
 ghost use Rattle.openapi_tables.specs.ByRow.{AreRows};
 ghost use Rattle.openapi_schema.specs.KindNames.{flags_in, kind_name_rows};
@@ -13,7 +15,19 @@ use crate::mask::Mask;
 use crate::schema::{AdditionalProperties, Schema};
 use crate::sort::Sort;
 use openapi_node::{Node, OrderedMap, Whole};
+use openapi_rows::Object;
 use openapi_values::ReferenceOr;
+
+/// The names themselves, so that a helper of rows can be told that a row is one of theirs.
+pub(crate) struct KindNames;
+
+impl Object for KindNames {
+    ghost object = { a_schema_kind };
+
+    ghost slots_of = { λ names. [] };
+
+    ghost apart = { λ names. refl };
+}
 
 /// What stands under the first twelve of these names, where it is not null.
 #[derive(Drop)]

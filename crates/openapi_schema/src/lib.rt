@@ -2,21 +2,33 @@
 //! The Schema Object of OpenAPI 3.0.3, section 4.7.24: its types, and how the kind of a schema is told from its
 //! members.
 mod any_schema;
+mod boxes;
 mod composite_types;
 mod enumeration;
+mod from_node;
 mod kind_names;
 mod kinds;
 mod mask;
+mod members;
+mod plain_names;
+mod presence;
+mod read;
 mod scalar_types;
 mod schema;
 mod schema_data;
 mod schema_kind;
+mod schema_type;
 mod sort;
 #[cfg(test)]
 mod tests;
+mod to_node;
+mod write;
 
 pub use any_schema::AnySchema;
 pub use composite_types::{ArrayType, ObjectType};
+pub use from_node::boxed_schema_ref_from_node;
+pub use read::schema_ref_from_node;
 pub use scalar_types::{BooleanType, IntegerType, NumberType, StringType};
 pub use schema::{AdditionalProperties, Schema, SchemaKind, SchemaType, Type};
 pub use schema_data::SchemaData;
+pub use write::{boxed_schema_ref_to_node, schema_ref_to_node};

@@ -1,0 +1,153 @@
+-- A schema by its parts: what is read of them, and how much they look at.
+use Rattle.std.proofs.Common.{
+  ◌≡◌,
+  ◌+◌,
+  List,
+  Result,
+  Ok,
+  Err,
+  IfOk,
+  IfErr,
+  refl,
+  sym,
+  ap,
+  ◌∙◌,
+  subst,
+  rules,
+}
+use Rattle.std.specs.Global.{Box}
+use Rattle.openapi_node.specs.Fault.{IsMemory}
+use Rattle.openapi_node.specs.Tree.{flag, object, Members}
+use Rattle.openapi_node.specs.declared.fault.Fault.{Fault}
+use Rattle.openapi_tables.specs.Lists.{join}
+use Rattle.openapi_tables.specs.Kind.{a_schema, a_schema_kind, schema_data}
+use Rattle.openapi_tables.specs.Tables.{final_tables, any_rows}
+use Rattle.openapi_tables.specs.Members.{sort}
+use Rattle.openapi_tables.specs.Form.{Form, leaf, fields, forms_of}
+use Rattle.openapi_tables.specs.ByRow.{AreRows, rows_weight}
+use Rattle.openapi_rows.specs.Gives.{Gives, Reads}
+use Rattle.openapi_rows.proofs.Below.{memory_fails}
+use Rattle.openapi_values.specs.Reference.{reference_form}
+use Rattle.openapi_values.specs.declared.reference.ReferenceOr.{ReferenceOr}
+use Rattle.openapi_values.specs.declared.reference.ReferenceOr.TheVariants as r
+use Rattle.openapi_schema.specs.KindNames.{first_rows, last_rows, kind_name_rows}
+use Rattle.openapi_schema.specs.Kinds.{IsKind}
+use Rattle.openapi_schema.specs.Present.{additional_level}
+use Rattle.openapi_schema.specs.RawSlots.{optional_rows}
+use Rattle.openapi_schema.specs.Reading.{GivesKind, first_optional, last_optional, outer_box_form, schema_kind_form}
+use Rattle.openapi_schema.specs.SchemaForms.{
+  Sorted,
+  additional_step,
+  schema_kind_step,
+  schema_type_step,
+  any_schema_step,
+  array_type_step,
+  object_type_step,
+  schema_step,
+  schema_form,
+  additional_form,
+  schema_kind_rows,
+  schema_type_rows,
+  object_type_rows,
+  array_type_rows,
+  any_schema_rows,
+  schema_data_rows,
+}
+use Rattle.openapi_schema.specs.declared.kind_names.FirstNames.{FirstNames}
+use Rattle.openapi_schema.specs.declared.kind_names.LastNames.{LastNames}
+use Rattle.openapi_schema.specs.declared.schema.AdditionalProperties.{the_lemmas}
+use Rattle.openapi_schema.specs.declared.schema.AdditionalProperties.TheVariants as additional
+use Rattle.openapi_schema.specs.declared.schema.AdditionalProperties.TheViews.{roll-AdditionalProperties}
+use Rattle.openapi_schema.specs.declared.schema.AdditionalProperties.TheBlock.{
+  the_data,
+  the_data-1,
+  the_data-2,
+  the_data-3,
+  the_data-4,
+  the_data-5,
+  the_data-6,
+}
+use Rattle.openapi_schema.specs.declared.schema.AdditionalProperties.TheFolds.{
+  fold-roll-AdditionalProperties,
+  map-AdditionalProperties,
+  fold-roll-Schema,
+}
+use Rattle.openapi_schema.specs.declared.schema.AdditionalProperties.TheOpen.{AdditionalProperties-F, Schema-F}
+use Rattle.openapi_schema.specs.declared.schema.Schema.{Schema, roll-Schema}
+use Rattle.openapi_schema.specs.declared.schema.SchemaKind.{SchemaKind}
+use Rattle.openapi_schema.proofs.KindGives.{kind_gives, schema_gives, rows_join, rows_weight-join}
+use denote.Hole.Carrier.{roll}
+
+-- the rows of all kind names are those of the first twelve, and of the last twelve
+halves : join first_optional last_optional ≡ optional_rows
+unfolding first_optional last_optional optional_rows any_rows
+halves = refl
+
+pub names_rows : (a : FirstNames) (b : LastNames) (ms : Members) → AreRows final_tables first_optional (first_rows a) ms
+    → AreRows final_tables last_optional (last_rows b) ms
+    → AreRows final_tables optional_rows (kind_name_rows a b) ms
+names_rows a b ms h k =
+    subst (λ ws. AreRows final_tables ws (kind_name_rows a b) ms) halves
+    (rows_join final_tables first_optional last_optional (first_rows a) (last_rows b) ms h k)
+
+pub names_weight : (ms : Members) → rows_weight optional_rows ms
+    ≡ rows_weight first_optional ms + rows_weight last_optional ms
+names_weight ms =
+    sym (ap (λ ws. rows_weight ws ms) halves) ∙ rows_weight-join first_optional last_optional ms
+
+-- what is made of what stands under the names is the kind of the schema
+pub kind_read : (r : Result SchemaKind Fault) (a : FirstNames) (b : LastNames) (ms : Members)
+    → AreRows final_tables optional_rows (kind_name_rows a b) ms → IfOk r (λ k. IsKind k a b) → IfErr r IsMemory
+    → GivesKind r ms
+kind_read (Ok k) a b ms rows h g = (kind_name_rows a b, rows, h ms rows)
+kind_read (Err f) a b ms rows h g = memory_fails f a_schema_kind (object ms) g
+
+-- a kind by itself
+pub kind_reads : (k : SchemaKind) (ms : Members) → GivesKind (Ok k) ms → Reads schema_kind_form k a_schema_kind
+    (object ms)
+kind_reads k ms h =
+    let g = kind_gives final_tables h.0 ms h.1 in
+    (g.0, g.1 ∙ ap (λ (s : Sorted). fields (sort s.0) (forms_of s.1)) (sym h.2))
+
+pub kind_given : (r : Result SchemaKind Fault) (ms : Members) → GivesKind r ms
+    → Gives schema_kind_form r a_schema_kind (object ms)
+kind_given (Ok k) ms h = kind_reads k ms h
+kind_given (Err f) ms h = h
+
+-- a schema has the slots of what every schema can say, and those of its kind
+pub schema_form-roll : (d : Schema-F the_data the_data-1 the_data-2 the_data-3 the_data-4 the_data-5 the_data-6)
+    → schema_form (roll-Schema d)
+    ≡ fields (sort (schema_kind_rows d.schema_kind).0) (forms_of (join (schema_data_rows d.schema_data)
+    (schema_kind_rows d.schema_kind).1))
+schema_form-roll d =
+    fold-roll-Schema Form Sorted Sorted (List Form) (List Form) (List Form) Form additional_step schema_kind_step
+    schema_type_step any_schema_step array_type_step object_type_step schema_step d
+
+pub schema_reads : (d : Schema-F the_data the_data-1 the_data-2 the_data-3 the_data-4 the_data-5 the_data-6)
+    (ms : Members)
+    → AreRows final_tables (final_tables schema_data) (schema_data_rows d.schema_data) ms
+    → GivesKind (Ok d.schema_kind) ms
+    → Reads schema_form (roll-Schema d) a_schema (object ms)
+schema_reads d ms rows h =
+    let g = schema_gives final_tables (schema_data_rows d.schema_data) h.0 ms rows h.1 in (
+      g.0,
+      g.1 ∙ ap (λ (s : Sorted). fields (sort s.0) (forms_of (join (schema_data_rows d.schema_data) s.1))) (sym h.2)
+          ∙ sym (schema_form-roll d),
+    )
+
+-- what other members may be
+pub additional-any : (b : _) → additional_form (additional.Any b) ≡ leaf (flag b)
+additional-any b = search (rules, the_lemmas)
+
+additional_box : (b : Box (ReferenceOr Schema)) (x : ReferenceOr Schema)
+    → additional_step (additional_level (AdditionalProperties-F.Schema (record b { value = x }))) ≡ reference_form schema_form x
+additional_box b (r.Reference s) = refl
+additional_box b (r.Item x) = refl
+
+pub additional-schema : (b : Box (ReferenceOr Schema)) → additional_form (additional.Schema b) ≡ outer_box_form b
+unfolding roll-AdditionalProperties roll
+additional-schema b =
+    fold-roll-AdditionalProperties Form Sorted Sorted (List Form) (List Form) (List Form) Form additional_step
+    schema_kind_step schema_type_step any_schema_step array_type_step object_type_step schema_step
+    (AdditionalProperties-F.Schema b)
+    ∙ additional_box b b.value

@@ -1,0 +1,131 @@
+-- The type of a schema by itself: its slots are those of its tag, and what is written of it.
+use Rattle.std.proofs.Common.{◌≡◌, ℕ, true, List, [], ◌∷◌, ◌++◌, Option, codes, refl, sym, ap, ◌∙◌, subst}
+use Rattle.openapi_map.specs.Entries.{Entries}
+use Rattle.openapi_node.specs.Tree.{Tree, object, members_of}
+use Rattle.openapi_node.specs.declared.fault.Fault.{Fault}
+use Rattle.openapi_tables.specs.Kind.{constant}
+use Rattle.openapi_tables.specs.Lists.{join}
+use Rattle.openapi_tables.specs.Tables.{final_tables, tables_with, schema_type}
+use Rattle.openapi_tables.specs.Members.{case_rows, is_case, sort_rows}
+use Rattle.openapi_tables.specs.Form.{Form, absent}
+use Rattle.openapi_tables.specs.Print.{print}
+use Rattle.openapi_tables.specs.Unwritable.{unwritable}
+use Rattle.openapi_tables.specs.Slots.{slots, slots_apart, slots_lost, IsWritten}
+use Rattle.openapi_tables.proofs.SlotWriting.{none_written}
+use Rattle.openapi_rows.specs.Forms.{tagged_slots}
+use Rattle.openapi_rows.specs.Gives.{Loses}
+use Rattle.openapi_rows.proofs.Tagging.{tagged_apart, tagged_loses, tagged_writes}
+use Rattle.openapi_schema.specs.SchemaForms.{
+  Sorted,
+  additional_step,
+  schema_kind_step,
+  schema_type_step,
+  any_schema_step,
+  array_type_step,
+  object_type_step,
+  schema_step,
+  schema_form,
+  additional_form,
+  schema_kind_rows,
+  schema_type_rows,
+  object_type_rows,
+  array_type_rows,
+  any_schema_rows,
+}
+use Rattle.openapi_schema.specs.TypeForms.{
+  type_cases,
+  sort_word,
+  behind_tag,
+  schema_type_word,
+  schema_type_fields,
+  schema_type_form,
+  schema_type_sound,
+}
+use Rattle.openapi_schema.specs.Writing.{AreNew, sorted_slots, tag_members, tag_slots, type_slots, untagged}
+use Rattle.openapi_schema.specs.declared.schema.AdditionalProperties.TheBlock.{
+  the_data,
+  the_data-1,
+  the_data-2,
+  the_data-3,
+  the_data-4,
+  the_data-5,
+  the_data-6,
+}
+use Rattle.openapi_schema.specs.declared.schema.AdditionalProperties.TheFolds.{fold_out-SchemaType, map-SchemaType}
+use Rattle.openapi_schema.specs.declared.schema.AdditionalProperties.TheOpen.{SchemaType-F}
+use Rattle.openapi_schema.specs.declared.schema.SchemaType.{SchemaType, out-SchemaType}
+use Rattle.openapi_schema.proofs.JoinedSlots.{rows_new, tag_new, tagged_rows}
+use Rattle.openapi_schema.proofs.WholeSchemas.{loses_wider}
+use Rattle.openapi_schema.proofs.WrittenForms.{untagged_loses}
+
+-- a sort is that of a type, and its slots are those of the tag and of its table
+abbrev IsTyped : Sorted → Type 0
+IsTyped s =
+    (is_case type_cases (sort_word s.0) ≡ true)
+    × (sorted_slots s ≡ (constant (codes "type") (sort_word s.0), absent)
+    ∷ slots (case_rows final_tables type_cases (sort_word s.0)) (behind_tag s.1))
+
+-- a type with what stands inside seen as forms
+abbrev level : SchemaType-F the_data the_data-1 the_data-2 the_data-3 the_data-4 the_data-5 the_data-6
+    → SchemaType-F Form Sorted Sorted (List Form) (List Form) (List Form) Form
+level d = map-SchemaType the_data the_data-1 the_data-2 the_data-3 the_data-4 the_data-5 the_data-6 Form Sorted Sorted
+    (List Form) (List Form) (List Form) Form additional_form schema_kind_rows schema_type_rows any_schema_rows
+    array_type_rows object_type_rows schema_form d
+
+step_typed : (d : SchemaType-F the_data the_data-1 the_data-2 the_data-3 the_data-4 the_data-5 the_data-6)
+    → IsTyped (schema_type_step (level d))
+unfolding sort_rows final_tables tables_with
+step_typed (SchemaType-F.String x) = (refl, refl)
+step_typed (SchemaType-F.Number x) = (refl, refl)
+step_typed (SchemaType-F.Integer x) = (refl, refl)
+step_typed (SchemaType-F.Object x) = (refl, refl)
+step_typed (SchemaType-F.Array x) = (refl, refl)
+step_typed (SchemaType-F.Boolean x) = (refl, refl)
+
+is_typed : (t : SchemaType) → IsTyped (schema_type_rows t)
+is_typed t =
+    subst IsTyped
+    (sym (fold_out-SchemaType Form Sorted Sorted (List Form) (List Form) (List Form) Form additional_step
+    schema_kind_step schema_type_step any_schema_step array_type_step object_type_step schema_step t))
+    (step_typed (out-SchemaType t))
+
+module _ (t : SchemaType) where
+  same : type_slots t ≡ tagged_slots (codes "type") type_cases schema_type_word schema_type_fields t
+  same = (is_typed t).1
+
+  pub type_loses : (f : Fault) → Loses f (slots_lost final_tables (untagged (type_slots t)))
+      → Loses f (unwritable final_tables schema_type (schema_type_form t))
+  type_loses f h =
+      subst (λ ps. Loses f ps)
+      (ap (slots_lost final_tables) same
+      ∙ tagged_loses (codes "type") type_cases schema_type_word schema_type_fields t (is_typed t).0)
+      (loses_wider f (slots_lost final_tables (untagged (type_slots t))) (slots_lost final_tables (type_slots t))
+      (untagged_loses (type_slots t)) h)
+
+  module _ (word : Option (List ℕ)) (is : join (tag_slots word) (untagged (type_slots t)) ≡ type_slots t)
+      (out rows : Entries Tree) (new : out ≡ [])
+      (more : IsWritten final_tables (untagged (type_slots t)) rows) where
+    parts_apart : slots_apart (join [] (join (tag_slots word) (untagged (type_slots t)))) ≡ true
+    parts_apart =
+        ap slots_apart (is ∙ same)
+        ∙ tagged_apart (codes "type") type_cases schema_type_word schema_type_fields t (is_typed t).0
+        schema_type_sound
+
+    started : IsWritten final_tables [] out
+    started = none_written final_tables out new
+
+    pub type_tag_new : AreNew (tag_members word) out
+    type_tag_new = tag_new [] (untagged (type_slots t)) word parts_apart out rows started more
+
+    pub type_rows_new : AreNew rows (out ++ tag_members word)
+    type_rows_new = rows_new [] (untagged (type_slots t)) word parts_apart out rows started more
+
+    pub type_written : (node : Tree) → node ≡ object (members_of (out ++ (tag_members word ++ rows)))
+        → (node ≡ print final_tables schema_type (schema_type_form t))
+        × (unwritable final_tables schema_type (schema_type_form t) ≡ [])
+    type_written node e =
+        tagged_writes (codes "type") type_cases schema_type_word schema_type_fields t (is_typed t).0 node
+        (tag_members word ++ rows)
+        (subst (λ ss. IsWritten final_tables ss (tag_members word ++ rows)) (is ∙ same)
+        (tagged_rows [] (untagged (type_slots t)) word parts_apart out rows started more))
+        (e ∙ ap (λ es. object (members_of (es ++ (tag_members word ++ rows)))) new)

@@ -1,0 +1,160 @@
+-- A schema as it is written: what every schema can say, and its kind.
+use Rattle.std.proofs.Common.{◌≡◌, ℕ, true, List, [], ◌∷◌, ◌++◌, Option, Some, None, refl, sym, ap, ◌∙◌, subst}
+use Rattle.std.proofs.lemmas.Bool.{and_parts}
+use Rattle.openapi_map.specs.Entries.{Entries}
+use Rattle.openapi_node.specs.Fault.{place_of}
+use Rattle.openapi_node.specs.Place.{Place}
+use Rattle.openapi_node.specs.Tree.{Tree, object, members_of}
+use Rattle.openapi_node.specs.declared.fault.Cause.{Cause}
+use Rattle.openapi_node.specs.declared.fault.Cause.TheVariants.{
+  Missing,
+  MissingEither,
+  WrongKind,
+  NotAllowed,
+  UnknownVariant,
+  NameNotWritable,
+  NotWhole,
+  Memory,
+}
+use Rattle.openapi_node.specs.declared.fault.Fault.{Fault}
+use Rattle.openapi_tables.specs.Lists.{join, every}
+use Rattle.openapi_tables.specs.Tree.{members_of as of_list}
+use Rattle.openapi_tables.specs.Kind.{Kind, a_schema, a_schema_kind, schema_data}
+use Rattle.openapi_tables.specs.Tables.{final_tables, tables_with}
+use Rattle.openapi_tables.specs.Members.{Choice, Sort, sort, rows_of, sort_rows}
+use Rattle.openapi_tables.specs.Form.{Form, fields, forms_of}
+use Rattle.openapi_tables.specs.Print.{print, face_print, rows_print}
+use Rattle.openapi_tables.specs.Unwritable.{unwritable, face_lost, rows_lost}
+use Rattle.openapi_tables.specs.Sound.{rows_apart, row_sound}
+use Rattle.openapi_tables.specs.Laws.{Among}
+use Rattle.openapi_tables.specs.Slots.{Slot, slots, slots_apart, slots_print, slots_lost, untied, IsWritten}
+use Rattle.openapi_tables.proofs.FormLaws.{of_forms-of}
+use Rattle.openapi_tables.proofs.ObjectBack.{schema_sound, sort_sound}
+use Rattle.openapi_tables.proofs.SlotLists.{members_untied, slots_apart-rows, slots_lost-rows, slots_print-rows}
+use Rattle.openapi_tables.proofs.WellMade.{final_sound}
+use Rattle.openapi_rows.specs.Forms.{record_slots}
+use Rattle.openapi_rows.specs.Gives.{Loses, LosesBy}
+use Rattle.openapi_schema.specs.SchemaForms.{schema_data_rows, schema_form, schema_kind_rows}
+use Rattle.openapi_schema.specs.Writing.{AreNew, kind_slots, sorted_slots, tag_members, tag_slots, untagged}
+use Rattle.openapi_schema.specs.declared.schema.Schema.{Schema, out-Schema}
+use Rattle.openapi_schema.specs.declared.schema_data.SchemaData.{SchemaData}
+use Rattle.openapi_schema.proofs.JoinedSlots.{loses_first, loses_second, rows_new, tag_new, tagged_rows, written_behind}
+use Rattle.openapi_schema.proofs.OpenedForms.{schema_form-out}
+
+-- a refusal of a part is one of the whole
+pub loses_wider : (f : Fault) (ps qs : List Place) → ((q : Place) → Among q ps → Among q qs) → Loses f ps → Loses f qs
+loses_wider f ps qs wider h = go f.cause h
+  where
+    go : (c : Cause) → LosesBy c (place_of f) ps → LosesBy c (place_of f) qs
+    go (Missing n) h = h
+    go (MissingEither n m) h = h
+    go (WrongKind w) h = h
+    go NotAllowed h = h
+    go UnknownVariant h = h
+    go NameNotWritable h = wider (place_of f) h
+    go NotWhole h = h
+    go Memory h = h
+
+-- an object by its sort is written as the slots of its rows, and loses what they lose
+pub schema_print : (c : Choice) (fs : List Form) → print final_tables a_schema (fields c (forms_of fs))
+    ≡ object (members_of (untied (slots_print final_tables (slots (rows_of final_tables a_schema c) fs))))
+schema_print c fs =
+    let ws = rows_of final_tables a_schema c in
+    ap (λ l. object (of_list (rows_print ws l))) (of_forms-of (face_print final_tables) fs)
+    ∙ ap (λ l. object (of_list l)) (slots_print-rows final_tables ws fs)
+    ∙ ap object (members_untied (slots_print final_tables (slots ws fs)))
+
+pub schema_lost : (c : Choice) (fs : List Form) → unwritable final_tables a_schema (fields c (forms_of fs))
+    ≡ slots_lost final_tables (slots (rows_of final_tables a_schema c) fs)
+schema_lost c fs =
+    let ws = rows_of final_tables a_schema c in
+    ap (λ l. rows_lost ws l) (of_forms-of (face_lost final_tables) fs) ∙ slots_lost-rows final_tables ws fs
+
+pub kind_print : (c : Choice) (fs : List Form) → print final_tables a_schema_kind (fields c (forms_of fs))
+    ≡ object (members_of (untied (slots_print final_tables (slots (rows_of final_tables a_schema_kind c) fs))))
+kind_print c fs =
+    let ws = rows_of final_tables a_schema_kind c in
+    ap (λ l. object (of_list (rows_print ws l))) (of_forms-of (face_print final_tables) fs)
+    ∙ ap (λ l. object (of_list l)) (slots_print-rows final_tables ws fs)
+    ∙ ap object (members_untied (slots_print final_tables (slots ws fs)))
+
+pub kind_lost : (c : Choice) (fs : List Form) → unwritable final_tables a_schema_kind (fields c (forms_of fs))
+    ≡ slots_lost final_tables (slots (rows_of final_tables a_schema_kind c) fs)
+kind_lost c fs =
+    let ws = rows_of final_tables a_schema_kind c in
+    ap (λ l. rows_lost ws l) (of_forms-of (face_lost final_tables) fs) ∙ slots_lost-rows final_tables ws fs
+
+-- the slots of a schema are those of what every schema can say, and those of its kind
+
+split : (d : SchemaData) (s : Sort) (fs : List Form)
+    → slots (rows_of final_tables a_schema (sort s)) (join (schema_data_rows d) fs)
+    ≡ join (record_slots schema_data schema_data_rows d) (slots (sort_rows s) fs)
+unfolding rows_of final_tables tables_with
+split d s fs = refl
+
+module _ (x : Schema) where
+  abbrev pub first : List Slot
+  first = record_slots schema_data schema_data_rows (out-Schema x).schema_data
+
+  abbrev pub second : List Slot
+  second = kind_slots (out-Schema x).schema_kind
+
+  abbrev both : List Form
+  both = join (schema_data_rows (out-Schema x).schema_data) (schema_kind_rows (out-Schema x).schema_kind).1
+
+  abbrev its : Sort
+  its = (schema_kind_rows (out-Schema x).schema_kind).0
+
+  here : slots (rows_of final_tables a_schema (sort its)) both ≡ join first second
+  here = split (out-Schema x).schema_data its (schema_kind_rows (out-Schema x).schema_kind).1
+
+  pub its_slots_apart : slots_apart (join first second) ≡ true
+  unfolding rows_of
+  its_slots_apart =
+      let ws = join (final_tables schema_data) (sort_rows its) in
+      ap slots_apart (sym here)
+      ∙ slots_apart-rows ws both (and_parts (rows_apart ws) (every (row_sound final_tables) ws)
+      (schema_sound final_tables final_sound its)).0
+
+  pub its_print : print final_tables a_schema (schema_form x)
+      ≡ object (members_of (untied (slots_print final_tables (join first second))))
+  its_print =
+      ap (print final_tables a_schema) (schema_form-out x) ∙ schema_print (sort its) both
+      ∙ ap (λ ss. object (members_of (untied (slots_print final_tables ss)))) here
+
+  pub its_lost : unwritable final_tables a_schema (schema_form x) ≡ slots_lost final_tables (join first second)
+  its_lost =
+      ap (unwritable final_tables a_schema) (schema_form-out x) ∙ schema_lost (sort its) both
+      ∙ ap (slots_lost final_tables) here
+
+  pub data_loses : (f : Fault) → Loses f (slots_lost final_tables first)
+      → Loses f (unwritable final_tables a_schema (schema_form x))
+  data_loses f h =
+      subst (λ ps. Loses f ps) (sym its_lost)
+      (loses_wider f (slots_lost final_tables first) (slots_lost final_tables (join first second))
+      (loses_first first second) h)
+
+  -- where the slots of its kind are known without the `type`
+  module _ (word : Option (List ℕ)) (is : join (tag_slots word) (untagged second) ≡ second)
+      (out rows : Entries Tree) (done : IsWritten final_tables first out)
+      (more : IsWritten final_tables (untagged second) rows) where
+    abbrev parts : List Slot
+    parts = join first (join (tag_slots word) (untagged second))
+
+    parts_apart : slots_apart parts ≡ true
+    parts_apart = ap (λ ss. slots_apart (join first ss)) is ∙ its_slots_apart
+
+    pub its_tag_new : AreNew (tag_members word) out
+    its_tag_new = tag_new first (untagged second) word parts_apart out rows done more
+
+    pub its_rows_new : AreNew rows (out ++ tag_members word)
+    its_rows_new = rows_new first (untagged second) word parts_apart out rows done more
+
+    pub schema_written : (node : Tree) → node ≡ object (members_of (out ++ (tag_members word ++ rows)))
+        → (node ≡ print final_tables a_schema (schema_form x))
+        × (unwritable final_tables a_schema (schema_form x) ≡ [])
+    schema_written node e =
+        let w : IsWritten final_tables (join first second) (out ++ (tag_members word ++ rows)) =
+        written_behind first second out (tag_members word ++ rows) done (subst (λ ss. IsWritten final_tables ss
+        (tag_members word ++ rows)) is (tagged_rows first (untagged second) word parts_apart out rows done more)) in
+        (e ∙ ap (λ es. object (members_of es)) w.members ∙ sym its_print, its_lost ∙ w.nothing_lost)

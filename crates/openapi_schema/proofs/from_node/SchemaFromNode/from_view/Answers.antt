@@ -1,0 +1,21 @@
+use Rattle.std.proofs.Common.{arith}
+use Rattle.openapi_node.specs.View.{shown}
+use Rattle.openapi_node.specs.declared.fault.Expected.TheVariants as words
+use Rattle.openapi_tables.specs.Kind.{a_schema}
+use Rattle.openapi_rows.proofs.Below.{wrong_here, size-positive}
+use Rattle.openapi_schema.proofs.References.{not_schema}
+use Rattle.openapi_schema.proofs.from_node.SchemaFromNode.from_view.Goals as goal
+
+pub returns-in-Object-clause-reads : goal.returns-in-Object-clause-reads
+returns-in-Object-clause-reads c = rw c.in-Object.is c.schema.ensures.reads
+
+pub returns-in-Object-clause-count : goal.returns-in-Object-clause-count
+returns-in-Object-clause-count c = rw c.in-Object.is (omega (arith, c.schema.ensures.count))
+
+pub returns-in_default-clause-reads : goal.returns-in_default-clause-reads
+returns-in_default-clause-reads c =
+    wrong_here c.new.result words.Object a_schema (shown c.args.view.now) c.new.ensures.place c.new.ensures.cause
+    (not_schema c.args.view.now c.in_default.not-Object)
+
+pub returns-in_default-clause-count : goal.returns-in_default-clause-count
+returns-in_default-clause-count c = omega (arith, size-positive (shown c.args.view.now))

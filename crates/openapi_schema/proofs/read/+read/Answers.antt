@@ -1,0 +1,647 @@
+use Rattle.std.proofs.Common.{◌≡◌, ◌+◌, ◌≤◌, ◌∙◌, ◌++◌, ◌∷◌, [], Some, take, codes, refl, sym, ap, subst, arith, rules, inr}
+use Rattle.std.proofs.lemmas.List.{take_all}
+use Rattle.openapi_node.specs.Place.{named, indexed}
+use Rattle.openapi_node.specs.Tree.{list, items_of, members_of, members_size, size_of}
+use Rattle.openapi_node.specs.View.{shown}
+use Rattle.openapi_node.specs.declared.fault.Expected.TheVariants as words
+use Rattle.openapi_node.proofs.TreeLemmas.{next_item, next_member}
+use Rattle.openapi_tables.specs.Lists.{each, every}
+use Rattle.openapi_tables.specs.Kind.{any_tree, ref_to, a_schema, a_schema_kind, flag_or_schema, list_of, map_of, by}
+use Rattle.openapi_tables.specs.Kind.{optional, row, schema_data}
+use Rattle.openapi_tables.specs.ByRow.{is_named, row_where, rows_asked, rows_weight}
+use Rattle.openapi_tables.specs.Tables.{final_tables, any_rows}
+use Rattle.openapi_tables.specs.Members.{checked_rows}
+use Rattle.openapi_tables.specs.Conforms.{conforms}
+use Rattle.openapi_tables.specs.Read.{form}
+use Rattle.openapi_tables.specs.Slots.{pairs_of}
+use Rattle.openapi_rows.specs.Entries.{chosen, entries_size}
+use Rattle.openapi_rows.specs.Forms.{list_form, map_form}
+use Rattle.openapi_rows.specs.Gives.{Gives}
+use Rattle.openapi_rows.proofs.Below.{fails_above, memory_fails, refuses, size-positive, step_ok, step_err}
+use Rattle.openapi_rows.proofs.Below.{wrong_here, not_list, not_map}
+use Rattle.openapi_rows.proofs.Chosen.{entry_fails, next_within, next_size, next_holds, next_same, next_new}
+use Rattle.openapi_rows.proofs.Elements.{list_gives, every-more, each-more, item_leads, next_here}
+use Rattle.openapi_rows.proofs.Mapped.{map_gives, all_chosen, all_size}
+use Rattle.openapi_rows.proofs.RowReading.{weight_of_name}
+use Rattle.openapi_schema.specs.RawSlots.{optional_rows}
+use Rattle.openapi_schema.specs.Reading.{any_name, ref_form, inner_box_form, outer_box_form}
+use Rattle.openapi_schema.specs.SchemaForms.{additional_form, schema_form}
+use Rattle.openapi_schema.proofs.KindGives.{kind_fails, schema_weight-le}
+use Rattle.openapi_schema.proofs.PartRows.{first_whole, first_weight, last_whole, last_weight}
+use Rattle.openapi_schema.proofs.PresentRows.{row_gone, row_read}
+use Rattle.openapi_schema.proofs.References.{reference_reads, data_fails}
+use Rattle.openapi_schema.proofs.References.{not_object_fails, not_flag_or_object}
+use Rattle.openapi_schema.proofs.SchemaReads.{kind_read, names_rows, names_weight, schema_reads}
+use Rattle.openapi_schema.proofs.SchemaReads.{additional-any}
+use Rattle.openapi_schema.proofs.read.+read.Goals as goal
+
+pub schema_ref_from_node-returns-clause-reads : goal.schema_ref_from_node-returns-clause-reads
+schema_ref_from_node-returns-clause-reads t c =
+    subst (λ u. Gives ref_form c.schema_ref.result (ref_to a_schema) u) c.open-view.ensures.shown
+    c.schema_ref.ensures.reads
+
+pub schema_ref_from_node-returns-clause-refuses : goal.schema_ref_from_node-returns-clause-refuses
+schema_ref_from_node-returns-clause-refuses t c =
+    refuses (ref_to a_schema) c.args.node.now refl ref_form c.schema_ref.result
+    (subst (λ u. Gives ref_form c.schema_ref.result (ref_to a_schema) u) c.open-view.ensures.shown
+    c.schema_ref.ensures.reads)
+
+pub schema_ref_from_node-returns-clause-count : goal.schema_ref_from_node-returns-clause-count
+schema_ref_from_node-returns-clause-count t c =
+    omega (arith, c.open-view.ensures.counted, ap size_of c.open-view.ensures.shown, c.schema_ref.ensures.count)
+
+pub schema_ref-returns-in_default : goal.schema_ref-returns-in_default
+schema_ref-returns-in_default t c =
+    record {
+      reads = not_object_fails c.new.result c.args.view.now c.in_default.not-Object c.new.ensures.place
+          c.new.ensures.cause;
+      rises = omega arith;
+      count = omega (arith, size-positive (shown c.args.view.now));
+    }
+
+pub schema_ref-returns-in-Some-clause-reads : goal.schema_ref-returns-in-Some-clause-reads
+schema_ref-returns-in-Some-clause-reads t c =
+    rw c.in-Object.is (reference_reads (members_of c.in-Object.members.now) schema_form a_schema c.in-Some.reference
+    (rw c.in-Some.is at c.in-Ok.ensures.reads))
+
+pub schema_ref-returns-in-Some-clause-count : goal.schema_ref-returns-in-Some-clause-count
+schema_ref-returns-in-Some-clause-count t c =
+    rw c.in-Object.is (omega (arith, c.reference_in.ensures.count))
+
+pub schema_ref-returns-in-None-clause-reads : goal.schema_ref-returns-in-None-clause-reads
+schema_ref-returns-in-None-clause-reads t c =
+    rw c.in-Object.is (c.in_item.ensures (members_of c.in-Object.members.now) (rw c.in-None.is at
+    c.in-Ok.ensures.reads) c.schema.ensures.reads)
+
+pub schema_ref-returns-in-None-clause-count : goal.schema_ref-returns-in-None-clause-count
+schema_ref-returns-in-None-clause-count t c =
+    rw c.in-Object.is (omega (arith, c.reference_in.ensures.count, c.schema.ensures.count))
+
+pub schema_ref-returns-in-Err-clause-reads : goal.schema_ref-returns-in-Err-clause-reads
+schema_ref-returns-in-Err-clause-reads t c =
+    memory_fails c.in-Err.fault (ref_to a_schema) (shown c.args.view.now) c.in-Err.ensures.err
+
+pub schema_ref-returns-in-Err-clause-count : goal.schema_ref-returns-in-Err-clause-count
+schema_ref-returns-in-Err-clause-count t c =
+    rw c.in-Object.is (omega (arith, c.reference_in.ensures.count))
+
+pub schema-returns-in-Ok-kind-clause-reads : goal.schema-returns-in-Ok-kind-clause-reads
+schema-returns-in-Ok-kind-clause-reads t c =
+    schema_reads (record { schema_data = c.in-Ok.schema_data; schema_kind = c.in-Ok-kind.schema_kind })
+    (members_of c.args.members.now) c.in-Ok.ensures.reads c.in-Ok-kind.ensures.reads
+
+pub schema-returns-in-Ok-kind-clause-count : goal.schema-returns-in-Ok-kind-clause-count
+schema-returns-in-Ok-kind-clause-count t c =
+    let ms = members_of c.args.members.now in
+    let w : rows_weight (rows_asked final_tables (by schema_data)) ms + rows_weight optional_rows ms ≤ members_size ms =
+    schema_weight-le ms in
+    omega (arith, w, c.from_members.ensures.count, c.kind.ensures.count)
+
+pub schema-returns-in-Err-kind-clause-reads : goal.schema-returns-in-Err-kind-clause-reads
+schema-returns-in-Err-kind-clause-reads t c =
+    kind_fails c.in-Err-kind.fault (members_of c.args.members.now) c.in-Err-kind.ensures.reads
+
+pub schema-returns-in-Err-kind-clause-count : goal.schema-returns-in-Err-kind-clause-count
+schema-returns-in-Err-kind-clause-count t c =
+    let ms = members_of c.args.members.now in
+    let w : rows_weight (rows_asked final_tables (by schema_data)) ms + rows_weight optional_rows ms ≤ members_size ms =
+    schema_weight-le ms in
+    omega (arith, w, c.from_members.ensures.count, c.kind.ensures.count)
+
+pub schema-returns-in-Err-clause-reads : goal.schema-returns-in-Err-clause-reads
+schema-returns-in-Err-clause-reads t c =
+    data_fails c.in-Err.fault (members_of c.args.members.now) c.in-Err.ensures.reads
+
+pub schema-returns-in-Err-clause-count : goal.schema-returns-in-Err-clause-count
+schema-returns-in-Err-clause-count t c =
+    let ms = members_of c.args.members.now in
+    let w : rows_weight (rows_asked final_tables (by schema_data)) ms + rows_weight optional_rows ms ≤ members_size ms =
+    schema_weight-le ms in
+    omega (arith, w, c.from_members.ensures.count)
+
+pub kind-returns-in-Ok-last_names-clause-reads : goal.kind-returns-in-Ok-last_names-clause-reads
+kind-returns-in-Ok-last_names-clause-reads t c =
+    let ms = members_of c.args.members.now in
+    let a = c.in-Ok.first in
+    let b = c.in-Ok-last_names.last in
+    kind_read c.schema_kind.result a b ms (names_rows a b ms c.in-Ok.ensures.reads c.in-Ok-last_names.ensures.reads)
+    c.schema_kind.ensures.reads c.schema_kind.ensures.err
+
+pub kind-returns-in-Ok-last_names-clause-count : goal.kind-returns-in-Ok-last_names-clause-count
+kind-returns-in-Ok-last_names-clause-count t c =
+    omega (
+      arith,
+      names_weight (members_of c.args.members.now),
+      c.first_names.ensures.count,
+      c.in-Ok-last_names.ensures.left,
+      c.schema_kind.ensures.count,
+    )
+
+pub kind-returns-in-Err-last_names-clause-count : goal.kind-returns-in-Err-last_names-clause-count
+kind-returns-in-Err-last_names-clause-count t c =
+    omega (arith, names_weight (members_of c.args.members.now), c.first_names.ensures.count, c.last_names.ensures.count)
+
+pub kind-returns-in-Err-clause-count : goal.kind-returns-in-Err-clause-count
+kind-returns-in-Err-clause-count t c =
+    omega (arith, names_weight (members_of c.args.members.now), c.first_names.ensures.count)
+
+pub first_names-returns-in_err-plain-clause-count : goal.first_names-returns-in_err-plain-clause-count
+first_names-returns-in_err-plain-clause-count t c =
+    omega (arith, first_weight (members_of c.args.members.now), c.in_err-plain.ensures.count)
+
+pub first_names-returns-in_err-properties-clause-count : goal.first_names-returns-in_err-properties-clause-count
+first_names-returns-in_err-properties-clause-count t c =
+    omega (arith, first_weight (members_of c.args.members.now), c.in_ok-plain.ensures.count, c.in_err-properties.ensures.count)
+
+pub first_names-returns-in_err-additional_properties-clause-count : goal.first_names-returns-in_err-additional_properties-clause-count
+first_names-returns-in_err-additional_properties-clause-count t c =
+    omega (
+      arith,
+      first_weight (members_of c.args.members.now),
+      c.in_ok-plain.ensures.count,
+      c.in_ok-properties.ensures.count,
+      c.in_err-additional_properties.ensures.count,
+    )
+
+pub first_names-returns-clause-reads : goal.first_names-returns-clause-reads
+first_names-returns-clause-reads t c =
+    first_whole c.in_ok-plain.plain c.in_ok-properties.properties
+    c.in_ok-additional_properties.additional_properties (members_of c.args.members.now) c.in_ok-plain.ensures.reads
+    c.in_ok-properties.ensures.reads c.in_ok-additional_properties.ensures.reads
+
+pub first_names-returns-clause-count : goal.first_names-returns-clause-count
+first_names-returns-clause-count t c =
+    omega (
+      arith,
+      first_weight (members_of c.args.members.now),
+      c.in_ok-plain.ensures.count,
+      c.in_ok-properties.ensures.count,
+      c.in_ok-additional_properties.ensures.count,
+    )
+
+pub last_names-returns-in_err-plain-clause-count : goal.last_names-returns-in_err-plain-clause-count
+last_names-returns-in_err-plain-clause-count t c =
+    omega (
+      arith,
+      last_weight (members_of c.args.members.now),
+      c.in_err-plain.ensures.count,
+    )
+
+pub last_names-returns-in_err-items-clause-count : goal.last_names-returns-in_err-items-clause-count
+last_names-returns-in_err-items-clause-count t c =
+    omega (
+      arith,
+      last_weight (members_of c.args.members.now),
+      c.in_ok-plain.ensures.count,
+      c.in_err-items.ensures.count,
+    )
+
+pub last_names-returns-in_err-one_of-clause-count : goal.last_names-returns-in_err-one_of-clause-count
+last_names-returns-in_err-one_of-clause-count t c =
+    omega (
+      arith,
+      last_weight (members_of c.args.members.now),
+      c.in_ok-plain.ensures.count,
+      c.in_ok-items.ensures.count,
+      c.in_err-one_of.ensures.count,
+    )
+
+pub last_names-returns-in_err-all_of-clause-count : goal.last_names-returns-in_err-all_of-clause-count
+last_names-returns-in_err-all_of-clause-count t c =
+    omega (
+      arith,
+      last_weight (members_of c.args.members.now),
+      c.in_ok-plain.ensures.count,
+      c.in_ok-items.ensures.count,
+      c.in_ok-one_of.ensures.count,
+      c.in_err-all_of.ensures.count,
+    )
+
+pub last_names-returns-in_err-any_of-clause-count : goal.last_names-returns-in_err-any_of-clause-count
+last_names-returns-in_err-any_of-clause-count t c =
+    omega (
+      arith,
+      last_weight (members_of c.args.members.now),
+      c.in_ok-plain.ensures.count,
+      c.in_ok-items.ensures.count,
+      c.in_ok-one_of.ensures.count,
+      c.in_ok-all_of.ensures.count,
+      c.in_err-any_of.ensures.count,
+    )
+
+pub last_names-returns-in_err-not-clause-count : goal.last_names-returns-in_err-not-clause-count
+last_names-returns-in_err-not-clause-count t c =
+    omega (
+      arith,
+      last_weight (members_of c.args.members.now),
+      c.in_ok-plain.ensures.count,
+      c.in_ok-items.ensures.count,
+      c.in_ok-one_of.ensures.count,
+      c.in_ok-all_of.ensures.count,
+      c.in_ok-any_of.ensures.count,
+      c.in_err-not.ensures.count,
+    )
+
+pub last_names-returns-clause-reads : goal.last_names-returns-clause-reads
+last_names-returns-clause-reads t c =
+    last_whole c.in_ok-plain.plain c.in_ok-items.items c.in_ok-one_of.one_of c.in_ok-all_of.all_of c.in_ok-any_of.any_of
+    c.in_ok-not.not (members_of c.args.members.now) c.in_ok-plain.ensures.reads c.in_ok-items.ensures.reads
+    c.in_ok-one_of.ensures.reads c.in_ok-all_of.ensures.reads c.in_ok-any_of.ensures.reads c.in_ok-not.ensures.reads
+
+pub last_names-returns-clause-count : goal.last_names-returns-clause-count
+last_names-returns-clause-count t c =
+    omega (
+      arith,
+      last_weight (members_of c.args.members.now),
+      c.in_ok-plain.ensures.count,
+      c.in_ok-items.ensures.count,
+      c.in_ok-one_of.ensures.count,
+      c.in_ok-all_of.ensures.count,
+      c.in_ok-any_of.ensures.count,
+      c.in_ok-not.ensures.count,
+    )
+
+pub last_names-returns-clause-left : goal.last_names-returns-clause-left
+last_names-returns-clause-left t c =
+    omega (
+      arith,
+      last_weight (members_of c.args.members.now),
+      c.in_ok-plain.ensures.left,
+      c.in_ok-items.ensures.count,
+      c.in_ok-one_of.ensures.count,
+      c.in_ok-all_of.ensures.count,
+      c.in_ok-any_of.ensures.count,
+      c.in_ok-not.ensures.count,
+    )
+
+pub optional_inner_box-returns-in-None-clause-reads : goal.optional_inner_box-returns-in-None-clause-reads
+optional_inner_box-returns-in-None-clause-reads t c =
+    let at : row_where (is_named c.args.name.now) (rows_asked final_tables a_schema_kind) ≡ Some (row c.args.name.now optional (ref_to a_schema)) = search
+    rules in
+    row_gone inner_box_form c.args.name.now (ref_to a_schema) (members_of c.args.members.now) at c.in-None.ensures.is
+
+pub optional_inner_box-returns-in-None-clause-count : goal.optional_inner_box-returns-in-None-clause-count
+optional_inner_box-returns-in-None-clause-count t c =
+    omega (arith, c.in-None.ensures.counted, weight_of_name c.args.name.now optional optional (ref_to a_schema) any_tree (members_of c.args.members.now))
+
+pub optional_inner_box-returns-in-Some-clause-reads : goal.optional_inner_box-returns-in-Some-clause-reads
+optional_inner_box-returns-in-Some-clause-reads t c =
+    let at : row_where (is_named c.args.name.now) (rows_asked final_tables a_schema_kind) ≡ Some (row c.args.name.now optional (ref_to a_schema)) = search
+    rules in
+    row_read inner_box_form c.args.name.now (ref_to a_schema) (members_of c.args.members.now) at (shown c.in-Some.view) c.in_inner_box.result
+    c.as_member.result c.in-Some.ensures.is c.as_member.ensures (c.in_inner_box.ensures (ref_to a_schema) (shown c.in-Some.view) c.schema_ref.ensures.reads)
+
+pub optional_inner_box-returns-in-Some-clause-rises : goal.optional_inner_box-returns-in-Some-clause-rises
+optional_inner_box-returns-in-Some-clause-rises t c =
+    omega (arith, c.in-Some.ensures.counted, c.schema_ref.ensures.rises)
+
+pub optional_inner_box-returns-in-Some-clause-count : goal.optional_inner_box-returns-in-Some-clause-count
+optional_inner_box-returns-in-Some-clause-count t c =
+    omega (
+      arith,
+      c.in-Some.ensures.counted,
+      c.in-Some.ensures.weighs,
+      c.schema_ref.ensures.count,
+      weight_of_name c.args.name.now optional optional (ref_to a_schema) any_tree (members_of c.args.members.now),
+    )
+
+pub optional_inner_box-schema_ref-requires : goal.optional_inner_box-schema_ref-requires
+optional_inner_box-schema_ref-requires t c =
+    (omega (arith, c.in-Some.ensures.within, c.requires), tt)
+
+pub optional_outer_box-returns-in-None-clause-reads : goal.optional_outer_box-returns-in-None-clause-reads
+optional_outer_box-returns-in-None-clause-reads t c =
+    let at : row_where (is_named c.args.name.now) (rows_asked final_tables a_schema_kind) ≡ Some (row c.args.name.now optional (ref_to a_schema)) = search
+    rules in
+    row_gone outer_box_form c.args.name.now (ref_to a_schema) (members_of c.args.members.now) at c.in-None.ensures.is
+
+pub optional_outer_box-returns-in-None-clause-count : goal.optional_outer_box-returns-in-None-clause-count
+optional_outer_box-returns-in-None-clause-count t c =
+    omega (arith, c.in-None.ensures.counted, weight_of_name c.args.name.now optional optional (ref_to a_schema) any_tree (members_of c.args.members.now))
+
+pub optional_outer_box-returns-in-Some-clause-reads : goal.optional_outer_box-returns-in-Some-clause-reads
+optional_outer_box-returns-in-Some-clause-reads t c =
+    let at : row_where (is_named c.args.name.now) (rows_asked final_tables a_schema_kind) ≡ Some (row c.args.name.now optional (ref_to a_schema)) = search
+    rules in
+    row_read outer_box_form c.args.name.now (ref_to a_schema) (members_of c.args.members.now) at (shown c.in-Some.view) c.in_outer_box.result
+    c.as_member.result c.in-Some.ensures.is c.as_member.ensures (c.in_outer_box.ensures (ref_to a_schema) (shown c.in-Some.view) c.schema_ref.ensures.reads)
+
+pub optional_outer_box-returns-in-Some-clause-rises : goal.optional_outer_box-returns-in-Some-clause-rises
+optional_outer_box-returns-in-Some-clause-rises t c =
+    omega (arith, c.in-Some.ensures.counted, c.schema_ref.ensures.rises)
+
+pub optional_outer_box-returns-in-Some-clause-count : goal.optional_outer_box-returns-in-Some-clause-count
+optional_outer_box-returns-in-Some-clause-count t c =
+    omega (
+      arith,
+      c.in-Some.ensures.counted,
+      c.in-Some.ensures.weighs,
+      c.schema_ref.ensures.count,
+      weight_of_name c.args.name.now optional optional (ref_to a_schema) any_tree (members_of c.args.members.now),
+    )
+
+pub optional_outer_box-schema_ref-requires : goal.optional_outer_box-schema_ref-requires
+optional_outer_box-schema_ref-requires t c =
+    (omega (arith, c.in-Some.ensures.within, c.requires), tt)
+
+pub optional_refs-returns-in-None-clause-reads : goal.optional_refs-returns-in-None-clause-reads
+optional_refs-returns-in-None-clause-reads t c =
+    let at : row_where (is_named c.args.name.now) (rows_asked final_tables a_schema_kind) ≡ Some (row c.args.name.now optional (list_of (ref_to a_schema))) = search
+    rules in
+    row_gone (list_form ref_form) c.args.name.now (list_of (ref_to a_schema)) (members_of c.args.members.now) at c.in-None.ensures.is
+
+pub optional_refs-returns-in-None-clause-count : goal.optional_refs-returns-in-None-clause-count
+optional_refs-returns-in-None-clause-count t c =
+    omega (arith, c.in-None.ensures.counted, weight_of_name c.args.name.now optional optional (list_of (ref_to a_schema)) any_tree (members_of c.args.members.now))
+
+pub optional_refs-returns-in-Some-clause-reads : goal.optional_refs-returns-in-Some-clause-reads
+optional_refs-returns-in-Some-clause-reads t c =
+    let at : row_where (is_named c.args.name.now) (rows_asked final_tables a_schema_kind) ≡ Some (row c.args.name.now optional (list_of (ref_to a_schema))) = search
+    rules in
+    row_read (list_form ref_form) c.args.name.now (list_of (ref_to a_schema)) (members_of c.args.members.now) at (shown c.in-Some.view) c.refs_in.result
+    c.as_member.result c.in-Some.ensures.is c.as_member.ensures c.refs_in.ensures.reads
+
+pub optional_refs-returns-in-Some-clause-rises : goal.optional_refs-returns-in-Some-clause-rises
+optional_refs-returns-in-Some-clause-rises t c =
+    omega (arith, c.in-Some.ensures.counted, c.refs_in.ensures.rises)
+
+pub optional_refs-returns-in-Some-clause-count : goal.optional_refs-returns-in-Some-clause-count
+optional_refs-returns-in-Some-clause-count t c =
+    omega (
+      arith,
+      c.in-Some.ensures.counted,
+      c.in-Some.ensures.weighs,
+      c.refs_in.ensures.count,
+      weight_of_name c.args.name.now optional optional (list_of (ref_to a_schema)) any_tree (members_of c.args.members.now),
+    )
+
+pub optional_refs-refs_in-requires : goal.optional_refs-refs_in-requires
+optional_refs-refs_in-requires t c =
+    (omega (arith, c.in-Some.ensures.within, c.requires), tt)
+
+pub optional_properties-returns-in-None-clause-reads : goal.optional_properties-returns-in-None-clause-reads
+unfolding checked_rows any_rows
+optional_properties-returns-in-None-clause-reads t c =
+    row_gone (map_form inner_box_form) (codes "properties") (map_of (ref_to a_schema)) (members_of c.args.members.now) refl c.in-None.ensures.is
+
+pub optional_properties-returns-in-None-clause-count : goal.optional_properties-returns-in-None-clause-count
+optional_properties-returns-in-None-clause-count t c =
+    omega (arith, c.in-None.ensures.counted, weight_of_name (codes "properties") optional optional (map_of (ref_to a_schema)) any_tree (members_of c.args.members.now))
+
+pub optional_properties-returns-in-Some-clause-reads : goal.optional_properties-returns-in-Some-clause-reads
+unfolding checked_rows any_rows
+optional_properties-returns-in-Some-clause-reads t c =
+    row_read (map_form inner_box_form) (codes "properties") (map_of (ref_to a_schema)) (members_of c.args.members.now) refl (shown c.in-Some.view) c.properties_in.result
+    c.as_member.result c.in-Some.ensures.is c.as_member.ensures c.properties_in.ensures.reads
+
+pub optional_properties-returns-in-Some-clause-rises : goal.optional_properties-returns-in-Some-clause-rises
+optional_properties-returns-in-Some-clause-rises t c =
+    omega (arith, c.in-Some.ensures.counted, c.properties_in.ensures.rises)
+
+pub optional_properties-returns-in-Some-clause-count : goal.optional_properties-returns-in-Some-clause-count
+optional_properties-returns-in-Some-clause-count t c =
+    omega (
+      arith,
+      c.in-Some.ensures.counted,
+      c.in-Some.ensures.weighs,
+      c.properties_in.ensures.count,
+      weight_of_name (codes "properties") optional optional (map_of (ref_to a_schema)) any_tree (members_of c.args.members.now),
+    )
+
+pub optional_properties-properties_in-requires : goal.optional_properties-properties_in-requires
+optional_properties-properties_in-requires t c =
+    (omega (arith, c.in-Some.ensures.within, c.decreases), tt)
+
+pub optional_additional-returns-in-None-clause-reads : goal.optional_additional-returns-in-None-clause-reads
+unfolding checked_rows any_rows
+optional_additional-returns-in-None-clause-reads t c =
+    row_gone additional_form (codes "additionalProperties") flag_or_schema (members_of c.args.members.now) refl c.in-None.ensures.is
+
+pub optional_additional-returns-in-None-clause-count : goal.optional_additional-returns-in-None-clause-count
+optional_additional-returns-in-None-clause-count t c =
+    omega (arith, c.in-None.ensures.counted, weight_of_name (codes "additionalProperties") optional optional flag_or_schema any_tree (members_of c.args.members.now))
+
+pub optional_additional-returns-in-Some-clause-reads : goal.optional_additional-returns-in-Some-clause-reads
+unfolding checked_rows any_rows
+optional_additional-returns-in-Some-clause-reads t c =
+    row_read additional_form (codes "additionalProperties") flag_or_schema (members_of c.args.members.now) refl (shown c.in-Some.view) c.additional.result
+    c.as_member.result c.in-Some.ensures.is c.as_member.ensures c.additional.ensures.reads
+
+pub optional_additional-returns-in-Some-clause-rises : goal.optional_additional-returns-in-Some-clause-rises
+optional_additional-returns-in-Some-clause-rises t c =
+    omega (arith, c.in-Some.ensures.counted, c.additional.ensures.rises)
+
+pub optional_additional-returns-in-Some-clause-count : goal.optional_additional-returns-in-Some-clause-count
+optional_additional-returns-in-Some-clause-count t c =
+    omega (
+      arith,
+      c.in-Some.ensures.counted,
+      c.in-Some.ensures.weighs,
+      c.additional.ensures.count,
+      weight_of_name (codes "additionalProperties") optional optional flag_or_schema any_tree (members_of c.args.members.now),
+    )
+
+pub optional_additional-additional-requires : goal.optional_additional-additional-requires
+optional_additional-additional-requires t c =
+    (omega (arith, c.in-Some.ensures.within, c.decreases), tt)
+
+pub refs_in-returns-in-List-clause-reads : goal.refs_in-returns-in-List-clause-reads
+refs_in-returns-in-List-clause-reads t c =
+    rw c.in-List.is c.refs.ensures.reads
+
+pub refs_in-returns-in-List-clause-count : goal.refs_in-returns-in-List-clause-count
+refs_in-returns-in-List-clause-count t c =
+    rw c.in-List.is (omega (arith, c.refs.ensures.count))
+
+pub refs_in-returns-in_default : goal.refs_in-returns-in_default
+refs_in-returns-in_default t c =
+    record {
+      reads = wrong_here c.new.result words.List (list_of (ref_to a_schema)) (shown c.args.view.now) c.new.ensures.place
+          c.new.ensures.cause (not_list (ref_to a_schema) c.args.view.now c.in_default.not-List);
+      rises = omega arith;
+      count = omega (arith, size-positive (shown c.args.view.now));
+    }
+
+pub properties_in-returns-in-Object-clause-reads : goal.properties_in-returns-in-Object-clause-reads
+properties_in-returns-in-Object-clause-reads t c =
+    rw c.in-Object.is (map_gives inner_box_form (ref_to a_schema) c.properties.result c.in-Object.members.now
+    c.properties.ensures.reads)
+
+pub properties_in-returns-in-Object-clause-count : goal.properties_in-returns-in-Object-clause-count
+properties_in-returns-in-Object-clause-count t c =
+    let ms = c.in-Object.members.now in
+    rw c.in-Object.is (omega (arith, c.properties.ensures.count, ap entries_size (all_chosen ms), all_size ms))
+
+pub properties_in-returns-in_default : goal.properties_in-returns-in_default
+properties_in-returns-in_default t c =
+    record {
+      reads = wrong_here c.new.result words.Object (map_of (ref_to a_schema)) (shown c.args.view.now) c.new.ensures.place
+          c.new.ensures.cause (not_map (ref_to a_schema) c.args.view.now c.in_default.not-Object);
+      rises = omega arith;
+      count = omega (arith, size-positive (shown c.args.view.now));
+    }
+
+pub additional-returns-in-Flag-clause-reads : goal.additional-returns-in-Flag-clause-reads
+additional-returns-in-Flag-clause-reads t c =
+    rw c.in-Flag.is (refl, sym (additional-any c.in-Flag.allowed))
+
+pub additional-returns-in-Flag-clause-count : goal.additional-returns-in-Flag-clause-count
+additional-returns-in-Flag-clause-count t c =
+    omega (arith, size-positive (shown c.args.view.now))
+
+pub additional-returns-in-Object-clause-reads : goal.additional-returns-in-Object-clause-reads
+additional-returns-in-Object-clause-reads t c =
+    rw c.in-Object.is (c.in_additional.ensures (members_of c.in-Object.field-0.now)
+    (rw c.in-Object.is at (c.in_outer_box.ensures (ref_to a_schema) (shown c.args.view.now) c.schema_ref.ensures.reads)))
+
+pub additional-returns-in_default : goal.additional-returns-in_default
+additional-returns-in_default t c =
+    record {
+      reads = wrong_here c.new.result words.FlagOrObject flag_or_schema (shown c.args.view.now) c.new.ensures.place
+          c.new.ensures.cause (not_flag_or_object c.args.view.now c.in_default.not-Flag c.in_default.not-Object);
+      rises = omega arith;
+      count = omega (arith, size-positive (shown c.args.view.now));
+    }
+
+pub refs-schema_ref_from_node-requires : goal.refs-schema_ref_from_node-requires
+refs-schema_ref_from_node-requires t c =
+    let next = next_item c.args.nodes.now c.loop-i.i c.index-nodes-i.result c.loop-i-test.true c.index-nodes-i.is in
+    (omega (arith, next.within, c.decreases), tt)
+
+pub refs-returns-in_err-push-in-Ok-at_index-clause-count : goal.refs-returns-in_err-push-in-Ok-at_index-clause-count
+refs-returns-in_err-push-in-Ok-at_index-clause-count t c =
+    let next = next_item c.args.nodes.now c.loop-i.i c.index-nodes-i.result c.loop-i-test.true c.index-nodes-i.is in
+    omega (arith, next.within, c.schema_ref_from_node.ensures.count, c.loop-i.invariant.counted)
+
+pub refs-returns-in-Err-clause-count : goal.refs-returns-in-Err-clause-count
+refs-returns-in-Err-clause-count t c =
+    let next = next_item c.args.nodes.now c.loop-i.i c.index-nodes-i.result c.loop-i-test.true c.index-nodes-i.is in
+    omega (arith, next.within, c.schema_ref_from_node.ensures.count, c.loop-i.invariant.counted)
+
+pub refs-returns-in-Err-clause-reads : goal.refs-returns-in-Err-clause-reads
+refs-returns-in-Err-clause-reads t c =
+    let k = ref_to a_schema in
+    let ts = c.args.nodes.now in
+    let i = c.loop-i.i in
+    let u = c.index-nodes-i.result in
+    fails_above (indexed i) c.in-Err.fault (list_of k) k (list (items_of ts)) u
+    (item_leads k ts i u c.loop-i-test.true c.index-nodes-i.is)
+    (step_err ref_form (indexed i) k u c.schema_ref_from_node.result c.in-Err.fault c.in-Err.ensures
+    c.schema_ref_from_node.ensures.reads)
+
+pub refs-loop-i-preserved : goal.refs-loop-i-preserved
+refs-loop-i-preserved t c =
+    let k = ref_to a_schema in
+    let ts = c.args.nodes.now in
+    let i = c.loop-i.i in
+    let u = c.index-nodes-i.result in
+    let x = c.in-Ok-at_index.value in
+    let next = next_item ts i u c.loop-i-test.true c.index-nodes-i.is in
+    let here = next_here ts i u c.loop-i-test.true c.index-nodes-i.is in
+    let read = step_ok ref_form (indexed i) k u c.schema_ref_from_node.result x c.in-Ok-at_index.ensures
+    c.schema_ref_from_node.ensures.reads in
+    record {
+      holds = ap (every (conforms final_tables k)) here
+          ∙ every-more (conforms final_tables k) (take i ts) u c.loop-i.invariant.holds read.0;
+      same = ap (each (form final_tables k)) here ∙ each-more (form final_tables k) (take i ts) u
+          ∙ (λ j. c.loop-i.invariant.same j ++ read.1 j ∷ [])
+          ∙ sym (ap (each ref_form) c.in_ok-push-in-Ok-at_index.ensures.ok ∙ each-more ref_form c.loop-i.values.items
+          x);
+      rises = omega (arith, c.schema_ref_from_node.ensures.rises, c.loop-i.invariant.rises);
+      counted = omega (arith, next.adds, c.schema_ref_from_node.ensures.count, c.loop-i.invariant.counted);
+    }
+
+pub refs-returns-clause-reads : goal.refs-returns-clause-reads
+refs-returns-clause-reads t c =
+    let ts = c.args.nodes.now in
+    let k = ref_to a_schema in
+    let whole = take_all c.loop-i.i ts (omega arith) in
+    list_gives k ts (each ref_form c.loop-i.values.items)
+    (sym (ap (every (conforms final_tables k)) whole) ∙ c.loop-i.invariant.holds)
+    (sym (ap (each (form final_tables k)) whole) ∙ c.loop-i.invariant.same)
+
+pub properties-schema_ref_from_node-requires : goal.properties-schema_ref_from_node-requires
+properties-schema_ref_from_node-requires t c =
+    let next = next_member c.args.members.now c.loop-i.i (c.entry_at.result.0.now, c.entry_at.result.1.now)
+    c.entry_at.ensures in
+    (omega (arith, next.within, c.decreases), tt)
+
+pub properties-returns-in-Err-clause-reads : goal.properties-returns-in-Err-clause-reads
+properties-returns-in-Err-clause-reads t c =
+    let n = c.entry_at.result.0.now in
+    let u = c.entry_at.result.1.now in
+    let k = ref_to a_schema in
+    let ms = c.args.members.now in
+    let i = c.loop-i.i in
+    inr (entry_fails any_name ms i n u k c.in-Err.fault c.entry_at.ensures refl
+    (step_err inner_box_form (named n) k u c.in_inner_box.result c.in-Err.fault c.in-Err.ensures
+    (c.in_inner_box.ensures k u c.schema_ref_from_node.ensures.reads)))
+
+pub properties-returns-in-Err-clause-count : goal.properties-returns-in-Err-clause-count
+properties-returns-in-Err-clause-count t c =
+    let n = c.entry_at.result.0.now in
+    let u = c.entry_at.result.1.now in
+    let k = ref_to a_schema in
+    let ms = c.args.members.now in
+    let i = c.loop-i.i in
+    omega (
+      arith,
+      c.loop-i.invariant.counted,
+      c.schema_ref_from_node.ensures.count,
+      next_within any_name ms i n u c.entry_at.ensures refl,
+    )
+
+pub properties-returns-in_err-put-in-Ok-clause-count : goal.properties-returns-in_err-put-in-Ok-clause-count
+properties-returns-in_err-put-in-Ok-clause-count t c =
+    let n = c.entry_at.result.0.now in
+    let u = c.entry_at.result.1.now in
+    let k = ref_to a_schema in
+    let ms = c.args.members.now in
+    let i = c.loop-i.i in
+    omega (
+      arith,
+      c.loop-i.invariant.counted,
+      c.schema_ref_from_node.ensures.count,
+      next_within any_name ms i n u c.entry_at.ensures refl,
+    )
+
+pub properties-put-requires : goal.properties-put-requires
+properties-put-requires t c =
+    let n = c.entry_at.result.0.now in
+    let u = c.entry_at.result.1.now in
+    let k = ref_to a_schema in
+    let ms = c.args.members.now in
+    let i = c.loop-i.i in
+    next_new any_name ms i n u c.entry_at.ensures refl inner_box_form k c.loop-i.values c.len-i-end.ensures.distinct
+    c.loop-i.invariant.same
+
+pub properties-loop-i-preserved : goal.properties-loop-i-preserved
+properties-loop-i-preserved t c =
+    let n = c.entry_at.result.0.now in
+    let u = c.entry_at.result.1.now in
+    let k = ref_to a_schema in
+    let ms = c.args.members.now in
+    let i = c.loop-i.i in
+    let read = step_ok inner_box_form (named n) k u c.in_inner_box.result c.in-Ok.value c.in-Ok.ensures
+    (c.in_inner_box.ensures k u c.schema_ref_from_node.ensures.reads) in
+    record {
+      holds = next_holds any_name ms i n u c.entry_at.ensures refl k c.loop-i.invariant.holds read.0;
+      same = next_same any_name ms i n u c.entry_at.ensures refl inner_box_form k c.loop-i.values c.put.new.out
+          c.in-Ok.value c.loop-i.invariant.same read.1 c.in_ok-put-in-Ok.ensures.ok;
+      rises = omega (arith, c.loop-i.invariant.rises, c.schema_ref_from_node.ensures.rises);
+      counted = omega (
+        arith,
+        c.loop-i.invariant.counted,
+        c.schema_ref_from_node.ensures.count,
+        next_size any_name ms i n u c.entry_at.ensures refl,
+      );
+    }
+
+pub properties-returns-clause-reads : goal.properties-returns-clause-reads
+properties-returns-clause-reads t c =
+    let ms = c.args.members.now in
+    let k = ref_to a_schema in
+    let whole = take_all c.loop-i.i ms (omega arith) in (
+      sym (ap (λ l. every (λ e. conforms final_tables k e.1) (chosen any_name l)) whole) ∙ c.loop-i.invariant.holds,
+      sym (ap (λ l. pairs_of (form final_tables k) (chosen any_name l)) whole) ∙ c.loop-i.invariant.same,
+    )

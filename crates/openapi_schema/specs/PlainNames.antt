@@ -1,0 +1,57 @@
+-- The kind names that hold no schemas.
+use Rattle.std.specs.Prelude.{Bool, true, false, List, [], ◌∷◌}
+use Rattle.openapi_tables.specs.Lists.{only}
+use Rattle.openapi_tables.specs.Kind.{Kind, list_of, map_of, ref_to, flag_or_schema, Row, row, either, class, constant}
+use Rattle.openapi_tables.specs.Form.{Form}
+use Rattle.openapi_rows.specs.Forms.{text_form, flag_form, optional_form, list_form, number_form, size_form}
+use Rattle.openapi_schema.specs.KindNames.{trees_form}
+use Rattle.openapi_schema.specs.Reading.{first_optional, last_optional}
+use Rattle.openapi_schema.specs.declared.plain_names.PlainFirst.{PlainFirst}
+use Rattle.openapi_schema.specs.declared.plain_names.PlainLast.{PlainLast}
+
+-- whether a kind holds no schema
+abbrev pub is_plain : Kind → Bool
+is_plain (ref_to k) = false
+is_plain flag_or_schema = false
+is_plain (list_of k) = is_plain k
+is_plain (map_of k) = is_plain k
+is_plain k = true
+
+abbrev pub is_plain_row : Row → Bool
+is_plain_row (row n m k) = is_plain k
+is_plain_row (either a j b k) = false
+is_plain_row (class c k) = false
+is_plain_row (constant n v) = false
+
+-- the rows of the names of each half that hold no schemas
+unfoldable pub plain_first : List Row
+plain_first = only is_plain_row first_optional
+
+unfoldable pub plain_last : List Row
+plain_last = only is_plain_row last_optional
+
+-- the forms of what stands under them
+abbrev pub plain_first_rows : PlainFirst → List Form
+plain_first_rows a =
+    optional_form text_form a.typ
+    ∷ optional_form text_form a.pattern
+    ∷ optional_form number_form a.multiple_of
+    ∷ optional_form flag_form a.exclusive_minimum
+    ∷ optional_form flag_form a.exclusive_maximum
+    ∷ optional_form number_form a.minimum
+    ∷ optional_form number_form a.maximum
+    ∷ optional_form (list_form text_form) a.required
+    ∷ optional_form size_form a.min_properties
+    ∷ optional_form size_form a.max_properties
+    ∷ []
+
+abbrev pub plain_last_rows : PlainLast → List Form
+plain_last_rows b =
+    optional_form size_form b.min_items
+    ∷ optional_form size_form b.max_items
+    ∷ optional_form flag_form b.unique_items
+    ∷ optional_form (λ nodes. trees_form nodes.now) b.enumeration
+    ∷ optional_form text_form b.format
+    ∷ optional_form size_form b.min_length
+    ∷ optional_form size_form b.max_length
+    ∷ []

@@ -1,0 +1,91 @@
+//! The types of this crate that hold schemas, read from trees.
+ghost use Rattle.std.proofs.Common.{lit≤, refl};
+ghost use Rattle.std.specs.Prelude.{◌≡◌, ◌+◌, ◌*◌, ◌≤◌, true};
+ghost use Rattle.openapi_node.specs.Tree.{size_of};
+ghost use Rattle.openapi_tables.specs.Kind as kinds;
+ghost use Rattle.openapi_rows.specs.Gives.{Gives, Refuses};
+ghost use Rattle.openapi_schema.specs.Reading.{inner_box_form, schema_kind_form};
+ghost use Rattle.openapi_schema.specs.SchemaForms.{additional_form, schema_form};
+
+use crate::boxes::in_inner_box;
+use crate::read::{additional, kind, schema, schema_ref};
+use crate::schema::{AdditionalProperties, Schema, SchemaKind};
+use openapi_node::{Cause, Expected, Fault, Node, Steps, View};
+use openapi_rows::{FromNode, Referable};
+use openapi_values::ReferenceOr;
+use std::alloc::Global;
+
+/// Reads a schema in a box, or a reference to one. An object with a text under `$ref` is a reference, whatever else it
+/// has.
+pub fn boxed_schema_ref_from_node(
+    alloc: Global,
+    node: &Node,
+    steps: &mut Steps,
+) -> Result<ReferenceOr<Box<Schema>>, Fault>
+    ensures reads { Gives inner_box_form result (kinds.ref_to kinds.a_schema) node.now }
+    ensures refuses { Refuses result (kinds.ref_to kinds.a_schema) node.now }
+    ensures rises { steps.old + 1 ≤ steps.new }
+    ensures count { steps.new ≤ steps.old + 3 * size_of node.now }
+{
+    let view = node.open(steps);
+    in_inner_box(alloc, schema_ref(alloc, &view, steps))
+}
+
+impl FromNode for Schema {
+    ghost kind = { kinds.a_schema };
+
+    ghost form_of = { schema_form };
+
+    fn from_view(alloc: Global, view: &View<'_>, steps: &mut Steps) -> Result<Schema, Fault> {
+        match view {
+            View::Object(members) => schema(alloc, members, steps),
+            _ => Err(Fault::new(alloc, Cause::WrongKind(Expected::Object))),
+        }
+    }
+
+    ghost few = { lit≤ tt };
+
+    ghost well_made = { refl };
+}
+
+impl Referable for Schema {
+    ghost direct = { refl };
+
+    ghost spares_ref = { refl };
+}
+
+/// The kind of a schema by itself: the members that every kind of schema can have are ignored.
+impl FromNode for SchemaKind {
+    ghost kind = { kinds.a_schema_kind };
+
+    ghost form_of = { schema_kind_form };
+
+    fn from_view(alloc: Global, view: &View<'_>, steps: &mut Steps) -> Result<SchemaKind, Fault> {
+        match view {
+            View::Object(members) => kind(alloc, members, steps),
+            _ => Err(Fault::new(alloc, Cause::WrongKind(Expected::Object))),
+        }
+    }
+
+    ghost few = { lit≤ tt };
+
+    ghost well_made = { refl };
+}
+
+impl FromNode for AdditionalProperties {
+    ghost kind = { kinds.flag_or_schema };
+
+    ghost form_of = { additional_form };
+
+    fn from_view(
+        alloc: Global,
+        view: &View<'_>,
+        steps: &mut Steps,
+    ) -> Result<AdditionalProperties, Fault> {
+        additional(alloc, view, steps)
+    }
+
+    ghost few = { lit≤ tt };
+
+    ghost well_made = { refl };
+}

@@ -1,0 +1,408 @@
+//! How schemas are read. The functions call each other in a circle, as schemas hold schemas: each gets a smaller part
+//! of the tree in the end. A value is looked at once, and handed down as the view of that look.
+ghost use Rattle.std.specs.Prelude.{◌≡◌, ◌+◌, ◌*◌, ◌≤◌, [], ◌++◌, ◌∷◌, Some, codes, IfOk, IfErr, OnOk};
+ghost use Rattle.openapi_node.specs.Tree.{list, object, items_of, members_of, size_of, items_size, members_size};
+ghost use Rattle.openapi_node.specs.View.{shown};
+ghost use Rattle.openapi_tables.specs.Kind as kinds;
+ghost use Rattle.openapi_tables.specs.ByRow.{is_named, row_where, row_weight, rows_asked, rows_weight};
+ghost use Rattle.openapi_tables.specs.Tables.{final_tables};
+ghost use Rattle.openapi_rows.specs.Entries.{GivesEntries, chosen, entries_size};
+ghost use Rattle.openapi_node.specs.Fault.{IsMemory};
+ghost use Rattle.openapi_rows.specs.Forms.{list_form, map_form, optional_form};
+ghost use Rattle.openapi_rows.specs.Gives.{Gives, GivesRow, Refuses};
+ghost use Rattle.openapi_schema.specs.KindNames.{first_rows, last_rows};
+ghost use Rattle.openapi_schema.specs.Kinds.{entries_weight, trees_in};
+ghost use Rattle.openapi_schema.specs.RawSlots.{optional_rows};
+ghost use Rattle.openapi_schema.specs.Reading.{GivesKind, GivesPart, first_optional, last_optional};
+ghost use Rattle.openapi_schema.specs.Reading.{any_name, ref_form, inner_box_form, outer_box_form};
+ghost use Rattle.openapi_schema.specs.SchemaForms.{additional_form, schema_form};
+
+use crate::boxes::{in_additional, in_inner_box, in_item, in_outer_box};
+use crate::kind_names::{FirstNames, LastNames};
+use crate::plain_names::{read_plain_first, read_plain_last};
+use crate::presence::{as_member, present_view, reference_in};
+use crate::schema::{AdditionalProperties, Schema, SchemaKind};
+use crate::schema_data::SchemaData;
+use crate::schema_kind::schema_kind;
+use openapi_node::{Cause, Expected, Fault, Node, OrderedMap, Steps, View};
+use openapi_rows::{Record, at_index, at_name, put};
+use openapi_values::ReferenceOr;
+use std::alloc::Global;
+
+/// Reads a schema or a reference to one. An object with a text under `$ref` is a reference, whatever else it has.
+#[cycle(read)]
+pub fn schema_ref_from_node(
+    alloc: Global,
+    node: &Node,
+    steps: &mut Steps,
+) -> Result<ReferenceOr<Schema>, Fault>
+    ensures reads { Gives ref_form result (kinds.ref_to kinds.a_schema) node.now }
+    ensures refuses { Refuses result (kinds.ref_to kinds.a_schema) node.now }
+    ensures rises { steps.old + 1 ≤ steps.new }
+    ensures count { steps.new ≤ steps.old + 3 * size_of node.now }
+{
+    let view = node.open(steps);
+    schema_ref(alloc, &view, steps)
+}
+
+/// Reads a schema or a reference to one, of which a look was taken already.
+#[cycle(read)]
+pub(crate) fn schema_ref(
+    alloc: Global,
+    view: &View<'_>,
+    steps: &mut Steps,
+) -> Result<ReferenceOr<Schema>, Fault>
+    ensures reads { Gives ref_form result (kinds.ref_to kinds.a_schema) (shown view.now) }
+    ensures rises { steps.old ≤ steps.new }
+    ensures count { steps.new + 2 ≤ steps.old + 3 * size_of (shown view.now) }
+{
+    let View::Object(members) = view else {
+        return Err(Fault::new(alloc, Cause::WrongKind(Expected::Object)));
+    };
+    match reference_in(alloc, members, steps) {
+        Ok(reference) => match reference {
+            Some(reference) => Ok(ReferenceOr::Reference { reference }),
+            None => in_item(schema(alloc, members, steps)),
+        },
+        Err(fault) => Err(fault),
+    }
+}
+
+/// Reads a schema among the members of an object.
+#[cycle(read)]
+pub(crate) fn schema(
+    alloc: Global,
+    members: &OrderedMap<Node>,
+    steps: &mut Steps,
+) -> Result<Schema, Fault>
+    ensures reads { Gives schema_form result kinds.a_schema (object (members_of members.now)) }
+    ensures rises { steps.old ≤ steps.new }
+    ensures count { steps.new ≤ steps.old + 3 * members_size (members_of members.now) }
+{
+    match SchemaData::from_members(alloc, members, steps) {
+        Ok(schema_data) => match kind(alloc, members, steps) {
+            Ok(schema_kind) => Ok(Schema {
+                schema_data,
+                schema_kind,
+            }),
+            Err(fault) => Err(fault),
+        },
+        Err(fault) => Err(fault),
+    }
+}
+
+/// Reads the kind of a schema among the members of an object.
+#[cycle(read)]
+pub(crate) fn kind(
+    alloc: Global,
+    members: &OrderedMap<Node>,
+    steps: &mut Steps,
+) -> Result<SchemaKind, Fault>
+    ensures reads { GivesKind result (members_of members.now) }
+    ensures rises { steps.old ≤ steps.new }
+    ensures count { steps.new ≤ steps.old + 3 * rows_weight optional_rows (members_of members.now) }
+{
+    match first_names(alloc, members, steps) {
+        Ok(first) => match last_names(alloc, members, steps) {
+            Ok(last) => schema_kind(alloc, first, last, steps),
+            Err(fault) => Err(fault),
+        },
+        Err(fault) => Err(fault),
+    }
+}
+
+/// Reads what stands under the first twelve names that tell the kinds of schemas apart.
+#[cycle(read)]
+fn first_names(
+    alloc: Global,
+    members: &OrderedMap<Node>,
+    steps: &mut Steps,
+) -> Result<FirstNames, Fault>
+    ensures reads { GivesPart first_rows result kinds.a_schema_kind first_optional (members_of members.now) }
+    ensures rises { steps.old ≤ steps.new }
+    ensures count { steps.new ≤ steps.old + 3 * rows_weight first_optional (members_of members.now) }
+{
+    let plain = read_plain_first(alloc, members, steps)?;
+    let properties = optional_properties(alloc, members, steps)?;
+    let additional_properties = optional_additional(alloc, members, steps)?;
+    Ok(FirstNames {
+        typ: plain.typ,
+        pattern: plain.pattern,
+        multiple_of: plain.multiple_of,
+        exclusive_minimum: plain.exclusive_minimum,
+        exclusive_maximum: plain.exclusive_maximum,
+        minimum: plain.minimum,
+        maximum: plain.maximum,
+        properties,
+        required: plain.required,
+        additional_properties,
+        min_properties: plain.min_properties,
+        max_properties: plain.max_properties,
+    })
+}
+
+/// Reads what stands under the last twelve names. What is left to look at pays for the entries of the enumeration.
+#[cycle(read)]
+#[tactic(auto, unfolding(openapi_tables::specs::Members::checked_rows, openapi_tables::specs::Tables::any_rows))]
+fn last_names<'a>(
+    alloc: Global,
+    members: &'a OrderedMap<Node>,
+    steps: &mut Steps,
+) -> Result<LastNames<'a>, Fault>
+    ensures reads { GivesPart last_rows result kinds.a_schema_kind last_optional (members_of members.now) }
+    ensures rises { steps.old ≤ steps.new }
+    ensures count { steps.new ≤ steps.old + 3 * rows_weight last_optional (members_of members.now) }
+    ensures left { IfOk result (λ b. steps.new + 2 * entries_weight (trees_in b.enumeration) ≤ steps.old
+        + 3 * rows_weight last_optional (members_of members.now)) }
+{
+    let plain = read_plain_last(alloc, members, steps)?;
+    let items = optional_inner_box(alloc, members, "items", steps)?;
+    let one_of = optional_refs(alloc, members, "oneOf", steps)?;
+    let all_of = optional_refs(alloc, members, "allOf", steps)?;
+    let any_of = optional_refs(alloc, members, "anyOf", steps)?;
+    let not = optional_outer_box(alloc, members, "not", steps)?;
+    Ok(LastNames {
+        items,
+        min_items: plain.min_items,
+        max_items: plain.max_items,
+        unique_items: plain.unique_items,
+        enumeration: plain.enumeration,
+        format: plain.format,
+        min_length: plain.min_length,
+        max_length: plain.max_length,
+        one_of,
+        all_of,
+        any_of,
+        not,
+    })
+}
+
+/// A reference or a schema in a box under a name, where it is there and not null.
+#[cycle(read)]
+fn optional_inner_box(
+    alloc: Global,
+    members: &OrderedMap<Node>,
+    name: &'static str,
+    steps: &mut Steps,
+) -> Result<Option<ReferenceOr<Box<Schema>>>, Fault>
+    requires row { row_where (is_named name.now) (rows_asked final_tables kinds.a_schema_kind) ≡ Some
+        (kinds.row name.now kinds.optional (kinds.ref_to kinds.a_schema)) }
+    ensures reads { GivesRow (optional_form inner_box_form) result kinds.a_schema_kind
+        (kinds.row name.entry.now kinds.optional (kinds.ref_to kinds.a_schema)) (members_of members.now) }
+    ensures rises { steps.old ≤ steps.new }
+    ensures count { steps.new ≤ steps.old + 3 * row_weight
+        (kinds.row name.entry.now kinds.optional (kinds.ref_to kinds.a_schema)) (members_of members.now) }
+{
+    match present_view(members, name, steps) {
+        None => Ok(None),
+        Some(view) => as_member(
+            alloc,
+            name,
+            in_inner_box(alloc, schema_ref(alloc, &view, steps)),
+        ),
+    }
+}
+
+/// A schema or a reference in a box under a name, where it is there and not null.
+#[cycle(read)]
+fn optional_outer_box(
+    alloc: Global,
+    members: &OrderedMap<Node>,
+    name: &'static str,
+    steps: &mut Steps,
+) -> Result<Option<Box<ReferenceOr<Schema>>>, Fault>
+    requires row { row_where (is_named name.now) (rows_asked final_tables kinds.a_schema_kind) ≡ Some
+        (kinds.row name.now kinds.optional (kinds.ref_to kinds.a_schema)) }
+    ensures reads { GivesRow (optional_form outer_box_form) result kinds.a_schema_kind
+        (kinds.row name.entry.now kinds.optional (kinds.ref_to kinds.a_schema)) (members_of members.now) }
+    ensures rises { steps.old ≤ steps.new }
+    ensures count { steps.new ≤ steps.old + 3 * row_weight
+        (kinds.row name.entry.now kinds.optional (kinds.ref_to kinds.a_schema)) (members_of members.now) }
+{
+    match present_view(members, name, steps) {
+        None => Ok(None),
+        Some(view) => as_member(
+            alloc,
+            name,
+            in_outer_box(alloc, schema_ref(alloc, &view, steps)),
+        ),
+    }
+}
+
+/// A list of schemas and references under a name, where it is there and not null.
+#[cycle(read)]
+fn optional_refs(
+    alloc: Global,
+    members: &OrderedMap<Node>,
+    name: &'static str,
+    steps: &mut Steps,
+) -> Result<Option<Vec<ReferenceOr<Schema>>>, Fault>
+    requires row { row_where (is_named name.now) (rows_asked final_tables kinds.a_schema_kind) ≡ Some
+        (kinds.row name.now kinds.optional (kinds.list_of (kinds.ref_to kinds.a_schema))) }
+    ensures reads { GivesRow (optional_form (list_form ref_form)) result kinds.a_schema_kind
+        (kinds.row name.entry.now kinds.optional (kinds.list_of (kinds.ref_to kinds.a_schema)))
+        (members_of members.now) }
+    ensures rises { steps.old ≤ steps.new }
+    ensures count { steps.new ≤ steps.old + 3 * row_weight
+        (kinds.row name.entry.now kinds.optional (kinds.list_of (kinds.ref_to kinds.a_schema)))
+        (members_of members.now) }
+{
+    match present_view(members, name, steps) {
+        None => Ok(None),
+        Some(view) => as_member(alloc, name, refs_in(alloc, &view, steps)),
+    }
+}
+
+/// The schemas and references of a list.
+#[cycle(read)]
+fn refs_in(
+    alloc: Global,
+    view: &View<'_>,
+    steps: &mut Steps,
+) -> Result<Vec<ReferenceOr<Schema>>, Fault>
+    ensures reads { Gives (list_form ref_form) result (kinds.list_of (kinds.ref_to kinds.a_schema)) (shown view.now) }
+    ensures rises { steps.old ≤ steps.new }
+    ensures count { steps.new + 3 ≤ steps.old + 3 * size_of (shown view.now) }
+{
+    match view {
+        View::List(nodes) => refs(alloc, nodes, steps),
+        _ => Err(Fault::new(alloc, Cause::WrongKind(Expected::List))),
+    }
+}
+
+/// Puts a value last.
+pub(crate) fn push<T: Drop>(alloc: Global, values: &mut Vec<T>, value: T) -> Result<(), Fault>
+    ensures ok { OnOk result (values.new.items ≡ values.old.items ++ value ∷ []) }
+    ensures err { IfErr result IsMemory }
+{
+    match values.push(value) {
+        Ok(()) => Ok(()),
+        Err(_) => Err(Fault::memory(alloc)),
+    }
+}
+
+/// The schemas and references among the elements of a list, in order.
+#[cycle(read)]
+fn refs(alloc: Global, nodes: &[Node], steps: &mut Steps) -> Result<Vec<ReferenceOr<Schema>>, Fault>
+    ensures reads { Gives (list_form ref_form) result (kinds.list_of (kinds.ref_to kinds.a_schema))
+        (list (items_of nodes.now)) }
+    ensures rises { steps.old ≤ steps.new }
+    ensures count { steps.new ≤ steps.old + 3 * items_size (items_of nodes.now) }
+{
+    let Ok(mut values) = Vec::with_capacity(alloc, nodes.len()) else {
+        return Err(Fault::memory(alloc));
+    };
+    for (i, node) in nodes.iter().enumerate() {
+        match at_index(alloc, i, schema_ref_from_node(alloc, node, steps)) {
+            Ok(value) => push(alloc, &mut values, value)?,
+            Err(fault) => return Err(fault),
+        }
+    }
+    Ok(values)
+}
+
+/// The schemas and references under `properties`, where it is there and not null.
+#[cycle(read)]
+fn optional_properties(
+    alloc: Global,
+    members: &OrderedMap<Node>,
+    steps: &mut Steps,
+) -> Result<Option<OrderedMap<ReferenceOr<Box<Schema>>>>, Fault>
+    ensures reads { GivesRow (optional_form (map_form inner_box_form)) result kinds.a_schema_kind
+        (kinds.row (codes "properties") kinds.optional (kinds.map_of (kinds.ref_to kinds.a_schema)))
+        (members_of members.now) }
+    ensures rises { steps.old ≤ steps.new }
+    ensures count { steps.new ≤ steps.old + 3 * row_weight
+        (kinds.row (codes "properties") kinds.optional (kinds.map_of (kinds.ref_to kinds.a_schema)))
+        (members_of members.now) }
+{
+    match present_view(members, "properties", steps) {
+        None => Ok(None),
+        Some(view) => as_member(alloc, "properties", properties_in(alloc, &view, steps)),
+    }
+}
+
+/// The schemas and references of a map.
+#[cycle(read)]
+fn properties_in(
+    alloc: Global,
+    view: &View<'_>,
+    steps: &mut Steps,
+) -> Result<OrderedMap<ReferenceOr<Box<Schema>>>, Fault>
+    ensures reads { Gives (map_form inner_box_form) result (kinds.map_of (kinds.ref_to kinds.a_schema))
+        (shown view.now) }
+    ensures rises { steps.old ≤ steps.new }
+    ensures count { steps.new + 3 ≤ steps.old + 3 * size_of (shown view.now) }
+{
+    match view {
+        View::Object(members) => properties(alloc, members, steps),
+        _ => Err(Fault::new(alloc, Cause::WrongKind(Expected::Object))),
+    }
+}
+
+/// The schemas and references among the members of an object, in order.
+#[cycle(read)]
+fn properties(
+    alloc: Global,
+    members: &OrderedMap<Node>,
+    steps: &mut Steps,
+) -> Result<OrderedMap<ReferenceOr<Box<Schema>>>, Fault>
+    ensures reads { GivesEntries inner_box_form result (kinds.ref_to kinds.a_schema) (chosen any_name members.now) }
+    ensures rises { steps.old ≤ steps.new }
+    ensures count { steps.new ≤ steps.old + 3 * entries_size (chosen any_name members.now) }
+{
+    let mut values = OrderedMap::new(alloc);
+    for i in 0..members.len() {
+        let (name, node) = members.entry_at(i);
+        match at_name(
+            alloc,
+            name,
+            in_inner_box(alloc, schema_ref_from_node(alloc, node, steps)),
+        ) {
+            Ok(value) => put(alloc, &mut values, name, value)?,
+            Err(fault) => return Err(fault),
+        }
+    }
+    Ok(values)
+}
+
+/// What stands under `additionalProperties`, where it is there and not null.
+#[cycle(read)]
+fn optional_additional(
+    alloc: Global,
+    members: &OrderedMap<Node>,
+    steps: &mut Steps,
+) -> Result<Option<AdditionalProperties>, Fault>
+    ensures reads { GivesRow (optional_form additional_form) result kinds.a_schema_kind
+        (kinds.row (codes "additionalProperties") kinds.optional kinds.flag_or_schema) (members_of members.now) }
+    ensures rises { steps.old ≤ steps.new }
+    ensures count { steps.new ≤ steps.old + 3 * row_weight
+        (kinds.row (codes "additionalProperties") kinds.optional kinds.flag_or_schema) (members_of members.now) }
+{
+    match present_view(members, "additionalProperties", steps) {
+        None => Ok(None),
+        Some(view) => as_member(
+            alloc,
+            "additionalProperties",
+            additional(alloc, &view, steps),
+        ),
+    }
+}
+
+/// A flag, or a schema or a reference to one.
+#[cycle(read)]
+pub(crate) fn additional(
+    alloc: Global,
+    view: &View<'_>,
+    steps: &mut Steps,
+) -> Result<AdditionalProperties, Fault>
+    ensures reads { Gives additional_form result kinds.flag_or_schema (shown view.now) }
+    ensures rises { steps.old ≤ steps.new }
+    ensures count { steps.new + 2 ≤ steps.old + 3 * size_of (shown view.now) }
+{
+    match view {
+        View::Flag(allowed) => Ok(AdditionalProperties::Any(*allowed)),
+        View::Object(_) => in_additional(in_outer_box(alloc, schema_ref(alloc, view, steps))),
+        _ => Err(Fault::new(alloc, Cause::WrongKind(Expected::FlagOrObject))),
+    }
+}

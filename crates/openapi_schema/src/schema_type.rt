@@ -1,0 +1,142 @@
+//! The type of a schema by itself, told by its `type`.
+ghost use Rattle.std.proofs.Common.{lit≤, refl};
+ghost use Rattle.std.specs.Prelude.{◌≡◌, ◌+◌, ◌≤◌, ◌*◌, IfOk};
+ghost use Rattle.openapi_node.specs.Tree.{members_of};
+ghost use Rattle.openapi_tables.specs.ByRow.{rows_weight};
+ghost use Rattle.openapi_tables.specs.Kind.{by};
+ghost use Rattle.openapi_tables.specs.Tables.{final_tables, schema_type};
+ghost use Rattle.openapi_rows.specs.Gives.{GivesRows};
+ghost use Rattle.openapi_schema.specs.TypeForms.{table_of, type_words, type_name_word};
+ghost use Rattle.openapi_schema.specs.TypeForms.{schema_type_fields, schema_type_form, schema_type_word};
+ghost use Rattle.openapi_schema.specs.TypeForms.{schema_type_sound};
+
+use crate::composite_types::{ArrayType, ObjectType};
+use crate::members::whole_type;
+use crate::scalar_types::{BooleanType, IntegerType, NumberType, StringType};
+use crate::schema::SchemaType;
+use crate::write::type_rows;
+use openapi_node::{Cause, Expected, Fault, Node, OrderedMap, Steps, View};
+use openapi_rows::{FromNode, Record, ToNode, tag};
+use openapi_values::Word;
+use std::alloc::Global;
+
+/// The types of schemas.
+#[derive(Clone, Copy)]
+pub(crate) enum TypeName {
+    String,
+    Number,
+    Integer,
+    Object,
+    Array,
+    Boolean,
+}
+
+impl Word for TypeName {
+    ghost use Rattle.openapi_schema.specs.declared.schema_type.TypeName.TheVariants as names;
+
+    ghost words = { type_words };
+
+    ghost word_of = { type_name_word };
+
+    ghost known = { elim [
+      | names.String ↦ refl
+      | names.Number ↦ refl
+      | names.Integer ↦ refl
+      | names.Object ↦ refl
+      | names.Array ↦ refl
+      | names.Boolean ↦ refl
+    ] };
+
+    fn all() -> &'static [TypeName] {
+        &[
+            TypeName::String,
+            TypeName::Number,
+            TypeName::Integer,
+            TypeName::Object,
+            TypeName::Array,
+            TypeName::Boolean,
+        ]
+    }
+
+    fn as_str(&self) -> &'static str {
+        match self {
+            TypeName::String => "string",
+            TypeName::Number => "number",
+            TypeName::Integer => "integer",
+            TypeName::Object => "object",
+            TypeName::Array => "array",
+            TypeName::Boolean => "boolean",
+        }
+    }
+}
+
+/// Reads a schema of a type among the members of an object.
+fn of_type(
+    alloc: Global,
+    name: TypeName,
+    members: &OrderedMap<Node>,
+    steps: &mut Steps,
+) -> Result<SchemaType, Fault>
+    ensures reads { GivesRows schema_type_fields result (by (table_of name)) (members_of members.now) }
+    ensures word { IfOk result (λ x. schema_type_word x ≡ type_name_word name) }
+    ensures rises { steps.old ≤ steps.new }
+    ensures count { steps.new ≤ steps.old + 3 * rows_weight (final_tables (table_of name)) (members_of members.now) }
+{
+    match name {
+        TypeName::String => match StringType::from_members(alloc, members, steps) {
+            Ok(typ) => Ok(SchemaType::String(typ)),
+            Err(fault) => Err(fault),
+        },
+        TypeName::Number => match NumberType::from_members(alloc, members, steps) {
+            Ok(typ) => Ok(SchemaType::Number(typ)),
+            Err(fault) => Err(fault),
+        },
+        TypeName::Integer => match IntegerType::from_members(alloc, members, steps) {
+            Ok(typ) => Ok(SchemaType::Integer(typ)),
+            Err(fault) => Err(fault),
+        },
+        TypeName::Object => match ObjectType::from_members(alloc, members, steps) {
+            Ok(typ) => Ok(SchemaType::Object(typ)),
+            Err(fault) => Err(fault),
+        },
+        TypeName::Array => match ArrayType::from_members(alloc, members, steps) {
+            Ok(typ) => Ok(SchemaType::Array(typ)),
+            Err(fault) => Err(fault),
+        },
+        TypeName::Boolean => match BooleanType::from_members(alloc, members, steps) {
+            Ok(typ) => Ok(SchemaType::Boolean(typ)),
+            Err(fault) => Err(fault),
+        },
+    }
+}
+
+impl FromNode for SchemaType {
+    ghost kind = { schema_type };
+
+    ghost form_of = { schema_type_form };
+
+    fn from_view(alloc: Global, view: &View<'_>, steps: &mut Steps) -> Result<SchemaType, Fault> {
+        let View::Object(members) = view else {
+            return Err(Fault::new(alloc, Cause::WrongKind(Expected::Object)));
+        };
+        match tag(alloc, members, "type", steps) {
+            Ok(name) => of_type(alloc, name, members, steps),
+            Err(fault) => Err(fault),
+        }
+    }
+
+    ghost few = { lit≤ tt };
+
+    ghost well_made = { schema_type_sound };
+}
+
+impl ToNode for SchemaType {
+    fn to_node(&self, alloc: Global) -> Result<Node, Fault> {
+        match type_rows(alloc, self) {
+            Ok(rows) => whole_type(alloc, self, rows),
+            Err(fault) => Err(fault),
+        }
+    }
+
+    ghost there = { λ x. refl };
+}

@@ -1,0 +1,323 @@
+//! How schemas are written. The functions call each other in a circle, as schemas hold schemas: each gets a smaller
+//! part of the schema in the end.
+ghost use Rattle.std.specs.Prelude.{◌≡◌, [], OnOk, IfErr, codes};
+ghost use Rattle.openapi_tables.specs.ByRow.{is_named};
+ghost use Rattle.openapi_tables.specs.Kind as kinds;
+ghost use Rattle.openapi_tables.specs.Slots.{before, slots_lost, IsWritten};
+ghost use Rattle.openapi_tables.specs.Tables.{final_tables};
+ghost use Rattle.openapi_rows.specs.Forms.{list_form, map_form, optional_form};
+ghost use Rattle.openapi_rows.specs.Gives.{Loses, WrittenAs};
+ghost use Rattle.openapi_schema.specs.Fields.{any_slots, array_slots, object_slots};
+ghost use Rattle.openapi_schema.specs.Reading.{ref_form, inner_box_form, outer_box_form};
+ghost use Rattle.openapi_schema.specs.SchemaForms.{additional_form, schema_form};
+ghost use Rattle.openapi_schema.specs.Writing.{GivesWritten, RowsWritten, kind_slots, type_slots, untagged};
+
+use crate::any_schema::AnySchema;
+use crate::composite_types::{ArrayType, ObjectType};
+use crate::members::{as_some, only_row, put_row, put_written, record_rows, whole_schema};
+use crate::read::push;
+use crate::schema::{AdditionalProperties, Schema, SchemaKind, SchemaType};
+use openapi_node::{Fault, Node, OrderedMap};
+use openapi_rows::{put_implied, put_optional, write_reference};
+use openapi_values::ReferenceOr;
+use std::alloc::Global;
+
+/// Writes a schema or a reference to one. It is refused where a schema in it holds an extension whose name does not
+/// begin with `x-`, at the place of that name, or for want of memory, with the empty place.
+#[cycle(write)]
+pub fn schema_ref_to_node(alloc: Global, value: &ReferenceOr<Schema>) -> Result<Node, Fault>
+    ensures { WrittenAs (kinds.ref_to kinds.a_schema) (ref_form value.now) result }
+{
+    match value {
+        ReferenceOr::Reference { reference } => write_reference(alloc, reference.as_str()),
+        ReferenceOr::Item(schema) => write_schema(alloc, schema),
+    }
+}
+
+/// Writes a schema in a box, or a reference to one. It is refused as by [`schema_ref_to_node`].
+#[cycle(write)]
+pub fn boxed_schema_ref_to_node(
+    alloc: Global,
+    value: &ReferenceOr<Box<Schema>>,
+) -> Result<Node, Fault>
+    ensures { WrittenAs (kinds.ref_to kinds.a_schema) (inner_box_form value.now) result }
+{
+    match value {
+        ReferenceOr::Reference { reference } => write_reference(alloc, reference.as_str()),
+        ReferenceOr::Item(schema) => write_schema(alloc, schema),
+    }
+}
+
+/// Writes a schema.
+#[cycle(write)]
+pub(crate) fn write_schema(alloc: Global, schema: &Schema) -> Result<Node, Fault>
+    ensures { WrittenAs kinds.a_schema (schema_form schema.now) result }
+{
+    match record_rows(alloc, &schema.schema_data) {
+        Ok(out) => match kind_rows(alloc, &schema.schema_kind) {
+            Ok(rows) => whole_schema(alloc, schema, out, rows),
+            Err(fault) => Err(fault),
+        },
+        Err(fault) => Err(fault),
+    }
+}
+
+/// The members that the kind of a schema is written as, but for its `type`.
+#[cycle(write)]
+pub(crate) fn kind_rows(alloc: Global, kind: &SchemaKind) -> Result<OrderedMap<Node>, Fault>
+    ensures { RowsWritten (untagged (kind_slots kind.now)) result }
+{
+    match kind {
+        SchemaKind::Typed(typ) => type_rows(alloc, typ),
+        SchemaKind::OneOf { one_of } => only_row(alloc, "oneOf", write_refs(alloc, one_of)),
+        SchemaKind::AllOf { all_of } => only_row(alloc, "allOf", write_refs(alloc, all_of)),
+        SchemaKind::AnyOf { any_of } => only_row(alloc, "anyOf", write_refs(alloc, any_of)),
+        SchemaKind::Not { not } => only_row(alloc, "not", schema_ref_to_node(alloc, not)),
+        SchemaKind::Any(any) => any_rows(alloc, any),
+    }
+}
+
+/// The members that a schema of a `type` is written as, but for the `type`.
+#[cycle(write)]
+pub(crate) fn type_rows(alloc: Global, typ: &SchemaType) -> Result<OrderedMap<Node>, Fault>
+    ensures { RowsWritten (untagged (type_slots typ.now)) result }
+{
+    match typ {
+        SchemaType::String(typ) => record_rows(alloc, typ),
+        SchemaType::Number(typ) => record_rows(alloc, typ),
+        SchemaType::Integer(typ) => record_rows(alloc, typ),
+        SchemaType::Object(typ) => object_rows(alloc, typ),
+        SchemaType::Array(typ) => array_rows(alloc, typ),
+        SchemaType::Boolean(typ) => record_rows(alloc, typ),
+    }
+}
+
+/// The members that a schema of objects is written as, but for its `type`.
+#[cycle(write)]
+#[tactic(auto, unfolding(openapi_tables::specs::Tables::final_tables, openapi_tables::specs::Tables::tables_with, openapi_tables::specs::Tables::object_rows))]
+pub(crate) fn object_rows(alloc: Global, typ: &ObjectType) -> Result<OrderedMap<Node>, Fault>
+    ensures { RowsWritten (object_slots typ.now) result }
+{
+    let mut out = OrderedMap::new(alloc);
+    put_row(
+        alloc,
+        typ,
+        &mut out,
+        "properties",
+        write_properties(alloc, &typ.properties),
+    )?;
+    put_implied(alloc, typ, &mut out, "required", &typ.required)?;
+    put_row(
+        alloc,
+        typ,
+        &mut out,
+        "additionalProperties",
+        write_additional(alloc, &typ.additional_properties),
+    )?;
+    put_optional(alloc, typ, &mut out, "minProperties", &typ.min_properties)?;
+    put_optional(alloc, typ, &mut out, "maxProperties", &typ.max_properties)?;
+    Ok(out)
+}
+
+/// The members that a schema of arrays is written as, but for its `type`.
+#[cycle(write)]
+#[tactic(auto, unfolding(openapi_tables::specs::Tables::final_tables, openapi_tables::specs::Tables::tables_with, openapi_tables::specs::Tables::array_rows))]
+pub(crate) fn array_rows(alloc: Global, typ: &ArrayType) -> Result<OrderedMap<Node>, Fault>
+    ensures { RowsWritten (array_slots typ.now) result }
+{
+    let mut out = OrderedMap::new(alloc);
+    put_row(
+        alloc,
+        typ,
+        &mut out,
+        "items",
+        write_items(alloc, &typ.items),
+    )?;
+    put_optional(alloc, typ, &mut out, "minItems", &typ.min_items)?;
+    put_optional(alloc, typ, &mut out, "maxItems", &typ.max_items)?;
+    put_implied(alloc, typ, &mut out, "uniqueItems", &typ.unique_items)?;
+    Ok(out)
+}
+
+/// The members that a schema of no sort in particular is written as.
+#[cycle(write)]
+pub(crate) fn any_rows(alloc: Global, any: &AnySchema) -> Result<OrderedMap<Node>, Fault>
+    ensures { RowsWritten (any_slots any.now) result }
+{
+    let mut out = OrderedMap::new(alloc);
+    put_first(alloc, any, &mut out)?;
+    put_last(alloc, any, &mut out)?;
+    Ok(out)
+}
+
+/// Writes the first twelve rows of a schema of no sort in particular.
+#[cycle(write)]
+#[tactic(auto, unfolding(openapi_tables::specs::Tables::final_tables, openapi_tables::specs::Tables::tables_with, openapi_tables::specs::Tables::any_rows))]
+fn put_first(alloc: Global, any: &AnySchema, out: &mut OrderedMap<Node>) -> Result<(), Fault>
+    requires { IsWritten final_tables [] out.old }
+    ensures ok { OnOk result (IsWritten final_tables (before (is_named (codes "items")) (any_slots any.now))
+        out.new) }
+    ensures err { IfErr result (λ f. Loses f (slots_lost final_tables (any_slots any.now))) }
+{
+    put_optional(alloc, any, out, "type", &any.typ)?;
+    put_optional(alloc, any, out, "pattern", &any.pattern)?;
+    put_optional(alloc, any, out, "multipleOf", &any.multiple_of)?;
+    put_optional(alloc, any, out, "exclusiveMinimum", &any.exclusive_minimum)?;
+    put_optional(alloc, any, out, "exclusiveMaximum", &any.exclusive_maximum)?;
+    put_optional(alloc, any, out, "minimum", &any.minimum)?;
+    put_optional(alloc, any, out, "maximum", &any.maximum)?;
+    put_row(
+        alloc,
+        any,
+        out,
+        "properties",
+        write_properties(alloc, &any.properties),
+    )?;
+    put_implied(alloc, any, out, "required", &any.required)?;
+    put_row(
+        alloc,
+        any,
+        out,
+        "additionalProperties",
+        write_additional(alloc, &any.additional_properties),
+    )?;
+    put_optional(alloc, any, out, "minProperties", &any.min_properties)?;
+    put_optional(alloc, any, out, "maxProperties", &any.max_properties)
+}
+
+/// Writes the last twelve rows of a schema of no sort in particular.
+#[cycle(write)]
+#[tactic(auto, unfolding(openapi_tables::specs::Tables::final_tables, openapi_tables::specs::Tables::tables_with, openapi_tables::specs::Tables::any_rows))]
+fn put_last(alloc: Global, any: &AnySchema, out: &mut OrderedMap<Node>) -> Result<(), Fault>
+    requires { IsWritten final_tables (before (is_named (codes "items")) (any_slots any.now)) out.old }
+    ensures ok { OnOk result (IsWritten final_tables (any_slots any.now) out.new) }
+    ensures err { IfErr result (λ f. Loses f (slots_lost final_tables (any_slots any.now))) }
+{
+    put_row(alloc, any, out, "items", write_items(alloc, &any.items))?;
+    put_optional(alloc, any, out, "minItems", &any.min_items)?;
+    put_optional(alloc, any, out, "maxItems", &any.max_items)?;
+    put_optional(alloc, any, out, "uniqueItems", &any.unique_items)?;
+    put_implied(alloc, any, out, "enum", &any.enumeration)?;
+    put_optional(alloc, any, out, "format", &any.format)?;
+    put_optional(alloc, any, out, "minLength", &any.min_length)?;
+    put_optional(alloc, any, out, "maxLength", &any.max_length)?;
+    put_row(alloc, any, out, "oneOf", write_listed(alloc, &any.one_of))?;
+    put_row(alloc, any, out, "allOf", write_listed(alloc, &any.all_of))?;
+    put_row(alloc, any, out, "anyOf", write_listed(alloc, &any.any_of))?;
+    put_row(alloc, any, out, "not", write_not(alloc, &any.not))
+}
+
+/// Writes a list of schemas and references; nothing where it is empty.
+#[cycle(write)]
+fn write_listed(alloc: Global, values: &Vec<ReferenceOr<Schema>>) -> Result<Option<Node>, Fault>
+    ensures { GivesWritten kinds.listed (kinds.list_of (kinds.ref_to kinds.a_schema)) (list_form ref_form values.now)
+        result }
+{
+    if values.as_slice().is_empty() {
+        return Ok(None);
+    }
+    as_some(write_refs(alloc, values))
+}
+
+/// Writes a list of schemas and references, in order.
+#[cycle(write)]
+fn write_refs(alloc: Global, values: &Vec<ReferenceOr<Schema>>) -> Result<Node, Fault>
+    ensures { WrittenAs (kinds.list_of (kinds.ref_to kinds.a_schema)) (list_form ref_form values.now) result }
+{
+    let Ok(mut nodes) = Vec::with_capacity(alloc, values.len()) else {
+        return Err(Fault::memory(alloc));
+    };
+    for (i, value) in values.iter().enumerate() {
+        match schema_ref_to_node(alloc, value) {
+            Ok(node) => push(alloc, &mut nodes, node)?,
+            Err(fault) => return Err(fault.at_index(alloc, i)),
+        }
+    }
+    Ok(Node::list(nodes))
+}
+
+/// Writes schemas and references by names; nothing where there are none.
+#[cycle(write)]
+fn write_properties(
+    alloc: Global,
+    values: &OrderedMap<ReferenceOr<Box<Schema>>>,
+) -> Result<Option<Node>, Fault>
+    ensures { GivesWritten kinds.listed (kinds.map_of (kinds.ref_to kinds.a_schema))
+        (map_form inner_box_form values.now) result }
+{
+    if values.is_empty() {
+        return Ok(None);
+    }
+    as_some(write_named(alloc, values))
+}
+
+/// Writes schemas and references by names, in order.
+#[cycle(write)]
+fn write_named(alloc: Global, values: &OrderedMap<ReferenceOr<Box<Schema>>>) -> Result<Node, Fault>
+    ensures { WrittenAs (kinds.map_of (kinds.ref_to kinds.a_schema)) (map_form inner_box_form values.now) result }
+{
+    let mut out = OrderedMap::new(alloc);
+    for i in 0..values.len() {
+        let (name, value) = values.entry_at(i);
+        match put_written(
+            alloc,
+            &mut out,
+            name,
+            boxed_schema_ref_to_node(alloc, value),
+        ) {
+            Ok(()) => {}
+            Err(fault) => return Err(fault),
+        }
+    }
+    Ok(Node::object(out))
+}
+
+/// Writes a schema in a box or a reference, where there is one.
+#[cycle(write)]
+fn write_items(
+    alloc: Global,
+    value: &Option<ReferenceOr<Box<Schema>>>,
+) -> Result<Option<Node>, Fault>
+    ensures { GivesWritten kinds.optional (kinds.ref_to kinds.a_schema) (optional_form inner_box_form value.now) result }
+{
+    match value {
+        None => Ok(None),
+        Some(value) => as_some(boxed_schema_ref_to_node(alloc, value)),
+    }
+}
+
+/// Writes a schema or a reference in a box, where there is one.
+#[cycle(write)]
+fn write_not(alloc: Global, value: &Option<Box<ReferenceOr<Schema>>>) -> Result<Option<Node>, Fault>
+    ensures { GivesWritten kinds.optional (kinds.ref_to kinds.a_schema) (optional_form outer_box_form value.now) result }
+{
+    match value {
+        None => Ok(None),
+        Some(value) => as_some(schema_ref_to_node(alloc, value)),
+    }
+}
+
+/// Writes what other members may be, where it is said.
+#[cycle(write)]
+fn write_additional(
+    alloc: Global,
+    value: &Option<AdditionalProperties>,
+) -> Result<Option<Node>, Fault>
+    ensures { GivesWritten kinds.optional kinds.flag_or_schema (optional_form additional_form value.now) result }
+{
+    match value {
+        None => Ok(None),
+        Some(value) => as_some(additional_to_node(alloc, value)),
+    }
+}
+
+/// Writes a flag, or a schema or a reference.
+#[cycle(write)]
+pub(crate) fn additional_to_node(alloc: Global, value: &AdditionalProperties) -> Result<Node, Fault>
+    ensures { WrittenAs kinds.flag_or_schema (additional_form value.now) result }
+{
+    match value {
+        AdditionalProperties::Any(allowed) => Ok(Node::flag(*allowed)),
+        AdditionalProperties::Schema(value) => schema_ref_to_node(alloc, value),
+    }
+}

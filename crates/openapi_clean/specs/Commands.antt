@@ -1,16 +1,18 @@
 -- What the words of the command line mean.
 use Rattle.std.specs.Prelude.{◌≡◌, ◌≢◌, ℕ, List, Result, Ok, Err, codes}
-use Rattle.openapi_tables.specs.Kind.{Kind, by, tag}
+use Rattle.openapi_tables.specs.Kind.{Kind, a_schema, by, tag}
 use Rattle.openapi_clean.specs.declared.command.Command.{Command}
-use Rattle.openapi_clean.specs.declared.command.Command.TheVariants.{Tag}
+use Rattle.openapi_clean.specs.declared.command.Command.TheVariants.{Tag, Schema}
 
 -- the word of a command
 abbrev pub word_of : Command → List ℕ
 word_of Tag = codes "tag"
+word_of Schema = codes "schema"
 
 -- the kind of object that a command reads and writes
 abbrev pub kind_of : Command → Kind
 kind_of Tag = by tag
+kind_of Schema = a_schema
 
 -- the command has that word, or no command has it
 abbrev pub IsCommandOf : List ℕ → Result Command (Unit {0}) → Type 0

@@ -17,7 +17,7 @@ ghost use Rattle.serde_json.specs.Written.{has_float, compact_text};
 use crate::command::Command;
 use crate::fault::RunFault;
 use openapi_node::{Cause, Fault, Node, Steps};
-use openapiv3::{FromNode, Tag, ToNode};
+use openapiv3::{FromNode, Schema, Tag, ToNode};
 use serde_json::Value;
 use std::alloc::Global;
 
@@ -33,6 +33,7 @@ pub fn answer(
 {
     match command {
         Command::Tag => cleaned_line::<Tag>(alloc, bytes, steps),
+        Command::Schema => cleaned_line::<Schema>(alloc, bytes, steps),
     }
 }
 

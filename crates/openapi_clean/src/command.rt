@@ -9,6 +9,8 @@ use std::str::FromStr;
 pub enum Command {
     /// `tag`: reads a Tag Object (OpenAPI 3.0.3, section 4.7.22) and writes it cleaned.
     Tag,
+    /// `schema`: reads a Schema Object (OpenAPI 3.0.3, section 4.7.24) and writes it cleaned.
+    Schema,
 }
 
 impl Command {
@@ -31,6 +33,7 @@ impl FromStr for Command {
     fn from_str(word: &str) -> Result<Command, ()> {
         match word {
             "tag" => Ok(Command::Tag),
+            "schema" => Ok(Command::Schema),
             _ => Err(()),
         }
     }

@@ -10,24 +10,18 @@ const TAG: &[u8] = b"{\"name\":\"a\",\"wat\":1,\"x-q\":[]}";
 
 const CLEAN_TAG: &[u8] = b"{\"name\":\"a\",\"x-q\":[]}\n";
 
-/// What a run of `tag` wrote, and its failure: its status and its text.
+/// What a run wrote, and its failure: its status and its text.
 #[derive(Drop)]
 struct Outcome {
     written: Vec<u8>,
     fault: Option<(u8, String)>,
 }
 
-fn tag_outcome(rt: &HostRuntime, input: &[u8]) -> Result<Outcome, Fail> {
+fn outcome_of(rt: &HostRuntime, command: Command, input: &[u8]) -> Result<Outcome, Fail> {
     let mut reader = input;
     let mut written = Vec::new(rt.alloc());
     let mut steps = Steps::new(rt);
-    let fault = match run(
-        rt.alloc(),
-        Command::Tag,
-        &mut reader,
-        &mut written,
-        &mut steps,
-    ) {
+    let fault = match run(rt.alloc(), command, &mut reader, &mut written, &mut steps) {
         Ok(()) => None,
         Err(fault) => Some((fault.status(), format!(in rt.alloc(); "{fault}")?)),
     };
@@ -57,20 +51,20 @@ fn tags_are_cleaned(rt: HostRuntime) -> Result<(), Fail> {
         ),
     ];
     for (input, line) in rows {
-        let outcome = tag_outcome(&rt, input)?;
+        let outcome = outcome_of(&rt, Command::Tag, input)?;
         assert_eq!(rt; outcome.written.as_slice(), line);
         assert!(rt; outcome.fault.is_none());
     }
     Ok(())
 }
 
-// What a run of `tag` comes to, as one text: the exit status, what was written, and what is told of a failure.
-fn tag_report(rt: &HostRuntime, input: &[u8]) -> Result<String, Fail> {
+// What a run comes to, as one text: the exit status, what was written, and what is told of a failure.
+fn report_of(rt: &HostRuntime, command: Command, input: &[u8]) -> Result<String, Fail> {
     let alloc = rt.alloc();
     let mut reader = input;
     let mut written = Vec::new(alloc);
     let mut steps = Steps::new(rt);
-    let outcome = run(alloc, Command::Tag, &mut reader, &mut written, &mut steps);
+    let outcome = run(alloc, command, &mut reader, &mut written, &mut steps);
     let line = String::from_utf8_lossy(alloc, written.as_slice())?;
     match outcome {
         Ok(()) => Ok(format!(in alloc; "0: {line}")?),
@@ -124,7 +118,41 @@ fn inputs_are_refused(rt: HostRuntime) -> Result<(), Fail> {
         (b"{\"name\":\"\xff\"}", "2: not JSON"),
     ];
     for (input, report) in rows {
-        let told = tag_report(&rt, input)?;
+        let told = report_of(&rt, Command::Tag, input)?;
+        assert_eq!(rt; told.as_str(), report);
+    }
+    Ok(())
+}
+
+#[test]
+fn schemas_are_cleaned(rt: HostRuntime) -> Result<(), Fail> {
+    let rows: [(&[u8], &str); 7] = [
+        (b"{}", "0: {}\n"),
+        (
+            b"{\"type\":\"integer\",\"minimum\":1,\"wat\":2,\"x-e\":null}",
+            "0: {\"minimum\":1,\"type\":\"integer\",\"x-e\":null}\n",
+        ),
+        (
+            b"{\"properties\":{\"b\":{\"type\":\"string\"},\"a\":{\"$ref\":\"#/x\",\"y\":1}},\"type\":\"object\"}",
+            "0: {\"properties\":{\"a\":{\"$ref\":\"#/x\"},\"b\":{\"type\":\"string\"}},\"type\":\"object\"}\n",
+        ),
+        // No type has both a limit and required members: each member stands as it is, and empty lists are left out.
+        (
+            b"{\"type\":\"integer\",\"exclusiveMinimum\":false,\"required\":[]}",
+            "0: {\"exclusiveMinimum\":false,\"type\":\"integer\"}\n",
+        ),
+        (
+            b"{\"properties\":{\"a~/b\":{\"items\":[]}}}",
+            "1: invalid type, expected object at #/properties/a~0~1b/items",
+        ),
+        (
+            b"{\"not\":{\"not\":{\"not\":5}}}",
+            "1: invalid type, expected object at #/not/not/not",
+        ),
+        (b"{\"maximum\":1.5}", "1: number not whole at #/maximum"),
+    ];
+    for (input, report) in rows {
+        let told = report_of(&rt, Command::Schema, input)?;
         assert_eq!(rt; told.as_str(), report);
     }
     Ok(())
@@ -134,7 +162,7 @@ fn inputs_are_refused(rt: HostRuntime) -> Result<(), Fail> {
 #[test]
 fn beginnings_are_not_json(rt: HostRuntime) -> Result<(), Fail> {
     for end in 0..TAG.len() {
-        let outcome = tag_outcome(&rt, &TAG[..end])?;
+        let outcome = outcome_of(&rt, Command::Tag, &TAG[..end])?;
         assert_eq!(rt; outcome.written.len(), 0);
         let Some((status, _)) = outcome.fault else {
             panic!(rt; "read {end} bytes");
@@ -162,7 +190,7 @@ fn nested(rt: &HostRuntime, depth: usize) -> Result<Vec<u8>, Fail> {
 #[test]
 fn depth_is_limited(rt: HostRuntime) -> Result<(), Fail> {
     let deepest = nested(&rt, 126)?;
-    let outcome = tag_outcome(&rt, deepest.as_slice())?;
+    let outcome = outcome_of(&rt, Command::Tag, deepest.as_slice())?;
     assert!(rt; outcome.fault.is_none());
     assert_eq!(rt; outcome.written.len(), deepest.len() + 1);
     assert_eq!(rt; &outcome.written[..deepest.len()], deepest.as_slice());
@@ -172,7 +200,7 @@ fn depth_is_limited(rt: HostRuntime) -> Result<(), Fail> {
 #[test]
 fn deeper_text_is_not_json(rt: HostRuntime) -> Result<(), Fail> {
     let deeper = nested(&rt, 127)?;
-    let outcome = tag_outcome(&rt, deeper.as_slice())?;
+    let outcome = outcome_of(&rt, Command::Tag, deeper.as_slice())?;
     assert_eq!(rt; outcome.written.len(), 0);
     let Some((status, _)) = outcome.fault else {
         panic!(rt; "read 128 levels");
@@ -297,11 +325,12 @@ fn failures_are_told(rt: HostRuntime) -> Result<(), Fail> {
 #[test]
 fn words_are_commands(rt: HostRuntime) {
     assert_eq!(rt; "tag".parse::<Command>(), Ok(Command::Tag));
+    assert_eq!(rt; "schema".parse::<Command>(), Ok(Command::Schema));
     for word in [
         "",
         "Tag",
         "tags",
-        "schema",
+        "schemas",
         "document",
         "settle",
         "operations",

@@ -13,6 +13,11 @@ pub use openapi_records::{
     link_ref_from_node, link_ref_to_node,
 };
 pub use openapi_rows::{FromNode, ToNode};
+pub use openapi_schema::{
+    AdditionalProperties, AnySchema, ArrayType, BooleanType, IntegerType, NumberType, ObjectType,
+    Schema, SchemaData, SchemaKind, SchemaType, StringType, Type, boxed_schema_ref_from_node,
+    boxed_schema_ref_to_node, schema_ref_from_node, schema_ref_to_node,
+};
 pub use openapi_security::{
     AuthorizationCodeOAuth2Flow, ClientCredentialsOAuth2Flow, ImplicitOAuth2Flow, OAuth2Flows,
     PasswordOAuth2Flow, SecurityRequirement, SecurityScheme, security_requirement_from_node,

@@ -1,46 +1,24 @@
 //! Tags and external documentation.
 
-use crate::tables::{Mode, Row, check_table};
-use crate::trees::{cleaned, fault_text, object, shown, tree};
+use crate::tables::Mode::{Optional, Required};
+use crate::tables::{EXTENSIONS, Row, check_table};
+use crate::trees::{check_texts, check_tree, write_refusal};
 use openapiv3::{ExternalDocumentation, Node, OrderedMap, Tag, ToNode};
 use std::test::Fail;
 
-/// Tag Object: `name`, `description`, `externalDocs`.
-const TAG: [Row; 3] = [
-    Row {
-        name: "name",
-        mode: Mode::Required,
-        sample: "\"t\"",
-        word: "text",
-    },
-    Row {
-        name: "description",
-        mode: Mode::Optional,
-        sample: "\"\"",
-        word: "",
-    },
-    Row {
-        name: "externalDocs",
-        mode: Mode::Optional,
-        sample: "{\"url\":\"u\"}",
-        word: "",
-    },
+/// Tag Object.
+const TAG: [Row; 4] = [
+    ("name", Required, "text", "\"t\""),
+    ("description", Optional, "text", "\"\""),
+    ("externalDocs", Optional, "object", "{\"url\":\"u\"}"),
+    EXTENSIONS,
 ];
 
-/// External Documentation Object: `description`, `url`.
-const EXTERNAL_DOCUMENTATION: [Row; 2] = [
-    Row {
-        name: "description",
-        mode: Mode::Optional,
-        sample: "\"d\"",
-        word: "",
-    },
-    Row {
-        name: "url",
-        mode: Mode::Required,
-        sample: "\"u\"",
-        word: "text",
-    },
+/// External Documentation Object.
+const EXTERNAL_DOCUMENTATION: [Row; 3] = [
+    ("description", Optional, "text", "\"d\""),
+    ("url", Required, "text", "\"u\""),
+    EXTENSIONS,
 ];
 
 #[test]
@@ -56,58 +34,29 @@ fn external_documentation_follows_its_table(rt: HostRuntime) -> Result<(), Fail>
 // Members are found in any order, null stands for a missing option, and extensions keep their order.
 #[test]
 fn tags_are_cleaned_in_order(rt: HostRuntime) -> Result<(), Fail> {
-    let given = [
-        ("x-b", "1"),
-        ("externalDocs", "{\"url\":\"u\",\"x-c\":null}"),
-        ("description", "null"),
-        ("name", "\"t\""),
-        ("x-a", "2"),
-    ];
-    let wanted = [
-        ("name", "\"t\""),
-        ("externalDocs", "{\"url\":\"u\",\"x-c\":null}"),
-        ("x-b", "1"),
-        ("x-a", "2"),
-    ];
-    let Ok(node) = cleaned::<Tag>(&rt, &object(&rt, &given)?)? else {
-        panic!(rt; "refused");
-    };
-    assert_eq!(rt;
-        shown(&rt, &node)?.as_str(),
-        shown(&rt, &object(&rt, &wanted)?)?.as_str()
-    );
-    Ok(())
+    check_texts::<Tag>(
+        &rt,
+        &[(
+            r#"{"x-b":1,"externalDocs":{"url":"u","x-c":null},"description":null,"name":"t","x-a":2}"#,
+            Ok(r#"{"name":"t","externalDocs":{"url":"u","x-c":null},"x-b":1,"x-a":2}"#),
+        )],
+    )
 }
 
 #[test]
 fn tags_are_refused_at_their_places(rt: HostRuntime) -> Result<(), Fail> {
     let rows = [
-        ("[]", "invalid type, expected object at #"),
-        ("{\"name\":null}", "invalid type, expected text at #/name"),
+        ("[]", Err("invalid type, expected object at #")),
         (
-            "{\"name\":\"t\",\"description\":7}",
-            "invalid type, expected text at #/description",
+            r#"{"name":"t","externalDocs":{}}"#,
+            Err("missing field `url` at #/externalDocs"),
         ),
         (
-            "{\"name\":\"t\",\"externalDocs\":[]}",
-            "invalid type, expected object at #/externalDocs",
-        ),
-        (
-            "{\"name\":\"t\",\"externalDocs\":{}}",
-            "missing field `url` at #/externalDocs",
-        ),
-        (
-            "{\"name\":\"t\",\"externalDocs\":{\"url\":{}}}",
-            "invalid type, expected text at #/externalDocs/url",
+            r#"{"name":"t","externalDocs":{"url":{}}}"#,
+            Err("invalid type, expected text at #/externalDocs/url"),
         ),
     ];
-    for (text, wanted) in rows {
-        let Err(fault) = cleaned::<Tag>(&rt, &tree(&rt, text)?)? else {
-            panic!(rt; "read {text}");
-        };
-        assert_eq!(rt; fault.as_str(), wanted);
-    }
-    Ok(())
+    check_texts::<Tag>(&rt, &rows)
 }
 
 /// A tag named `t` with one extension of that name, null.
@@ -119,12 +68,9 @@ fn extended(rt: &HostRuntime, name: &str) -> Result<Tag, Fail> {
     Ok(tag)
 }
 
-/// The text of the fault that refuses to write a tag with one extension of that name.
-fn write_refusal(rt: &HostRuntime, name: &str) -> Result<String, Fail> {
-    match extended(rt, name)?.to_node(rt.alloc()) {
-        Ok(_) => Ok(String::from_str(rt.alloc(), "written")?),
-        Err(fault) => fault_text(rt, &fault),
-    }
+/// What is said where a tag with one extension of that name is written.
+fn refusal_of(rt: &HostRuntime, name: &str) -> Result<String, Fail> {
+    write_refusal(rt, &extended(rt, name)?)
 }
 
 // A name that would not be read as an extension again is not written, with its place; `x-` alone is a name of one.
@@ -136,13 +82,18 @@ fn extensions_need_their_prefix(rt: HostRuntime) -> Result<(), Fail> {
         ("x", "name not writable at #/x"),
         ("-x", "name not writable at #/-x"),
         ("X-a", "name not writable at #/X-a"),
-        ("x-", "written"),
         ("x-a/b", "written"),
     ];
     for (name, wanted) in rows {
-        assert_eq!(rt; write_refusal(&rt, name)?.as_str(), wanted);
+        assert_eq!(rt; refusal_of(&rt, name)?.as_str(), wanted);
     }
     Ok(())
+}
+
+#[test]
+fn extensions_need_their_prefix_alone(rt: HostRuntime) -> Result<(), Fail> {
+    let tag = extended(&rt, "x-")?.to_node(rt.alloc())?;
+    check_tree(&rt, &tag, r#"{"name":"t","x-":null}"#)
 }
 
 // A fault of an inner object is told with the whole place.
@@ -153,11 +104,8 @@ fn inner_extensions_need_their_prefix(rt: HostRuntime) -> Result<(), Fail> {
         .insert("a/b".to_string(rt.alloc())?, Node::flag(true))?;
     let mut tag = Tag::new(rt.alloc());
     tag.external_docs = Some(docs);
-    let Err(fault) = tag.to_node(rt.alloc()) else {
-        panic!(rt; "wrote a/b");
-    };
     assert_eq!(rt;
-        fault_text(&rt, &fault)?.as_str(),
+        write_refusal(&rt, &tag)?.as_str(),
         "name not writable at #/externalDocs/a~1b"
     );
     Ok(())
@@ -166,16 +114,9 @@ fn inner_extensions_need_their_prefix(rt: HostRuntime) -> Result<(), Fail> {
 #[test]
 fn new_objects_are_empty(rt: HostRuntime) -> Result<(), Fail> {
     let tag = Tag::new(rt.alloc()).to_node(rt.alloc())?;
-    assert_eq!(rt;
-        shown(&rt, &tag)?.as_str(),
-        shown(&rt, &object(&rt, &[("name", "\"\"")])?)?.as_str()
-    );
+    check_tree(&rt, &tag, r#"{"name":""}"#)?;
     let docs = ExternalDocumentation::new(rt.alloc()).to_node(rt.alloc())?;
-    assert_eq!(rt;
-        shown(&rt, &docs)?.as_str(),
-        shown(&rt, &object(&rt, &[("url", "\"\"")])?)?.as_str()
-    );
-    Ok(())
+    check_tree(&rt, &docs, r#"{"url":""}"#)
 }
 
 // Extensions that differ in their order alone are equal, as maps are.

@@ -1,143 +1,254 @@
 //! One test for every object that has a table.
 
-use crate::trees::{cleaned, object, shown};
+use crate::trees::{check_cleaned, object};
 use openapiv3::{FromNode, Steps, ToNode};
 use std::test::Fail;
 
-/// How a row takes a missing member and null.
+/// A member of an object: its name, and its value as JSON text.
+pub type Member = (&'static str, &'static str);
+
+/// How a row takes a missing member and null, and how it is written.
 #[derive(Clone, Copy)]
 pub enum Mode {
     /// Refused where it is missing.
     Required,
+    /// One of a set of texts, and refused where it is missing.
+    OneOf,
     /// Left out where it is missing or null.
     Optional,
+    /// Null where it is missing or null.
+    Nullable,
+    /// A list or a map, left out where it is missing or empty, and refused where it is null.
+    Listed,
+    /// A flag, left out where it is missing or false, and refused where it is null.
+    Flag,
+    /// A style, this one where it is missing, and refused where it is null.
+    Style(&'static str),
+    /// A member that may have this one in its place. The first of the two decides, and the second is dropped.
+    Either(&'static str, &'static str),
+    /// The members whose names begin with `x-`.
+    Extensions,
 }
 
-/// A row of a table: its name, its mode, the JSON of a value that is cleaned to itself, and the word for what is expected where null
-/// is refused.
-#[derive(Clone, Copy)]
-pub struct Row {
-    pub name: &'static str,
-    pub mode: Mode,
-    pub sample: &'static str,
-    pub word: &'static str,
-}
+/// A row of a table: its name, its mode, the word for what is expected of it (`any` where every tree is taken), and the
+/// JSON text of a value that is cleaned to itself.
+pub type Row = (&'static str, Mode, &'static str, &'static str);
 
-/// The extensions that stand at the end of each tree, in no order of names, one of them null.
-const EXTENSIONS: [(&str, &str); 3] = [("x-b", "[{\"b\":null}]"), ("x-", "7"), ("x-a", "null")];
+/// The row of the extensions.
+pub const EXTENSIONS: Row = ("x-", Mode::Extensions, "any", "");
 
-/// The members of the rows in their order, with one of them left out or set to null, and the extensions.
+/// The extensions of each tree, in no order of names, one of them null.
+const SAMPLE: [Member; 3] = [("x-b", "[{\"b\":null}]"), ("x-", "7"), ("x-a", "null")];
+
+/// The members of the rows in their order, with others in the place of one row.
 fn members(
     rt: &HostRuntime,
     rows: &[Row],
     changed: usize,
-    value: Option<&'static str>,
-) -> Result<Vec<(&'static str, &'static str)>, Fail> {
+    given: &[Member],
+) -> Result<Vec<Member>, Fail> {
     let mut members = Vec::new(rt.alloc());
-    for (place, row) in rows.iter().enumerate() {
-        if place != changed {
-            members.push((row.name, row.sample))?;
-        } else if let Some(value) = value {
-            members.push((row.name, value))?;
+    for (place, (name, mode, _, sample)) in rows.iter().enumerate() {
+        if place == changed {
+            members.extend_from_slice(given)?;
+        } else if matches!(mode, Mode::Extensions) {
+            members.extend_from_slice(&SAMPLE)?;
+        } else {
+            members.push((*name, *sample))?;
         }
-    }
-    for extension in EXTENSIONS {
-        members.push(extension)?;
     }
     Ok(members)
 }
 
-/// Fails the test with a text, unless the two texts are the same.
-fn check_same(rt: &HostRuntime, found: &str, wanted: &str) -> Result<(), Fail> {
-    if found != wanted {
-        Err::<(), String>(format!(in rt.alloc(); "{found} in place of {wanted}")?)?;
-    }
-    Ok(())
-}
-
-/// That a tree is cleaned to another, member order included, or is refused with the text.
-fn check_cleaned<T: FromNode + ToNode + Drop>(
-    rt: &HostRuntime,
-    given: &[(&str, &str)],
-    wanted: Result<&[(&str, &str)], &str>,
-) -> Result<(), Fail> {
-    let found = match cleaned::<T>(rt, &object(rt, given)?)? {
-        Ok(node) => shown(rt, &node)?,
-        Err(fault) => fault,
-    };
-    match wanted {
-        Ok(members) => check_same(
-            rt,
-            found.as_str(),
-            shown(rt, &object(rt, members)?)?.as_str(),
-        ),
-        Err(fault) => check_same(rt, found.as_str(), fault),
-    }
-}
-
-/// The full tree in written order is cleaned to itself, and so it is with an unknown name and with its members in another order; each
-/// row left out and each row null is answered by its mode; a clone equals what it was made of.
+/// The full tree in written order is cleaned to itself, and so it is with an unknown name and with its members in
+/// another order; each row left out, null or of another kind is answered by its mode; a clone equals its source.
 pub fn check_table<T: FromNode + ToNode + Clone + PartialEq + Drop>(
     rt: &HostRuntime,
     rows: &[Row],
 ) -> Result<(), Fail> {
-    let full = members(rt, rows, rows.len(), None)?;
-    check_cleaned::<T>(rt, full.as_slice(), Ok(full.as_slice()))?;
+    let full = members(rt, rows, rows.len(), &[])?;
+    check_members::<T>(rt, full.as_slice(), Ok(full.as_slice()))?;
     check_order::<T>(rt, rows, full.as_slice())?;
     for (place, row) in rows.iter().enumerate() {
-        let without = members(rt, rows, place, None)?;
-        let null = members(rt, rows, place, Some("null"))?;
-        let (name, word) = (row.name, row.word);
-        match row.mode {
-            Mode::Required => {
-                let missing = format!(in rt.alloc(); "missing field `{name}` at #")?;
-                check_cleaned::<T>(rt, without.as_slice(), Err(missing.as_str()))?;
-                let refused = format!(in rt.alloc(); "invalid type, expected {word} at #/{name}")?;
-                check_cleaned::<T>(rt, null.as_slice(), Err(refused.as_str()))?;
-            }
-            Mode::Optional => {
-                check_cleaned::<T>(rt, without.as_slice(), Ok(without.as_slice()))?;
-                check_cleaned::<T>(rt, null.as_slice(), Ok(without.as_slice()))?;
-            }
+        check_missing::<T>(rt, rows, place, row)?;
+        check_null::<T>(rt, rows, place, row)?;
+        check_kind::<T>(rt, rows, place, row)?;
+        check_silent::<T>(rt, rows, place, row)?;
+    }
+    Ok(())
+}
+
+/// That an object is cleaned to another, member order included, or is refused with the text.
+fn check_members<T: FromNode + ToNode + Drop>(
+    rt: &HostRuntime,
+    given: &[Member],
+    wanted: Result<&[Member], &str>,
+) -> Result<(), Fail> {
+    let tree = object(rt, given)?;
+    match wanted {
+        Ok(members) => check_cleaned::<T>(rt, &tree, Ok(&object(rt, members)?)),
+        Err(fault) => check_cleaned::<T>(rt, &tree, Err(fault)),
+    }
+}
+
+/// That the members in the place of a row are cleaned to others.
+fn check_row<T: FromNode + ToNode + Drop>(
+    rt: &HostRuntime,
+    rows: &[Row],
+    place: usize,
+    given: &[Member],
+    wanted: &[Member],
+) -> Result<(), Fail> {
+    let tree = members(rt, rows, place, given)?;
+    let written = members(rt, rows, place, wanted)?;
+    check_members::<T>(rt, tree.as_slice(), Ok(written.as_slice()))
+}
+
+/// That the members in the place of a row are refused with the text.
+fn check_refused<T: FromNode + ToNode + Drop>(
+    rt: &HostRuntime,
+    rows: &[Row],
+    place: usize,
+    given: &[Member],
+    fault: &str,
+) -> Result<(), Fail> {
+    let tree = members(rt, rows, place, given)?;
+    check_members::<T>(rt, tree.as_slice(), Err(fault))
+}
+
+/// A row left out.
+fn check_missing<T: FromNode + ToNode + Drop>(
+    rt: &HostRuntime,
+    rows: &[Row],
+    place: usize,
+    (name, mode, _, _): &Row,
+) -> Result<(), Fail> {
+    match mode {
+        Mode::Required | Mode::OneOf => {
+            let fault = format!(in rt.alloc(); "missing field `{name}` at #")?;
+            check_refused::<T>(rt, rows, place, &[], fault.as_str())
+        }
+        Mode::Either(other, _) => {
+            let fault = format!(in rt.alloc(); "missing field `{name}` or `{other}` at #")?;
+            check_refused::<T>(rt, rows, place, &[], fault.as_str())
+        }
+        Mode::Nullable => check_row::<T>(rt, rows, place, &[], &[(*name, "null")]),
+        Mode::Style(default) => check_row::<T>(rt, rows, place, &[], &[(*name, *default)]),
+        Mode::Optional | Mode::Listed | Mode::Flag | Mode::Extensions => {
+            check_row::<T>(rt, rows, place, &[], &[])
         }
     }
-    check_clone::<T>(rt, full.as_slice())
+}
+
+/// A row that is null.
+fn check_null<T: FromNode + ToNode + Drop>(
+    rt: &HostRuntime,
+    rows: &[Row],
+    place: usize,
+    (name, mode, word, _): &Row,
+) -> Result<(), Fail> {
+    let null = [(*name, "null")];
+    match mode {
+        Mode::Optional => check_row::<T>(rt, rows, place, &null, &[]),
+        Mode::Nullable | Mode::Extensions => check_row::<T>(rt, rows, place, &null, &null),
+        Mode::Required
+        | Mode::OneOf
+        | Mode::Listed
+        | Mode::Flag
+        | Mode::Style(_)
+        | Mode::Either(_, _) => {
+            let fault = format!(in rt.alloc(); "invalid type, expected {word} at #/{name}")?;
+            check_refused::<T>(rt, rows, place, &null, fault.as_str())
+        }
+    }
+}
+
+/// A row of another kind.
+fn check_kind<T: FromNode + ToNode + Drop>(
+    rt: &HostRuntime,
+    rows: &[Row],
+    place: usize,
+    (name, _, word, _): &Row,
+) -> Result<(), Fail> {
+    let other = match *word {
+        "any" => return Ok(()),
+        "list" => "{}",
+        _ => "[]",
+    };
+    let fault = format!(in rt.alloc(); "invalid type, expected {word} at #/{name}")?;
+    check_refused::<T>(rt, rows, place, &[(*name, other)], fault.as_str())
+}
+
+/// What each mode says beside: the value that is not written, the default, the text that is not of the set, and the
+/// second of two names, alone, before the first and behind it.
+fn check_silent<T: FromNode + ToNode + Clone + PartialEq + Drop>(
+    rt: &HostRuntime,
+    rows: &[Row],
+    place: usize,
+    (name, mode, word, sample): &Row,
+) -> Result<(), Fail> {
+    match mode {
+        Mode::Listed if *word == "list" => check_row::<T>(rt, rows, place, &[(*name, "[]")], &[]),
+        Mode::Listed => check_row::<T>(rt, rows, place, &[(*name, "{}")], &[]),
+        Mode::Flag => check_row::<T>(rt, rows, place, &[(*name, "false")], &[]),
+        Mode::Style(default) => {
+            let member = [(*name, *default)];
+            check_row::<T>(rt, rows, place, &member, &member)
+        }
+        Mode::OneOf => {
+            let fault = format!(in rt.alloc(); "unknown variant at #/{name}")?;
+            check_refused::<T>(rt, rows, place, &[(*name, "\"\"")], fault.as_str())
+        }
+        Mode::Either(other, value) => {
+            let (one, two) = ((*name, *sample), (*other, *value));
+            check_row::<T>(rt, rows, place, &[two], &[two])?;
+            check_row::<T>(rt, rows, place, &[one, (*other, "null")], &[one])?;
+            check_row::<T>(rt, rows, place, &[two, (*name, "null")], &[two])
+        }
+        Mode::Extensions => check_clone::<T>(rt, rows, place),
+        Mode::Required | Mode::Optional | Mode::Nullable => Ok(()),
+    }
 }
 
 /// The rows are found in whatever order they stand, and an unknown name is dropped.
 fn check_order<T: FromNode + ToNode + Drop>(
     rt: &HostRuntime,
     rows: &[Row],
-    full: &[(&'static str, &'static str)],
+    full: &[Member],
 ) -> Result<(), Fail> {
     let mut turned = Vec::new(rt.alloc());
     turned.push(("wat", "{\"x-y\":1}"))?;
-    for extension in EXTENSIONS {
+    for extension in SAMPLE {
         turned.push(extension)?;
     }
-    for row in rows.iter().rev() {
-        turned.push((row.name, row.sample))?;
+    for (name, mode, _, sample) in rows.iter().rev() {
+        if !matches!(mode, Mode::Extensions) {
+            turned.push((*name, *sample))?;
+        }
     }
-    check_cleaned::<T>(rt, turned.as_slice(), Ok(full))
+    check_members::<T>(rt, turned.as_slice(), Ok(full))
 }
 
-/// A clone equals its source, and differs from what is read of a tree with one extension less.
-fn check_clone<T: FromNode + ToNode + Clone + PartialEq + Drop>(
+/// A clone equals its source, and differs from what is read of a tree without extensions.
+fn check_clone<T: FromNode + Clone + PartialEq + Drop>(
     rt: &HostRuntime,
-    full: &[(&str, &str)],
+    rows: &[Row],
+    place: usize,
 ) -> Result<(), Fail> {
-    let mut steps = Steps::new(rt);
-    let value = T::from_node(rt.alloc(), &object(rt, full)?, &mut steps)?;
+    let full = members(rt, rows, rows.len(), &[])?;
+    let bare = members(rt, rows, place, &[])?;
+    let value = read::<T>(rt, full.as_slice())?;
     if value.clone()? != value {
-        Err::<(), &str>("a clone differs from its source")?;
+        return Err(Fail::from("a clone differs from its source"));
     }
-    let fewer = T::from_node(
-        rt.alloc(),
-        &object(rt, full.split_last().map_or(full, |(_, front)| front))?,
-        &mut steps,
-    )?;
-    if fewer == value {
-        Err::<(), &str>("equal to a value with one extension less")?;
+    if read::<T>(rt, bare.as_slice())? == value {
+        return Err(Fail::from("equal to a value without extensions"));
     }
     Ok(())
+}
+
+/// What is read of an object.
+fn read<T: FromNode>(rt: &HostRuntime, members: &[Member]) -> Result<T, Fail> {
+    let mut steps = Steps::new(rt);
+    Ok(T::from_node(rt.alloc(), &object(rt, members)?, &mut steps)?)
 }

@@ -1,0 +1,171 @@
+//! What every kind of schema can say, and each type of schema read by itself.
+
+use crate::tables::Mode::{Flag, Listed, Optional};
+use crate::tables::{EXTENSIONS, Row, check_table};
+use crate::trees::check_texts;
+use openapiv3::{
+    ArrayType, BooleanType, IntegerType, NumberType, ObjectType, SchemaData, SchemaType, StringType,
+};
+use std::test::Fail;
+
+/// What every kind of schema can say.
+const SCHEMA_DATA: [Row; 12] = [
+    ("nullable", Flag, "flag", "true"),
+    ("readOnly", Flag, "flag", "true"),
+    ("writeOnly", Flag, "flag", "true"),
+    ("deprecated", Flag, "flag", "true"),
+    ("externalDocs", Optional, "object", r#"{"url":"u"}"#),
+    ("example", Optional, "any", r#"{"b":null,"a":1}"#),
+    ("title", Optional, "text", r#""t""#),
+    ("description", Optional, "text", r#""d""#),
+    (
+        "discriminator",
+        Optional,
+        "object",
+        r#"{"propertyName":"p","mapping":{"b":"c","a":"d"}}"#,
+    ),
+    ("default", Optional, "any", "[7,{}]"),
+    (
+        "xml",
+        Optional,
+        "object",
+        r#"{"prefix":"p","wrapped":true}"#,
+    ),
+    EXTENSIONS,
+];
+
+/// The type `string`.
+const STRING: [Row; 5] = [
+    ("format", Optional, "text or null", r#""date-time""#),
+    ("pattern", Optional, "text", r#""^a$""#),
+    ("enum", Listed, "list", r#"["b",null,"a"]"#),
+    ("minLength", Optional, "whole number", "1"),
+    (
+        "maxLength",
+        Optional,
+        "whole number",
+        "18446744073709551615",
+    ),
+];
+
+/// The types `number` and `integer`.
+const NUMBER: [Row; 7] = [
+    ("format", Optional, "text or null", r#""unheard-of""#),
+    ("multipleOf", Optional, "whole number", "3"),
+    ("exclusiveMinimum", Flag, "flag", "true"),
+    ("exclusiveMaximum", Flag, "flag", "true"),
+    ("minimum", Optional, "whole number", "-9223372036854775808"),
+    ("maximum", Optional, "whole number", "9223372036854775807"),
+    ("enum", Listed, "list", "[2,null,-1]"),
+];
+
+/// The type `boolean`.
+const BOOLEAN: [Row; 1] = [("enum", Listed, "list", "[true,null,false]")];
+
+/// The type `object`.
+const OBJECT: [Row; 5] = [
+    (
+        "properties",
+        Listed,
+        "object",
+        r##"{"b":{"type":"string"},"a":{"$ref":"#/a"}}"##,
+    ),
+    ("required", Listed, "list", r#"["b","a"]"#),
+    ("additionalProperties", Optional, "flag or object", "false"),
+    ("minProperties", Optional, "whole number", "1"),
+    ("maxProperties", Optional, "whole number", "2"),
+];
+
+/// The type `array`.
+const ARRAY: [Row; 4] = [
+    ("items", Optional, "object", r#"{"type":"boolean"}"#),
+    ("minItems", Optional, "whole number", "1"),
+    ("maxItems", Optional, "whole number", "2"),
+    ("uniqueItems", Flag, "flag", "true"),
+];
+
+#[test]
+fn what_every_schema_can_say_follows_its_table(rt: HostRuntime) -> Result<(), Fail> {
+    check_table::<SchemaData>(&rt, &SCHEMA_DATA)
+}
+
+#[test]
+fn scalar_types_follow_their_tables(rt: HostRuntime) -> Result<(), Fail> {
+    check_table::<StringType>(&rt, &STRING)?;
+    check_table::<NumberType>(&rt, &NUMBER)?;
+    check_table::<IntegerType>(&rt, &NUMBER)?;
+    check_table::<BooleanType>(&rt, &BOOLEAN)
+}
+
+#[test]
+fn scalar_types_are_read_alone(rt: HostRuntime) -> Result<(), Fail> {
+    let strings = [
+        (r#"{"format":null,"pattern":null}"#, Ok("{}")),
+        (
+            r#"{"enum":[1]}"#,
+            Err("invalid type, expected text or null at #/enum/0"),
+        ),
+        (r#"{"minLength":-1}"#, Err("invalid value at #/minLength")),
+    ];
+    check_texts::<StringType>(&rt, &strings)?;
+    let numbers = [
+        (
+            r#"{"exclusiveMinimum":null}"#,
+            Err("invalid type, expected flag at #/exclusiveMinimum"),
+        ),
+        (
+            r#"{"enum":[18446744073709551615]}"#,
+            Ok(r#"{"enum":[18446744073709551615]}"#),
+        ),
+    ];
+    check_texts::<NumberType>(&rt, &numbers)?;
+    let integers = [
+        (
+            r#"{"minimum":9223372036854775808}"#,
+            Err("invalid value at #/minimum"),
+        ),
+        (
+            r#"{"enum":[9223372036854775808]}"#,
+            Err("invalid value at #/enum/0"),
+        ),
+    ];
+    check_texts::<IntegerType>(&rt, &integers)
+}
+
+#[test]
+fn composite_types_follow_their_tables(rt: HostRuntime) -> Result<(), Fail> {
+    check_table::<ObjectType>(&rt, &OBJECT)?;
+    check_table::<ArrayType>(&rt, &ARRAY)
+}
+
+#[test]
+fn types_are_told_by_their_word(rt: HostRuntime) -> Result<(), Fail> {
+    let rows = [
+        (r#"{"type":"string","items":5}"#, Ok(r#"{"type":"string"}"#)),
+        (
+            r#"{"minimum":1,"type":"integer"}"#,
+            Ok(r#"{"type":"integer","minimum":1}"#),
+        ),
+        (r#"{"type":"number"}"#, Ok(r#"{"type":"number"}"#)),
+        (r#"{"type":"boolean"}"#, Ok(r#"{"type":"boolean"}"#)),
+        (
+            r#"{"properties":{"a":{}},"type":"object"}"#,
+            Ok(r#"{"type":"object","properties":{"a":{}}}"#),
+        ),
+        (
+            r#"{"items":{"$ref":"r"},"type":"array"}"#,
+            Ok(r#"{"type":"array","items":{"$ref":"r"}}"#),
+        ),
+        (r#"{"type":"null"}"#, Err("unknown variant at #/type")),
+        ("{}", Err("missing field `type` at #")),
+        (
+            r#"{"type":"array","items":null}"#,
+            Ok(r#"{"type":"array"}"#),
+        ),
+        (
+            r#"{"type":"object","required":null}"#,
+            Err("invalid type, expected list at #/required"),
+        ),
+    ];
+    check_texts::<SchemaType>(&rt, &rows)
+}

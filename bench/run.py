@@ -66,8 +66,39 @@ def numbers(size):
     return tag("[" + many(size, lambda i: "[" + ",".join(str(i * 37 + j) for j in range(1000)) + "]") + "]")
 
 
+def properties(size):
+    """A schema of an object with many members."""
+    return '{"type":"object","properties":{' + many(
+        size, lambda i: f'"member-{i:07}":{{"type":"integer","minimum":{i}}}') + "}}"
+
+
+def nested(size):
+    """Schemas that combine schemas, 60 levels, over and over."""
+    level = '{"title":"level","allOf":['
+    return '{"allOf":[' + many(size, lambda i: level * 60 + '{"type":"string"}' + "]}" * 60) + "]}"
+
+
+def enumerations(size):
+    """A schema with a long enumeration."""
+    return '{"type":"string","enum":[' + many(size, lambda i: f'"value {i}",null') + "]}"
+
+
+def schemas(size):
+    """Many small schemas of every sort, and references."""
+    small = [
+        '{"type":"string","format":"date","description":"a day"}',
+        '{"type":"number","maximum":10,"x-unit":"m"}',
+        '{"type":"array","items":{"$ref":"#/components/schemas/Item"},"uniqueItems":true}',
+        '{"type":"object","required":["id"],"properties":{"id":{"type":"integer","format":"int64"}}}',
+        '{"$ref":"#/components/schemas/Other"}',
+        '{"minimum":1,"pattern":"^a"}',
+    ]
+    return '{"anyOf":[' + many(size, lambda i: small[i % len(small)]) + "]}"
+
+
 TAGS = [wide, deep, texts, objects, numbers]
-SHAPES = {"tag": TAGS}
+SCHEMAS = [properties, nested, enumerations, schemas]
+SHAPES = {"tag": TAGS, "schema": SCHEMAS}
 
 
 def make(shape, size, path):

@@ -1,8 +1,8 @@
 -- Slots behind others: what both are written as together, and the names of which they have none in common.
-use Rattle.std.proofs.Common.{◌≡◌, ℕ, zero, suc, Bool, true, false, cond, ◌&&◌, ◌||◌, List, [], ◌∷◌, ◌++◌, Option}
-use Rattle.std.proofs.Common.{Some, None, slice_get, codes, refl, sym, ap, ◌∙◌, subst}
+use Rattle.std.proofs.Common.{◌≡◌, ℕ, zero, suc, Bool, true, false, ◌&&◌, ◌||◌, List, [], ◌∷◌, ◌++◌, Option}
+use Rattle.std.proofs.Common.{Some, None, slice_get, refl, sym, ap, ◌∙◌, subst}
 use Rattle.std.proofs.lemmas.Bool.{and_parts}
-use Rattle.openapi_map.specs.Entries.{Entries, get}
+use Rattle.openapi_map.specs.Entries.{Entries}
 use Rattle.openapi_node.specs.Place.{Place}
 use Rattle.openapi_node.specs.Tree.{Tree}
 use Rattle.openapi_tables.specs.Lists.{join, every}
@@ -16,7 +16,6 @@ use Rattle.openapi_tables.proofs.ListLaws.{join_assoc}
 use Rattle.openapi_tables.proofs.RowLaws.{apart_back}
 use Rattle.openapi_tables.proofs.SlotLists.{all_taken-append, all_taken-first, get_none, or_true}
 use Rattle.openapi_tables.proofs.SlotLists.{slots_lost-join, slots_print-join, untied-join}
-use Rattle.openapi_rows.specs.Gives.{Loses, LosesBy}
 use Rattle.openapi_schema.specs.Writing.{AreNew, tag_members, tag_slots}
 
 -- what the second of two lists of slots takes both take

@@ -1,5 +1,5 @@
 -- The forms of values that hold schemas, by the forms of their fields.
-use Rattle.std.proofs.Common.{◌≡◌, List, [], ◌∷◌, ◌∙◌, rules}
+use Rattle.std.proofs.Common.{◌≡◌, List, ◌∷◌, ◌∙◌, rules}
 use Rattle.openapi_tables.specs.Lists.{join}
 use Rattle.openapi_tables.specs.Form.{Form, absent, fields, forms_of}
 use Rattle.openapi_tables.specs.Members.{sort, string_sort, number_sort, integer_sort, boolean_sort}

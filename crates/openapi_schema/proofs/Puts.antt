@@ -1,5 +1,5 @@
 -- Members that are put, by what was written of their values.
-use Rattle.std.proofs.Common.{◌≡◌, ℕ, true, false, cond, List, [], ◌∷◌, ◌++◌, Result, Ok, Err, OnOk, IfErr, Some, None}
+use Rattle.std.proofs.Common.{◌≡◌, ℕ, cond, List, [], ◌∷◌, ◌++◌, Result, Ok, Err, OnOk, IfErr, Some, None}
 use Rattle.std.proofs.Common.{refl, sym, ap, ◌∙◌, subst}
 use Rattle.openapi_map.specs.Entries.{Entries}
 use Rattle.openapi_node.specs.Fault.{IsMemory, GoesUp}
@@ -11,12 +11,11 @@ use Rattle.openapi_tables.specs.Kind.{Kind, Mode, required, row}
 use Rattle.openapi_tables.specs.Tables.{final_tables}
 use Rattle.openapi_tables.specs.Form.{Form}
 use Rattle.openapi_tables.specs.ByRow.{is_named}
-use Rattle.openapi_tables.specs.Print.{print, is_silent}
 use Rattle.openapi_tables.specs.Unwritable.{unwritable}
 use Rattle.openapi_tables.specs.Slots.{Slot, slot_where, before, through, slots_lost, IsWritten}
 use Rattle.openapi_tables.proofs.ListLaws.{same_text-refl}
 use Rattle.openapi_tables.proofs.SlotWriting.{none_written, row_put, row_silent}
-use Rattle.openapi_rows.specs.Gives.{Loses, LosesBelow, WrittenAs}
+use Rattle.openapi_rows.specs.Gives.{Loses, WrittenAs}
 use Rattle.openapi_rows.proofs.Losing.{below, silent_lost, value_loses}
 use Rattle.openapi_schema.specs.Writing.{GivesWritten, PutAs}
 

@@ -35,24 +35,7 @@ use Rattle.openapi_schema.specs.Kinds.{IsKind}
 use Rattle.openapi_schema.specs.Present.{additional_level}
 use Rattle.openapi_schema.specs.RawSlots.{optional_rows}
 use Rattle.openapi_schema.specs.Reading.{GivesKind, first_optional, last_optional, outer_box_form, schema_kind_form}
-use Rattle.openapi_schema.specs.SchemaForms.{
-  Sorted,
-  additional_step,
-  schema_kind_step,
-  schema_type_step,
-  any_schema_step,
-  array_type_step,
-  object_type_step,
-  schema_step,
-  schema_form,
-  additional_form,
-  schema_kind_rows,
-  schema_type_rows,
-  object_type_rows,
-  array_type_rows,
-  any_schema_rows,
-  schema_data_rows,
-}
+use Rattle.openapi_schema.specs.SchemaForms.{Sorted, additional_step, schema_kind_step, schema_type_step, any_schema_step, array_type_step, object_type_step, schema_step, schema_form, additional_form, schema_kind_rows, schema_data_rows}
 use Rattle.openapi_schema.specs.declared.kind_names.FirstNames.{FirstNames}
 use Rattle.openapi_schema.specs.declared.kind_names.LastNames.{LastNames}
 use Rattle.openapi_schema.specs.declared.schema.AdditionalProperties.{the_lemmas}
@@ -67,11 +50,7 @@ use Rattle.openapi_schema.specs.declared.schema.AdditionalProperties.TheBlock.{
   the_data-5,
   the_data-6,
 }
-use Rattle.openapi_schema.specs.declared.schema.AdditionalProperties.TheFolds.{
-  fold-roll-AdditionalProperties,
-  map-AdditionalProperties,
-  fold-roll-Schema,
-}
+use Rattle.openapi_schema.specs.declared.schema.AdditionalProperties.TheFolds.{fold-roll-AdditionalProperties, fold-roll-Schema}
 use Rattle.openapi_schema.specs.declared.schema.AdditionalProperties.TheOpen.{AdditionalProperties-F, Schema-F}
 use Rattle.openapi_schema.specs.declared.schema.Schema.{Schema, roll-Schema}
 use Rattle.openapi_schema.specs.declared.schema.SchemaKind.{SchemaKind}

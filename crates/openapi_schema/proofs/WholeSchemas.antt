@@ -1,5 +1,5 @@
 -- A schema as it is written: what every schema can say, and its kind.
-use Rattle.std.proofs.Common.{◌≡◌, ℕ, true, List, [], ◌∷◌, ◌++◌, Option, Some, None, refl, sym, ap, ◌∙◌, subst}
+use Rattle.std.proofs.Common.{◌≡◌, ℕ, true, List, [], ◌++◌, Option, refl, sym, ap, ◌∙◌, subst}
 use Rattle.std.proofs.lemmas.Bool.{and_parts}
 use Rattle.openapi_map.specs.Entries.{Entries}
 use Rattle.openapi_node.specs.Fault.{place_of}
@@ -19,7 +19,7 @@ use Rattle.openapi_node.specs.declared.fault.Cause.TheVariants.{
 use Rattle.openapi_node.specs.declared.fault.Fault.{Fault}
 use Rattle.openapi_tables.specs.Lists.{join, every}
 use Rattle.openapi_tables.specs.Tree.{members_of as of_list}
-use Rattle.openapi_tables.specs.Kind.{Kind, a_schema, a_schema_kind, schema_data}
+use Rattle.openapi_tables.specs.Kind.{a_schema, a_schema_kind, schema_data}
 use Rattle.openapi_tables.specs.Tables.{final_tables, tables_with}
 use Rattle.openapi_tables.specs.Members.{Choice, Sort, sort, rows_of, sort_rows}
 use Rattle.openapi_tables.specs.Form.{Form, fields, forms_of}
@@ -29,16 +29,16 @@ use Rattle.openapi_tables.specs.Sound.{rows_apart, row_sound}
 use Rattle.openapi_tables.specs.Laws.{Among}
 use Rattle.openapi_tables.specs.Slots.{Slot, slots, slots_apart, slots_print, slots_lost, untied, IsWritten}
 use Rattle.openapi_tables.proofs.FormLaws.{of_forms-of}
-use Rattle.openapi_tables.proofs.ObjectBack.{schema_sound, sort_sound}
+use Rattle.openapi_tables.proofs.ObjectBack.{schema_sound}
 use Rattle.openapi_tables.proofs.SlotLists.{members_untied, slots_apart-rows, slots_lost-rows, slots_print-rows}
 use Rattle.openapi_tables.proofs.WellMade.{final_sound}
 use Rattle.openapi_rows.specs.Forms.{record_slots}
 use Rattle.openapi_rows.specs.Gives.{Loses, LosesBy}
 use Rattle.openapi_schema.specs.SchemaForms.{schema_data_rows, schema_form, schema_kind_rows}
-use Rattle.openapi_schema.specs.Writing.{AreNew, kind_slots, sorted_slots, tag_members, tag_slots, untagged}
+use Rattle.openapi_schema.specs.Writing.{AreNew, kind_slots, tag_members, tag_slots, untagged}
 use Rattle.openapi_schema.specs.declared.schema.Schema.{Schema, out-Schema}
 use Rattle.openapi_schema.specs.declared.schema_data.SchemaData.{SchemaData}
-use Rattle.openapi_schema.proofs.JoinedSlots.{loses_first, loses_second, rows_new, tag_new, tagged_rows, written_behind}
+use Rattle.openapi_schema.proofs.JoinedSlots.{loses_first, rows_new, tag_new, tagged_rows, written_behind}
 use Rattle.openapi_schema.proofs.OpenedForms.{schema_form-out}
 
 -- a refusal of a part is one of the whole

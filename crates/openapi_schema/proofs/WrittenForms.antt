@@ -1,11 +1,11 @@
 -- What is written of schemas, by what is written of their parts.
-use Rattle.std.proofs.Common.{◌≡◌, ℕ, true, false, List, [], ◌∷◌, ◌++◌, Option, refl, sym, ap, ◌∙◌, subst}
+use Rattle.std.proofs.Common.{◌≡◌, ℕ, true, List, [], ◌∷◌, ◌++◌, Option, refl, sym, ap, ◌∙◌, subst}
 use Rattle.std.proofs.lemmas.Bool.{and_parts}
 use Rattle.openapi_map.specs.Entries.{Entries}
 use Rattle.openapi_node.specs.Place.{Place}
 use Rattle.openapi_node.specs.Tree.{Tree, object, members_of}
 use Rattle.openapi_node.specs.declared.fault.Fault.{Fault}
-use Rattle.openapi_tables.specs.Kind.{Kind, Row, row, either, class, constant, a_schema, a_schema_kind}
+use Rattle.openapi_tables.specs.Kind.{Row, row, either, class, constant, a_schema, a_schema_kind}
 use Rattle.openapi_tables.specs.Lists.{every, join}
 use Rattle.openapi_tables.specs.Tables.{final_tables}
 use Rattle.openapi_tables.specs.Members.{Sort, sort, rows_of, sort_rows}

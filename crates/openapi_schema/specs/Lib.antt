@@ -1,3 +1,4 @@
+pub mod AnyParts
 pub mod Enumerations
 pub mod Fields
 pub mod KindNames

@@ -1,12 +1,16 @@
 //! Schemas of no sort in particular.
-ghost use Rattle.std.specs.Prelude.{◌≡◌, [], None};
+ghost use Rattle.std.proofs.Common.{lit≤, refl};
+ghost use Rattle.std.specs.Prelude.{◌≡◌, ◌+◌, ◌≤◌, ◌*◌, [], None};
 ghost use Rattle.openapi_tables.specs.Kind.{any_schema, by};
 ghost use Rattle.openapi_tables.proofs.SlotWriting.{final_apart};
+ghost use Rattle.openapi_rows.specs.Forms.{record_form};
 ghost use Rattle.openapi_schema.specs.Fields.{any_fields, any_slots};
 
+use crate::any_parts::{any_of_parts, read_any_first, read_any_last};
 use crate::schema::{AdditionalProperties, Schema};
-use openapi_node::{Node, OrderedMap, Whole};
-use openapi_rows::Object;
+use crate::write::any_rows;
+use openapi_node::{Fault, Node, OrderedMap, Steps, View, Whole};
+use openapi_rows::{FromNode, Object, Record, ToNode, read_record, write_record};
 use openapi_values::ReferenceOr;
 use std::alloc::Global;
 
@@ -129,4 +133,53 @@ impl Object for AnySchema {
     ghost slots_of = { any_slots };
 
     ghost apart = { λ x. final_apart any_schema (any_fields x) };
+}
+
+impl Record for AnySchema {
+    ghost rows_of = { any_fields };
+
+    fn from_members(
+        alloc: Global,
+        members: &OrderedMap<Node>,
+        steps: &mut Steps,
+    ) -> Result<AnySchema, Fault> {
+        match read_any_first(alloc, members, steps) {
+            Ok(first) => match read_any_last(alloc, members, steps) {
+                Ok(last) => Ok(any_of_parts(first, last)),
+                Err(fault) => Err(fault),
+            },
+            Err(fault) => Err(fault),
+        }
+    }
+
+    fn put_rows(&self, alloc: Global, out: &mut OrderedMap<Node>) -> Result<(), Fault> {
+        *out = any_rows(alloc, self)?;
+        Ok(())
+    }
+
+    ghost by_table = { refl };
+
+    ghost by_rows = { λ x. refl };
+}
+
+impl FromNode for AnySchema {
+    ghost kind = { by any_schema };
+
+    ghost form_of = { record_form any_fields };
+
+    fn from_view(alloc: Global, view: &View<'_>, steps: &mut Steps) -> Result<AnySchema, Fault> {
+        read_record(alloc, view, steps)
+    }
+
+    ghost few = { lit≤ tt };
+
+    ghost well_made = { refl };
+}
+
+impl ToNode for AnySchema {
+    fn to_node(&self, alloc: Global) -> Result<Node, Fault> {
+        write_record(alloc, self)
+    }
+
+    ghost there = { λ x. refl };
 }

@@ -1,6 +1,7 @@
 #![tactic(auto)]
 //! The Schema Object of OpenAPI 3.0.3, section 4.7.24: its types, and how the kind of a schema is told from its
 //! members.
+mod any_parts;
 mod any_schema;
 mod boxes;
 mod composite_types;

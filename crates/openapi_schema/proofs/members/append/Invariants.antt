@@ -1,4 +1,4 @@
-use Rattle.std.proofs.Common.{◌≡◌, ◌++◌, ◌<◌, ◌*◌, length}
+use Rattle.std.proofs.Common.{◌≡◌, ◌++◌}
 use Rattle.openapi_map.specs.Entries.{HasDistinctNames}
 use Rattle.openapi_schema.specs.Writing.{AreNew}
 use Rattle.openapi_schema.proofs.members.append.Given as goal

@@ -17,7 +17,6 @@ use Rattle.openapi_schema.specs.declared.schema.SchemaKind.{SchemaKind}
 use Rattle.openapi_schema.specs.declared.schema.SchemaKind.TheVariants as kind
 use Rattle.openapi_schema.proofs.CombinedForms.{one_of_rows-kind, all_of_rows-kind, any_of_rows-kind, not_rows-kind}
 use Rattle.openapi_schema.proofs.KindForms.{any_rows-kind}
-use Rattle.openapi_schema.proofs.OpenedForms.{typed_rows}
 use Rattle.openapi_schema.proofs.TaggedSlots.{no_tag}
 use Rattle.openapi_schema.proofs.members.kind_word.Goals as goal
 

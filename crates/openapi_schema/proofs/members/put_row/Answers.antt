@@ -1,4 +1,3 @@
-use Rattle.std.proofs.Common.{subst}
 use Rattle.openapi_tables.specs.Tables.{final_tables}
 use Rattle.openapi_tables.proofs.SlotWriting.{row_new}
 use Rattle.openapi_schema.proofs.Puts.{row_left_out, row_lost_below, row_put_as}

@@ -1,4 +1,3 @@
-use Rattle.openapi_node.specs.Place.{named}
 use Rattle.openapi_schema.proofs.Puts.{put_as}
 use Rattle.openapi_schema.proofs.members.put_written.Goals as goal
 

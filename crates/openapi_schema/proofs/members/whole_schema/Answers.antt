@@ -1,4 +1,4 @@
-use Rattle.std.proofs.Common.{ℕ, List, Option, option_map, ap, ◌∙◌}
+use Rattle.std.proofs.Common.{option_map, ap, ◌∙◌}
 use Rattle.openapi_node.specs.Tree.{object, members_of}
 use Rattle.openapi_schema.proofs.WholeSchemas.{its_rows_new, its_tag_new, schema_written}
 use Rattle.openapi_schema.proofs.members.whole_schema.Goals as goal

@@ -1,7 +1,6 @@
-use Rattle.std.proofs.Common.{◌≡◌, ◌∙◌, ◌∷◌, [], length, codes, refl, sym, ap, subst, arith, rules}
+use Rattle.std.proofs.Common.{◌≡◌, ◌∙◌, ◌∷◌, [], length, refl, sym, ap, subst, arith, rules}
 use Rattle.std.specs.Prelude.{◌==◌}
 use Rattle.std.proofs.lemmas.List.{take_all}
-use Rattle.openapi_node.specs.Place.{named}
 use Rattle.openapi_tables.specs.Kind.{a_schema, flag_or_schema, list_of, listed, map_of, optional, ref_to}
 use Rattle.openapi_tables.specs.Lists.{each, every}
 use Rattle.openapi_tables.specs.Members.{any_sort, array_sort, object_sort, sort_rows}
@@ -21,7 +20,7 @@ use Rattle.openapi_schema.specs.Reading.{any_name, ref_form, inner_box_form, out
 use Rattle.openapi_schema.specs.SchemaForms.{Sorted, additional_form, schema_form, schema_kind_rows, schema_type_rows}
 use Rattle.openapi_schema.specs.Writing.{RowsWritten, kind_slots, sorted_slots, type_slots, untagged}
 use Rattle.openapi_schema.proofs.CombinedForms.{one_of_rows-kind, all_of_rows-kind, any_of_rows-kind, not_rows-kind}
-use Rattle.openapi_schema.proofs.FormSizes.{element_smaller, form_size, rows_size, value_smaller}
+use Rattle.openapi_schema.proofs.FormSizes.{element_smaller, rows_size, value_smaller}
 use Rattle.openapi_schema.proofs.KindForms.{any_rows-kind}
 use Rattle.openapi_schema.proofs.OpenedForms.{any_rows-out, array_rows-out, object_rows-out}
 use Rattle.openapi_schema.proofs.OpenedForms.{array_rows-type, boolean_rows-type, integer_rows-type, number_rows-type, object_rows-type}

@@ -1,4 +1,4 @@
-use Rattle.std.proofs.Common.{◌≡◌, ◌++◌, ◌+◌, ◌*◌, take, true}
+use Rattle.std.proofs.Common.{◌≡◌, ◌+◌, ◌*◌, take, true}
 use Rattle.openapi_tables.specs.Lists.{each, every}
 use Rattle.openapi_tables.specs.Kind.{ref_to, a_schema}
 use Rattle.openapi_rows.proofs.Elements.{written, is_whole}

@@ -4,7 +4,8 @@ use crate::tables::Mode::{Flag, Listed, Optional};
 use crate::tables::{EXTENSIONS, Row, check_table};
 use crate::trees::check_texts;
 use openapiv3::{
-    ArrayType, BooleanType, IntegerType, NumberType, ObjectType, SchemaData, SchemaType, StringType,
+    AnySchema, ArrayType, BooleanType, IntegerType, NumberType, ObjectType, SchemaData, SchemaType,
+    StringType,
 };
 use std::test::Fail;
 
@@ -84,6 +85,39 @@ const ARRAY: [Row; 4] = [
     ("uniqueItems", Flag, "flag", "true"),
 ];
 
+/// A schema of no sort in particular.
+const ANY: [Row; 24] = [
+    ("type", Optional, "text", r#""file""#),
+    ("pattern", Optional, "text", r#""^a$""#),
+    ("multipleOf", Optional, "whole number", "3"),
+    ("exclusiveMinimum", Optional, "flag", "false"),
+    ("exclusiveMaximum", Optional, "flag", "true"),
+    ("minimum", Optional, "whole number", "18446744073709551615"),
+    ("maximum", Optional, "whole number", "-9223372036854775808"),
+    (
+        "properties",
+        Listed,
+        "object",
+        r##"{"b":{"type":"string"},"a":{"$ref":"#/a"}}"##,
+    ),
+    ("required", Listed, "list", r#"["b","a"]"#),
+    ("additionalProperties", Optional, "flag or object", "{}"),
+    ("minProperties", Optional, "whole number", "1"),
+    ("maxProperties", Optional, "whole number", "2"),
+    ("items", Optional, "object", r#"{"$ref":"r"}"#),
+    ("minItems", Optional, "whole number", "3"),
+    ("maxItems", Optional, "whole number", "4"),
+    ("uniqueItems", Optional, "flag", "false"),
+    ("enum", Listed, "list", r#"[null,{"b":1,"a":2}]"#),
+    ("format", Optional, "text", r#""date""#),
+    ("minLength", Optional, "whole number", "5"),
+    ("maxLength", Optional, "whole number", "6"),
+    ("oneOf", Listed, "list", r#"[{"$ref":"r"},{}]"#),
+    ("allOf", Listed, "list", r#"[{"title":"t"}]"#),
+    ("anyOf", Listed, "list", r#"[{"oneOf":[]}]"#),
+    ("not", Optional, "object", r#"{"nullable":true}"#),
+];
+
 #[test]
 fn what_every_schema_can_say_follows_its_table(rt: HostRuntime) -> Result<(), Fail> {
     check_table::<SchemaData>(&rt, &SCHEMA_DATA)
@@ -136,6 +170,11 @@ fn scalar_types_are_read_alone(rt: HostRuntime) -> Result<(), Fail> {
 fn composite_types_follow_their_tables(rt: HostRuntime) -> Result<(), Fail> {
     check_table::<ObjectType>(&rt, &OBJECT)?;
     check_table::<ArrayType>(&rt, &ARRAY)
+}
+
+#[test]
+fn schemas_of_no_sort_follow_their_table(rt: HostRuntime) -> Result<(), Fail> {
+    check_table::<AnySchema>(&rt, &ANY)
 }
 
 #[test]

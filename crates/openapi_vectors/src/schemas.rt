@@ -192,6 +192,20 @@ fn schemas_are_refused_where_they_break_a_rule(rt: HostRuntime) -> Result<(), Fa
             Err("invalid value at #/minLength"),
         ),
         (
+            r#"{"additionalProperties":{"additionalProperties":5}}"#,
+            Err(
+                "invalid type, expected flag or object at #/additionalProperties/additionalProperties",
+            ),
+        ),
+        (
+            r#"{"properties":{"a~/b":{"items":[]}}}"#,
+            Err("invalid type, expected object at #/properties/a~0~1b/items"),
+        ),
+        (
+            r#"{"anyOf":[{},{"enum":5}]}"#,
+            Err("invalid type, expected list at #/anyOf/1/enum"),
+        ),
+        (
             r#"{"xml":5}"#,
             Err("invalid type, expected object at #/xml"),
         ),

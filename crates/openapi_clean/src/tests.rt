@@ -126,7 +126,7 @@ fn inputs_are_refused(rt: HostRuntime) -> Result<(), Fail> {
 
 #[test]
 fn schemas_are_cleaned(rt: HostRuntime) -> Result<(), Fail> {
-    let rows: [(&[u8], &str); 7] = [
+    let rows: [(&[u8], &str); 10] = [
         (b"{}", "0: {}\n"),
         (
             b"{\"type\":\"integer\",\"minimum\":1,\"wat\":2,\"x-e\":null}",
@@ -149,7 +149,16 @@ fn schemas_are_cleaned(rt: HostRuntime) -> Result<(), Fail> {
             b"{\"not\":{\"not\":{\"not\":5}}}",
             "1: invalid type, expected object at #/not/not/not",
         ),
-        (b"{\"maximum\":1.5}", "1: number not whole at #/maximum"),
+        (
+            b"{\"type\":\"string\",\"xml\":{\"name\":\"n\",\"attribute\":true,\"wrapped\":false}}",
+            "0: {\"type\":\"string\",\"xml\":{\"attribute\":true,\"name\":\"n\"}}\n",
+        ),
+        (
+            b"{\"type\":\"number\",\"multipleOf\":0.5}",
+            "1: number not whole at #/multipleOf",
+        ),
+        (b"{\"type\":", "2: not JSON"),
+        (b"", "2: not JSON"),
     ];
     for (input, report) in rows {
         let told = report_of(&rt, Command::Schema, input)?;

@@ -3,6 +3,8 @@
 #![tactic(auto)]
 
 #[cfg(test)]
+mod built_schemas;
+#[cfg(test)]
 mod flows;
 #[cfg(test)]
 mod info;

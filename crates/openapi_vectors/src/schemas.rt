@@ -1,10 +1,10 @@
 //! Schemas, and references to them.
 
-use crate::trees::{check_same, check_texts, check_tree, cleaned, tree, write_refusal};
+use crate::trees::{check_same, check_texts, check_tree, cleaned, tree};
 use openapiv3::{
-    AdditionalProperties, AnySchema, FromNode, Node, Schema, SchemaData, SchemaKind, SchemaType,
-    Steps, StringFormat, StringType, ToNode, VariantOrUnknownOrEmpty, Xml,
-    boxed_schema_ref_from_node, boxed_schema_ref_to_node, schema_ref_from_node, schema_ref_to_node,
+    AdditionalProperties, FromNode, Node, OrderedMap, Schema, SchemaKind, SchemaType, Steps,
+    ToNode, boxed_schema_ref_from_node, boxed_schema_ref_to_node, schema_ref_from_node,
+    schema_ref_to_node,
 };
 use std::test::Fail;
 
@@ -125,12 +125,84 @@ fn other_schemas_are_of_no_sort(rt: HostRuntime) -> Result<(), Fail> {
                 r#"{"type":"boolean","enum":["a"]}"#,
             ),
             (
+                r#"{"type":"integer","enum":[18446744073709551615]}"#,
+                "any",
+                r#"{"type":"integer","enum":[18446744073709551615]}"#,
+            ),
+            (
+                r#"{"type":"string","required":[]}"#,
+                "any",
+                r#"{"type":"string"}"#,
+            ),
+            (r#"{"xml":{}}"#, "any", r#"{"xml":{}}"#),
+            (r#"{"xml":null}"#, "any", "{}"),
+            (
                 r#"{"nullable":true,"enum":[null]}"#,
                 "any",
                 r#"{"nullable":true,"enum":[null]}"#,
             ),
             (r#"{"enum":null}"#, "any", "{}"),
             (r#"{"type":"null"}"#, "any", r#"{"type":"null"}"#),
+        ],
+    )
+}
+
+#[test]
+fn nulls_and_limits_leave_a_type_as_it_is(rt: HostRuntime) -> Result<(), Fail> {
+    let greatest = r#"{"type":"integer","maximum":9223372036854775807}"#;
+    let longest = r#"{"type":"string","minLength":18446744073709551615}"#;
+    let entries = r#"{"type":"integer","enum":[1,null]}"#;
+    check_sorts(
+        &rt,
+        &[
+            (greatest, "integer", greatest),
+            (longest, "string", longest),
+            (entries, "integer", entries),
+            (
+                r#"{"type":"string","items":null}"#,
+                "string",
+                r#"{"type":"string"}"#,
+            ),
+            (
+                r#"{"type":"string","xml":{"name":"n","attribute":true,"wrapped":false}}"#,
+                "string",
+                r#"{"xml":{"name":"n","attribute":true},"type":"string"}"#,
+            ),
+        ],
+    )
+}
+
+/// That what a schema is cleaned to is read as one of a sort, which is cleaned to a text.
+fn check_settled(rt: &HostRuntime, rows: &[(&str, &str, &str)]) -> Result<(), Fail> {
+    for (given, sort, wanted) in rows {
+        let node = tree(rt, given)?;
+        let mut steps = Steps::new(rt);
+        let first = Schema::from_node(rt.alloc(), &node, &mut steps)?;
+        let cleaned = first.to_node(rt.alloc())?;
+        let second = Schema::from_node(rt.alloc(), &cleaned, &mut steps)?;
+        check_same(rt, sort_of(&second.schema_kind), sort)?;
+        check_tree(rt, &second.to_node(rt.alloc())?, wanted)?;
+    }
+    Ok(())
+}
+
+#[test]
+fn schemas_are_settled_by_a_second_reading(rt: HostRuntime) -> Result<(), Fail> {
+    check_settled(
+        &rt,
+        &[
+            (
+                r#"{"type":"object","enum":[]}"#,
+                "object",
+                r#"{"type":"object"}"#,
+            ),
+            (
+                r#"{"type":"integer","exclusiveMinimum":false,"required":[]}"#,
+                "integer",
+                r#"{"type":"integer"}"#,
+            ),
+            (r#"{"oneOf":[],"allOf":[]}"#, "any", "{}"),
+            (r#"{"oneOf":[]}"#, "one of", r#"{"oneOf":[]}"#),
         ],
     )
 }
@@ -271,7 +343,7 @@ fn references_stand_for_schemas(rt: HostRuntime) -> Result<(), Fail> {
 fn nested(rt: &HostRuntime, name: &str, levels: usize) -> Result<Node, Fail> {
     let mut node = tree(rt, "5")?;
     for _ in 0..levels {
-        let mut members = openapiv3::OrderedMap::new(rt.alloc());
+        let mut members = OrderedMap::new(rt.alloc());
         members.insert(name.to_string(rt.alloc())?, node)?;
         node = Node::object(members);
     }
@@ -302,50 +374,4 @@ fn nested_schemas_are_refused_where_they_break(rt: HostRuntime) -> Result<(), Fa
         100,
         "invalid type, expected flag or object",
     )
-}
-
-#[test]
-fn built_schemas_are_written(rt: HostRuntime) -> Result<(), Fail> {
-    let plain = StringType::new(rt.alloc());
-    check_tree(&rt, &plain.to_node(rt.alloc())?, "{}")?;
-    let typed = Schema {
-        schema_data: SchemaData::new(rt.alloc()),
-        schema_kind: SchemaKind::Typed(SchemaType::String(plain)),
-    };
-    check_tree(&rt, &typed.to_node(rt.alloc())?, r#"{"type":"string"}"#)?;
-    let any = Schema {
-        schema_data: SchemaData::new(rt.alloc()),
-        schema_kind: SchemaKind::Any(AnySchema::new(rt.alloc())),
-    };
-    check_tree(&rt, &any.to_node(rt.alloc())?, "{}")
-}
-
-#[test]
-fn unknown_formats_that_are_known_are_read_as_known(rt: HostRuntime) -> Result<(), Fail> {
-    let mut built = StringType::new(rt.alloc());
-    built.format = VariantOrUnknownOrEmpty::Unknown("date".to_string(rt.alloc())?);
-    let node = built.to_node(rt.alloc())?;
-    check_tree(&rt, &node, r#"{"format":"date"}"#)?;
-    let mut steps = Steps::new(&rt);
-    let read = StringType::from_node(rt.alloc(), &node, &mut steps)?;
-    assert!(rt; read.format == VariantOrUnknownOrEmpty::Item(StringFormat::Date));
-    Ok(())
-}
-
-#[test]
-fn extensions_of_schemas_need_their_prefix(rt: HostRuntime) -> Result<(), Fail> {
-    let mut xml = Xml::new(rt.alloc());
-    xml.extensions
-        .insert("foo".to_string(rt.alloc())?, Node::null())?;
-    let mut schema_data = SchemaData::new(rt.alloc());
-    schema_data.xml = Some(xml);
-    let schema = Schema {
-        schema_data,
-        schema_kind: SchemaKind::Any(AnySchema::new(rt.alloc())),
-    };
-    assert_eq!(rt;
-        write_refusal(&rt, &schema)?.as_str(),
-        "name not writable at #/xml/foo"
-    );
-    Ok(())
 }

@@ -1,21 +1,15 @@
 //! The kind of a schema, made of what stands under the kind names.
 ghost use Rattle.std.specs.Prelude.{◌≡◌, ◌+◌, ◌*◌, ◌≤◌, IfOk, IfErr};
 ghost use Rattle.openapi_node.specs.Fault.{IsMemory};
-ghost use Rattle.openapi_node.specs.Tree.{Members};
 ghost use Rattle.openapi_tables.specs.Members as sorts;
-ghost use Rattle.openapi_tables.specs.Tree.{members_list};
-ghost use Rattle.openapi_tables.specs.Tables.{final_tables};
-ghost use Rattle.openapi_tables.specs.ByRow.{AreRows};
 ghost use Rattle.openapi_schema.specs.Enumerations.{text_tree, number_tree, signed_tree, flag_tree};
-ghost use Rattle.openapi_schema.specs.KindNames.{kind_name_rows};
 ghost use Rattle.openapi_schema.specs.Kinds.{GivesEnumeration, GivesLimit, IsEnumeration, IsKindOf};
 ghost use Rattle.openapi_schema.specs.Kinds.{entries_weight, trees_in, trees_or_none};
-ghost use Rattle.openapi_schema.specs.RawSlots.{optional_rows};
 
 use crate::any_schema::AnySchema;
 use crate::composite_types::{ArrayType, ObjectType};
 use crate::enumeration::{Entry, copies, entries};
-use crate::kind_names::{FirstNames, LastNames, named_sort};
+use crate::kind_names::{FirstNames, LastNames};
 use crate::scalar_types::{BooleanType, IntegerType, NumberType, StringType};
 use crate::schema::{SchemaKind, SchemaType};
 use crate::sort::Sort;

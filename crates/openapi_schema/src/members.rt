@@ -1,5 +1,5 @@
 //! The members that a schema is written as, put together of those of its parts.
-ghost use Rattle.std.specs.Prelude.{◌≡◌, [], ◌++◌, ◌∷◌, Some, None, false, codes, option_map, OnOk, IfErr};
+ghost use Rattle.std.specs.Prelude.{◌≡◌, [], ◌++◌, ◌∷◌, Some, None, false, option_map, OnOk, IfErr};
 ghost use Rattle.openapi_map.specs.Entries.{get};
 ghost use Rattle.openapi_node.specs.Fault.{IsMemory};
 ghost use Rattle.openapi_tables.specs.ByRow.{is_named};

@@ -16,7 +16,9 @@ use std::alloc::Global;
 pub fn write_map<T: ToNode>(alloc: Global, values: &OrderedMap<T>) -> Result<Node, Fault>
     ensures { WrittenAs (map_of T.kind) (map_form T.form_of values.now) result }
 {
-    let mut out = OrderedMap::new(alloc);
+    let Ok(mut out) = OrderedMap::with_capacity(alloc, values.len()) else {
+        return Err(Fault::memory(alloc));
+    };
     match put_entries::<AllNames, T>(alloc, &mut out, values) {
         Ok(()) => Ok(Node::object(out)),
         Err(fault) => Err(fault),

@@ -83,7 +83,9 @@ pub(crate) fn only_row(
     ensures { (k : Kind) (f : Form) → WrittenAs k f written
         → RowsWritten ((kinds.row name.now kinds.required k, f) ∷ []) result }
 {
-    let mut out = OrderedMap::new(alloc);
+    let Ok(mut out) = OrderedMap::with_capacity(alloc, 1) else {
+        return Err(Fault::memory(alloc));
+    };
     match put_written(alloc, &mut out, name, written) {
         Ok(()) => Ok(out),
         Err(fault) => Err(fault),
@@ -107,6 +109,10 @@ fn append(alloc: Global, out: &mut OrderedMap<Node>, more: OrderedMap<Node>) -> 
     ensures ok { OnOk result (out.new ≡ out.old ++ more) }
     ensures err { IfErr result IsMemory }
 {
+    if out.is_empty() {
+        *out = more;
+        return Ok(());
+    }
     for (name, node) in more {
         match out.push_new(name, node) {
             Ok(()) => {}

@@ -351,7 +351,9 @@ fn properties(
     ensures rises { steps.old ≤ steps.new }
     ensures count { steps.new ≤ steps.old + 3 * entries_size (chosen any_name members.now) }
 {
-    let mut values = OrderedMap::new(alloc);
+    let Ok(mut values) = OrderedMap::with_capacity(alloc, members.len()) else {
+        return Err(Fault::memory(alloc));
+    };
     for i in 0..members.len() {
         let (name, node) = members.entry_at(i);
         match at_name(

@@ -256,7 +256,9 @@ fn write_properties(
 fn write_named(alloc: Global, values: &OrderedMap<ReferenceOr<Box<Schema>>>) -> Result<Node, Fault>
     ensures { WrittenAs (kinds.map_of (kinds.ref_to kinds.a_schema)) (map_form inner_box_form values.now) result }
 {
-    let mut out = OrderedMap::new(alloc);
+    let Ok(mut out) = OrderedMap::with_capacity(alloc, values.len()) else {
+        return Err(Fault::memory(alloc));
+    };
     for i in 0..values.len() {
         let (name, value) = values.entry_at(i);
         match put_written(

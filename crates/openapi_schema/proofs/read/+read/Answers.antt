@@ -591,8 +591,8 @@ properties-returns-in-Err-clause-count t c =
       next_within any_name ms i n u c.entry_at.ensures refl,
     )
 
-pub properties-returns-in_err-put-in-Ok-clause-count : goal.properties-returns-in_err-put-in-Ok-clause-count
-properties-returns-in_err-put-in-Ok-clause-count t c =
+pub properties-returns-in_err-put-in-Ok-at_name-clause-count : goal.properties-returns-in_err-put-in-Ok-at_name-clause-count
+properties-returns-in_err-put-in-Ok-at_name-clause-count t c =
     let n = c.entry_at.result.0.now in
     let u = c.entry_at.result.1.now in
     let k = ref_to a_schema in
@@ -622,12 +622,12 @@ properties-loop-i-preserved t c =
     let k = ref_to a_schema in
     let ms = c.args.members.now in
     let i = c.loop-i.i in
-    let read = step_ok inner_box_form (named n) k u c.in_inner_box.result c.in-Ok.value c.in-Ok.ensures
+    let read = step_ok inner_box_form (named n) k u c.in_inner_box.result c.in-Ok-at_name.value c.in-Ok-at_name.ensures
     (c.in_inner_box.ensures k u c.schema_ref_from_node.ensures.reads) in
     record {
       holds = next_holds any_name ms i n u c.entry_at.ensures refl k c.loop-i.invariant.holds read.0;
       same = next_same any_name ms i n u c.entry_at.ensures refl inner_box_form k c.loop-i.values c.put.new.out
-          c.in-Ok.value c.loop-i.invariant.same read.1 c.in_ok-put-in-Ok.ensures.ok;
+          c.in-Ok-at_name.value c.loop-i.invariant.same read.1 c.in_ok-put-in-Ok-at_name.ensures.ok;
       rises = omega (arith, c.loop-i.invariant.rises, c.schema_ref_from_node.ensures.rises);
       counted = omega (
         arith,

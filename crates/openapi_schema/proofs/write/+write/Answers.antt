@@ -252,7 +252,7 @@ write_named-loop-i-preserved t c =
     let vs = c.args.values.now in
     let n = c.entry_at.result.0.now in
     let x = c.entry_at.result.1.now in
-    let put = rw c.in-Ok.is at (c.put_written.ensures k (inner_box_form x) c.boxed_schema_ref_to_node.ensures) in
+    let put = rw c.in-Ok-put_written.is at (c.put_written.ensures k (inner_box_form x) c.boxed_schema_ref_to_node.ensures) in
     record {
       written = next_written inner_box_form k vs c.loop-i.i n x c.entry_at.ensures [] c.loop-i.out
           c.put_written.new.out c.loop-i.invariant.written put.0;

@@ -1,5 +1,6 @@
 pub mod AnyForms
 pub mod Appending
+pub mod CloneForms
 pub mod CombinedForms
 pub mod FormatSlots
 pub mod FormSizes
@@ -23,6 +24,7 @@ pub mod SortByNames
 pub mod SortSlots
 pub mod TaggedSlots
 pub mod ToldSorts
+pub mod TypeClones
 pub mod TypeLaws
 pub mod WholeSchemas
 pub mod WrittenForms

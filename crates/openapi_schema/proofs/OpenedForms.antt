@@ -1,5 +1,5 @@
 -- The forms of values that hold schemas, by the forms of their fields.
-use Rattle.std.proofs.Common.{◌≡◌, List, ◌∷◌, ◌∙◌, rules}
+use Rattle.std.proofs.Common.{◌≡◌, List, ◌∷◌, ◌∙◌, sym, rules}
 use Rattle.openapi_tables.specs.Lists.{join}
 use Rattle.openapi_tables.specs.Form.{Form, absent, fields, forms_of}
 use Rattle.openapi_tables.specs.Members.{sort, string_sort, number_sort, integer_sort, boolean_sort}
@@ -29,6 +29,7 @@ use Rattle.openapi_schema.specs.SchemaForms.{
 use Rattle.openapi_schema.specs.declared.any_schema.AnySchema.{AnySchema, out-AnySchema}
 use Rattle.openapi_schema.specs.declared.composite_types.ArrayType.{ArrayType, out-ArrayType}
 use Rattle.openapi_schema.specs.declared.composite_types.ObjectType.{ObjectType, out-ObjectType}
+use Rattle.openapi_schema.specs.declared.schema_data.SchemaData.{SchemaData}
 use Rattle.openapi_schema.specs.declared.scalar_types.BooleanType.{BooleanType}
 use Rattle.openapi_schema.specs.declared.scalar_types.IntegerType.{IntegerType}
 use Rattle.openapi_schema.specs.declared.scalar_types.NumberType.{NumberType}
@@ -39,8 +40,10 @@ use Rattle.openapi_schema.specs.declared.schema.AdditionalProperties.TheFolds.{
   fold_out-ArrayType,
   fold_out-ObjectType,
   fold_out-Schema,
+  fold-roll-Schema,
 }
-use Rattle.openapi_schema.specs.declared.schema.Schema.{Schema, out-Schema}
+use Rattle.openapi_schema.specs.declared.schema.Schema.{Schema, out-Schema, roll-Schema}
+use Rattle.openapi_schema.specs.declared.schema.SchemaKind.{SchemaKind}
 use Rattle.openapi_schema.specs.declared.schema.SchemaKind.TheVariants as kind
 use Rattle.openapi_schema.specs.declared.schema.SchemaType.{SchemaType}
 use Rattle.openapi_schema.specs.declared.schema.SchemaType.TheVariants as typ
@@ -97,3 +100,15 @@ pub schema_form-out : (x : Schema) → schema_form x
 schema_form-out x =
     fold_out-Schema Form Sorted Sorted (List Form) (List Form) (List Form) Form additional_step schema_kind_step
     schema_type_step any_schema_step array_type_step object_type_step schema_step x
+
+-- a schema of parts that have the forms of another's has its form
+pub schema-same : (x : Schema) (d : SchemaData) (k : SchemaKind)
+    → schema_data_rows d ≡ schema_data_rows (out-Schema x).schema_data
+    → schema_kind_rows k ≡ schema_kind_rows (out-Schema x).schema_kind
+    → schema_form (roll-Schema (record { schema_data = d; schema_kind = k })) ≡ schema_form x
+schema-same x d k same_data same_kind =
+    fold-roll-Schema Form Sorted Sorted (List Form) (List Form) (List Form) Form additional_step schema_kind_step
+    schema_type_step any_schema_step array_type_step object_type_step schema_step
+    (record { schema_data = d; schema_kind = k })
+    ∙ (λ i. fields (sort (same_kind i).0) (forms_of (join (same_data i) (same_kind i).1)))
+    ∙ sym (schema_form-out x)

@@ -16,7 +16,7 @@ use std::alloc::Global;
 
 /// A schema with any combination of the members that tell the kinds of schemas apart.
 #[cycle(schema)]
-#[derive(Clone, Debug, PartialEq, Drop)]
+#[derive(Debug, PartialEq, Drop)]
 pub struct AnySchema {
     /// `type`: any text.
     pub typ: Option<String>,

@@ -17,7 +17,7 @@ use std::alloc::Global;
 
 /// A schema of `type` `object`.
 #[cycle(schema)]
-#[derive(Clone, Debug, PartialEq, Drop)]
+#[derive(Debug, PartialEq, Drop)]
 pub struct ObjectType {
     /// What the members of these names may be.
     pub properties: OrderedMap<ReferenceOr<Box<Schema>>>,
@@ -54,7 +54,7 @@ impl ObjectType {
 
 /// A schema of `type` `array`.
 #[cycle(schema)]
-#[derive(Clone, Debug, PartialEq, Drop)]
+#[derive(Debug, PartialEq, Drop)]
 pub struct ArrayType {
     /// What the elements may be.
     pub items: Option<ReferenceOr<Box<Schema>>>,

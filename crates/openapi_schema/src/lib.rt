@@ -4,6 +4,7 @@
 mod any_parts;
 mod any_schema;
 mod boxes;
+mod clone;
 mod composite_types;
 mod enumeration;
 mod from_node;

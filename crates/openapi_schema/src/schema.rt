@@ -7,7 +7,7 @@ use openapi_values::ReferenceOr;
 
 /// The Schema Object: what values may be.
 #[cycle(schema)]
-#[derive(Clone, Debug, PartialEq, Drop)]
+#[derive(Debug, PartialEq, Drop)]
 pub struct Schema {
     /// What every kind of schema can say.
     pub schema_data: SchemaData,
@@ -17,7 +17,7 @@ pub struct Schema {
 
 /// The kinds of schemas.
 #[cycle(schema)]
-#[derive(Clone, Debug, PartialEq, Drop)]
+#[derive(Debug, PartialEq, Drop)]
 pub enum SchemaKind {
     /// A schema with a `type`, and no member that this type does not have.
     Typed(SchemaType),
@@ -35,7 +35,7 @@ pub enum SchemaKind {
 
 /// The `type` of a schema, with the members that it has.
 #[cycle(schema)]
-#[derive(Clone, Debug, PartialEq, Drop)]
+#[derive(Debug, PartialEq, Drop)]
 pub enum SchemaType {
     /// `string`
     String(StringType),
@@ -56,7 +56,7 @@ pub type Type = SchemaType;
 
 /// What members of an object may be that its schema does not name.
 #[cycle(schema)]
-#[derive(Clone, Debug, PartialEq, Drop)]
+#[derive(Debug, PartialEq, Drop)]
 pub enum AdditionalProperties {
     /// Whether there may be any.
     Any(bool),

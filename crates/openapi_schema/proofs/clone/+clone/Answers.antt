@@ -1,0 +1,196 @@
+use Rattle.std.proofs.Common.{◌∙◌, ◌∷◌, [], sym, ap, arith, take, string_bytes}
+use Rattle.openapi_map.specs.Entries.{get}
+use Rattle.openapi_map.proofs.EntryLemmas.{absent-next}
+use Rattle.openapi_tables.specs.Form.{absent, leaf}
+use Rattle.openapi_tables.specs.Lists.{each}
+use Rattle.openapi_tables.specs.Members.{string_sort, number_sort, integer_sort, boolean_sort, object_sort}
+use Rattle.openapi_tables.specs.Members.{one_of_sort, all_of_sort, any_of_sort, any_sort}
+use Rattle.openapi_rows.specs.Forms.{text_form, flag_form, number_form, size_form, optional_form}
+use Rattle.openapi_schema.specs.Reading.{ref_form, inner_box_form}
+use Rattle.openapi_schema.specs.SchemaForms.{Sorted, schema_kind_rows, schema_type_rows}
+use Rattle.openapi_schema.specs.declared.any_schema.AnySchema.{out-AnySchema}
+use Rattle.openapi_schema.specs.declared.composite_types.ObjectType.{out-ObjectType}
+use Rattle.openapi_schema.specs.declared.schema.Schema.{out-Schema}
+use Rattle.openapi_schema.proofs.AnyForms.{any_rows-roll}
+use Rattle.openapi_schema.proofs.CloneForms.{IsSame, IsTextClone, get-absent, list-clone, pairs-next, text-clone}
+use Rattle.openapi_schema.proofs.CombinedForms.{one_of_rows-kind, all_of_rows-kind, any_of_rows-kind}
+use Rattle.openapi_schema.proofs.FormSizes.{element_smaller, rows_size, value_smaller}
+use Rattle.openapi_schema.proofs.KindForms.{any_rows-kind, object_rows-roll}
+use Rattle.openapi_schema.proofs.OpenedForms.{any_rows-out, object_rows-out, object_rows-type, schema-same}
+use Rattle.openapi_schema.proofs.OpenedForms.{string_rows-type, number_rows-type, integer_rows-type, boolean_rows-type}
+use Rattle.openapi_schema.proofs.TypeClones.{texts-clone, data-clone, string-clone, number-clone, integer-clone}
+use Rattle.openapi_schema.proofs.TypeClones.{boolean-clone}
+use Rattle.openapi_schema.proofs.clone.+clone.Goals as goal
+
+pub clone_kind-clone_refs-requires : goal.clone_kind-clone_refs-requires
+clone_kind-clone_refs-requires t c =
+    let size = ap (λ k. rows_size (schema_kind_rows k).1) c.in-OneOf.is
+    ∙ ap (λ (s : Sorted). rows_size s.1) (one_of_rows-kind c.in-OneOf.one_of) in
+    (omega (arith, size, c.decreases), tt)
+
+pub clone_kind-clone_refs-requires-in-AllOf : goal.clone_kind-clone_refs-requires-in-AllOf
+clone_kind-clone_refs-requires-in-AllOf t c =
+    let size = ap (λ k. rows_size (schema_kind_rows k).1) c.in-AllOf.is
+    ∙ ap (λ (s : Sorted). rows_size s.1) (all_of_rows-kind c.in-AllOf.all_of) in
+    (omega (arith, size, c.decreases), tt)
+
+pub clone_kind-clone_refs-requires-in-AnyOf : goal.clone_kind-clone_refs-requires-in-AnyOf
+clone_kind-clone_refs-requires-in-AnyOf t c =
+    let size = ap (λ k. rows_size (schema_kind_rows k).1) c.in-AnyOf.is
+    ∙ ap (λ (s : Sorted). rows_size s.1) (any_of_rows-kind c.in-AnyOf.any_of) in
+    (omega (arith, size, c.decreases), tt)
+
+pub clone_kind-clone_any-requires : goal.clone_kind-clone_any-requires
+clone_kind-clone_any-requires t c =
+    let size = ap (λ k. rows_size (schema_kind_rows k).1) c.in-Any.is
+    ∙ ap (λ (s : Sorted). rows_size s.1) (any_rows-kind c.in-Any.any) ∙ ap rows_size (any_rows-out c.in-Any.any) in
+    (omega (arith, size, c.decreases), tt)
+
+pub clone_kind-returns-in_ok-clone_refs-in-OneOf : goal.clone_kind-returns-in_ok-clone_refs-in-OneOf
+clone_kind-returns-in_ok-clone_refs-in-OneOf t c =
+    one_of_rows-kind c.in_ok-clone_refs-in-OneOf.field-0
+    ∙ ap (λ f. (one_of_sort, f ∷ [])) c.in_ok-clone_refs-in-OneOf.ensures
+    ∙ sym (one_of_rows-kind c.in-OneOf.one_of) ∙ sym (ap schema_kind_rows c.in-OneOf.is)
+
+pub clone_kind-returns-in_ok-clone_refs-in-AllOf : goal.clone_kind-returns-in_ok-clone_refs-in-AllOf
+clone_kind-returns-in_ok-clone_refs-in-AllOf t c =
+    all_of_rows-kind c.in_ok-clone_refs-in-AllOf.field-0
+    ∙ ap (λ f. (all_of_sort, f ∷ [])) c.in_ok-clone_refs-in-AllOf.ensures
+    ∙ sym (all_of_rows-kind c.in-AllOf.all_of) ∙ sym (ap schema_kind_rows c.in-AllOf.is)
+
+pub clone_kind-returns-in_ok-clone_refs-in-AnyOf : goal.clone_kind-returns-in_ok-clone_refs-in-AnyOf
+clone_kind-returns-in_ok-clone_refs-in-AnyOf t c =
+    any_of_rows-kind c.in_ok-clone_refs-in-AnyOf.field-0
+    ∙ ap (λ f. (any_of_sort, f ∷ [])) c.in_ok-clone_refs-in-AnyOf.ensures
+    ∙ sym (any_of_rows-kind c.in-AnyOf.any_of) ∙ sym (ap schema_kind_rows c.in-AnyOf.is)
+
+pub clone_kind-returns-in_ok-clone_any-in-Any : goal.clone_kind-returns-in_ok-clone_any-in-Any
+clone_kind-returns-in_ok-clone_any-in-Any t c =
+    let x = c.in-Any.any in
+    let y = c.in_ok-clone_any-in-Any.field-0 in
+    any_rows-kind y
+    ∙ ap (λ fs. (any_sort, fs)) (any_rows-out y ∙ c.in_ok-clone_any-in-Any.ensures ∙ sym (any_rows-out x))
+    ∙ sym (any_rows-kind x) ∙ sym (ap schema_kind_rows c.in-Any.is)
+
+pub clone_type-clone_object-requires : goal.clone_type-clone_object-requires
+clone_type-clone_object-requires t c =
+    let size = ap (λ y. rows_size (schema_type_rows y).1) c.in-Object.is
+    ∙ ap (λ (s : Sorted). rows_size s.1) (object_rows-type c.in-Object.typ)
+    ∙ ap (λ fs. rows_size (absent ∷ fs)) (object_rows-out c.in-Object.typ) in
+    (omega (arith, size, c.decreases), tt)
+
+pub clone_type-returns-in_ok-clone_object-in-Object : goal.clone_type-returns-in_ok-clone_object-in-Object
+clone_type-returns-in_ok-clone_object-in-Object t c =
+    let x = c.in-Object.typ in
+    let y = c.in_ok-clone_object-in-Object.field-0 in
+    object_rows-type y
+    ∙ ap (λ fs. (object_sort, absent ∷ fs))
+    (object_rows-out y ∙ c.in_ok-clone_object-in-Object.ensures ∙ sym (object_rows-out x))
+    ∙ sym (object_rows-type x) ∙ sym (ap schema_type_rows c.in-Object.is)
+
+pub clone_refs-clone_ref-requires : goal.clone_refs-clone_ref-requires
+clone_refs-clone_ref-requires t c =
+    let smaller = element_smaller ref_form c.deref-value-items.result.now c.loop-value.value-index c.value-item.result
+    c.loop-value-test.true c.value-item.is in
+    let size = ap (λ xs. rows_size (each ref_form xs)) c.deref-value-items.ensures.value in
+    (omega (arith, smaller, size, c.decreases), tt)
+
+pub clone_properties-clone_boxed-requires : goal.clone_properties-clone_boxed-requires
+clone_properties-clone_boxed-requires t c =
+    let smaller = value_smaller inner_box_form c.args.values.now c.loop-i.i c.entry_at.result.0.now
+    c.entry_at.result.1.now c.entry_at.ensures in
+    (omega (arith, smaller, c.decreases), tt)
+
+pub clone_properties-push_new-requires : goal.clone_properties-push_new-requires
+clone_properties-push_new-requires t c =
+    let es = c.args.values.now in
+    let i = c.loop-i.i in
+    (λ j. get (c.in_ok-name.ensures.ok j) c.loop-i.clones)
+    ∙ get-absent inner_box_form c.entry_at.result.0.now (take i es) c.loop-i.clones c.loop-i.invariant
+    (absent-next es i (c.entry_at.result.0.now, c.entry_at.result.1.now) c.len-i-end.ensures.distinct
+    c.entry_at.ensures)
+
+pub clone_properties-loop-i-preserved : goal.clone_properties-loop-i-preserved
+clone_properties-loop-i-preserved t c =
+    pairs-next inner_box_form c.args.values.now c.loop-i.i c.entry_at.result.0.now c.entry_at.result.1.now
+    c.entry_at.ensures c.loop-i.clones c.push_new.new.self c.loop-i.invariant (string_bytes c.in_ok-name.name)
+    c.in_ok-clone_boxed.field-0 c.in_ok-name.ensures.ok c.in_ok-clone_boxed.ensures c.in_ok-push_new.ensures.entries
+
+pub clone_object-returns : goal.clone_object-returns
+clone_object-returns t c =
+    let x = out-ObjectType c.args.typ.now in
+    sym (object_rows-out _) ∙ object_rows-roll _
+    ∙ (λ i. c.in_ok-clone_properties.ensures i
+    ∷ list-clone IsTextClone text_form text-clone x.required c.in_ok-clone.field-0 c.in_ok-clone.ensures.cases i
+    ∷ c.in_ok-clone_if_additional.ensures i
+    ∷ optional_form size_form x.min_properties
+    ∷ optional_form size_form x.max_properties
+    ∷ [])
+
+pub clone_any-returns : goal.clone_any-returns
+clone_any-returns t c =
+    let x = out-AnySchema c.args.any.now in
+    sym (any_rows-out _) ∙ any_rows-roll _
+    ∙ (λ i. texts-clone x.typ c.in_ok-clone.field-0 c.in_ok-clone.ensures.cases i
+    ∷ texts-clone x.pattern c.in_ok-clone-2.field-0 c.in_ok-clone-2.ensures.cases i
+    ∷ optional_form number_form x.multiple_of
+    ∷ optional_form flag_form x.exclusive_minimum
+    ∷ optional_form flag_form x.exclusive_maximum
+    ∷ optional_form number_form x.minimum
+    ∷ optional_form number_form x.maximum
+    ∷ c.in_ok-clone_properties.ensures i
+    ∷ list-clone IsTextClone text_form text-clone x.required c.in_ok-clone-3.field-0 c.in_ok-clone-3.ensures.cases i
+    ∷ c.in_ok-clone_if_additional.ensures i
+    ∷ optional_form size_form x.min_properties
+    ∷ optional_form size_form x.max_properties
+    ∷ c.in_ok-clone_items.ensures i
+    ∷ optional_form size_form x.min_items
+    ∷ optional_form size_form x.max_items
+    ∷ optional_form flag_form x.unique_items
+    ∷ list-clone IsSame leaf (λ a b h. ap leaf h) x.enumeration c.in_ok-clone-4.field-0 c.in_ok-clone-4.ensures.cases i
+    ∷ texts-clone x.format c.in_ok-clone-5.field-0 c.in_ok-clone-5.ensures.cases i
+    ∷ optional_form size_form x.min_length
+    ∷ optional_form size_form x.max_length
+    ∷ c.in_ok-clone_refs.ensures i
+    ∷ c.in_ok-clone_refs-2.ensures i
+    ∷ c.in_ok-clone_refs-3.ensures i
+    ∷ c.in_ok-clone_not.ensures i
+    ∷ [])
+
+pub clone_schema-returns : goal.clone_schema-returns
+clone_schema-returns t c =
+    schema-same c.args.schema.now c.in_ok-clone.field-0 c.in_ok-clone_kind.field-0
+    (data-clone (out-Schema c.args.schema.now).schema_data c.in_ok-clone.field-0 c.in_ok-clone.ensures.cases)
+    c.in_ok-clone_kind.ensures
+
+pub clone_type-returns-in_ok-clone-in-String : goal.clone_type-returns-in_ok-clone-in-String
+clone_type-returns-in_ok-clone-in-String t c =
+    let x = c.in-String.typ in
+    let y = c.in_ok-clone-in-String.field-0 in
+    string_rows-type y
+    ∙ ap (λ fs. (string_sort, absent ∷ fs)) (string-clone x y c.in_ok-clone-in-String.ensures.cases)
+    ∙ sym (string_rows-type x) ∙ sym (ap schema_type_rows c.in-String.is)
+
+pub clone_type-returns-in_ok-clone-in-Number : goal.clone_type-returns-in_ok-clone-in-Number
+clone_type-returns-in_ok-clone-in-Number t c =
+    let x = c.in-Number.typ in
+    let y = c.in_ok-clone-in-Number.field-0 in
+    number_rows-type y
+    ∙ ap (λ fs. (number_sort, absent ∷ fs)) (number-clone x y c.in_ok-clone-in-Number.ensures.cases)
+    ∙ sym (number_rows-type x) ∙ sym (ap schema_type_rows c.in-Number.is)
+
+pub clone_type-returns-in_ok-clone-in-Integer : goal.clone_type-returns-in_ok-clone-in-Integer
+clone_type-returns-in_ok-clone-in-Integer t c =
+    let x = c.in-Integer.typ in
+    let y = c.in_ok-clone-in-Integer.field-0 in
+    integer_rows-type y
+    ∙ ap (λ fs. (integer_sort, absent ∷ fs)) (integer-clone x y c.in_ok-clone-in-Integer.ensures.cases)
+    ∙ sym (integer_rows-type x) ∙ sym (ap schema_type_rows c.in-Integer.is)
+
+pub clone_type-returns-in_ok-clone-in-Boolean : goal.clone_type-returns-in_ok-clone-in-Boolean
+clone_type-returns-in_ok-clone-in-Boolean t c =
+    let x = c.in-Boolean.typ in
+    let y = c.in_ok-clone-in-Boolean.field-0 in
+    boolean_rows-type y
+    ∙ ap (λ fs. (boolean_sort, absent ∷ fs)) (boolean-clone x y c.in_ok-clone-in-Boolean.ensures.cases)
+    ∙ sym (boolean_rows-type x) ∙ sym (ap schema_type_rows c.in-Boolean.is)

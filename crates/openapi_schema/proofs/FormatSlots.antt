@@ -31,7 +31,7 @@ use Rattle.openapi_node.specs.Tree.{Tree, null}
 use Rattle.openapi_node.specs.declared.node.Node.{Node}
 use Rattle.openapi_node.specs.declared.fault.Fault.{Fault}
 use Rattle.openapi_tables.specs.Lists.{each}
-use Rattle.openapi_schema.specs.Enumerations.{entry_tree, GivesEntries}
+use Rattle.openapi_parts.specs.Enumerations.{entry_tree, GivesEntries}
 use Rattle.openapi_schema.specs.KindNames.{trees_form}
 use Rattle.openapi_schema.specs.Kinds.{GivesEnumeration, trees_in, trees_or_none}
 use Rattle.openapi_tables.specs.Form.{Form, leaf, known, other, sequence, named, no_forms, no_named, forms_of}

@@ -32,7 +32,7 @@ use Rattle.openapi_rows.specs.Forms.{text_form, optional_form, map_form}
 use Rattle.openapi_values.specs.Reference.{reference_form}
 use Rattle.openapi_values.specs.declared.reference.ReferenceOr.{ReferenceOr}
 use Rattle.openapi_values.specs.declared.reference.ReferenceOr.TheVariants as r
-use Rattle.openapi_schema.specs.Masks.{mask_of, presence, sort_by_names, IsType}
+use Rattle.openapi_parts.specs.Masks.{mask_of, presence, sort_by_names, IsType}
 use Rattle.openapi_schema.specs.RawSlots.{optional_rows}
 use Rattle.openapi_schema.specs.SchemaForms.{
   Sorted,

@@ -4,14 +4,11 @@ pub mod CloneForms
 pub mod CombinedForms
 pub mod FormatSlots
 pub mod FormSizes
-pub mod HeldRows
-pub mod ItemSizes
 pub mod JoinedSlots
 pub mod KindForms
 pub mod KindGives
 pub mod KindSorts
 pub mod KindTests
-pub mod MaskLaws
 pub mod OpenedForms
 pub mod OwnRows
 pub mod PartRows
@@ -20,7 +17,6 @@ pub mod Puts
 pub mod RawSort
 pub mod References
 pub mod SchemaReads
-pub mod SortByNames
 pub mod SortSlots
 pub mod TaggedSlots
 pub mod ToldSorts

@@ -12,7 +12,7 @@ use Rattle.openapi_records.specs.Objects.{external_documentation_rows, discrimin
 use Rattle.openapi_records.specs.declared.discriminator.Discriminator.{Discriminator}
 use Rattle.openapi_records.specs.declared.external_documentation.ExternalDocumentation.{ExternalDocumentation}
 use Rattle.openapi_records.specs.declared.xml.Xml.{Xml}
-use Rattle.openapi_schema.specs.Enumerations.{text_tree, number_tree, signed_tree, flag_tree}
+use Rattle.openapi_parts.specs.Enumerations.{text_tree, number_tree, signed_tree, flag_tree}
 use Rattle.openapi_schema.specs.SchemaForms.{
   entry_form,
   schema_data_rows,
@@ -21,11 +21,11 @@ use Rattle.openapi_schema.specs.SchemaForms.{
   integer_type_rows,
   boolean_type_rows,
 }
-use Rattle.openapi_schema.specs.declared.scalar_types.BooleanType.{BooleanType}
-use Rattle.openapi_schema.specs.declared.scalar_types.IntegerType.{IntegerType}
-use Rattle.openapi_schema.specs.declared.scalar_types.NumberType.{NumberType}
-use Rattle.openapi_schema.specs.declared.scalar_types.StringType.{StringType}
-use Rattle.openapi_schema.specs.declared.schema_data.SchemaData.{SchemaData}
+use Rattle.openapi_parts.specs.declared.scalar_types.BooleanType.{BooleanType}
+use Rattle.openapi_parts.specs.declared.scalar_types.IntegerType.{IntegerType}
+use Rattle.openapi_parts.specs.declared.scalar_types.NumberType.{NumberType}
+use Rattle.openapi_parts.specs.declared.scalar_types.StringType.{StringType}
+use Rattle.openapi_parts.specs.declared.schema_data.SchemaData.{SchemaData}
 use Rattle.openapi_schema.proofs.CloneForms.{
   IsSame,
   IsTextClone,

@@ -12,7 +12,7 @@ use Rattle.openapi_tables.specs.Tree.{members_list}
 use Rattle.openapi_tables.specs.Members.{Sort, sort_of, is_null_or_signed}
 use Rattle.openapi_tables.specs.Form.{Form, sequence, no_forms}
 use Rattle.openapi_rows.specs.Forms.{optional_form}
-use Rattle.openapi_schema.specs.Masks.{sort_by_names}
+use Rattle.openapi_parts.specs.Masks.{sort_by_names}
 use Rattle.openapi_schema.specs.RawSlots.{or_else, optional_rows, sort_slots}
 use Rattle.openapi_schema.specs.SchemaForms.{list_form, entry_form, schema_kind_rows}
 use Rattle.openapi_schema.specs.KindNames.{trees_form, kind_name_rows}

@@ -1,9 +1,7 @@
 pub mod AnyParts
-pub mod Enumerations
 pub mod Fields
 pub mod KindNames
 pub mod Kinds
-pub mod Masks
 pub mod PlainNames
 pub mod Present
 pub mod RawSlots

@@ -8,13 +8,12 @@ ghost use Rattle.openapi_tables.specs.Kind.{a_schema_kind};
 ghost use Rattle.openapi_tables.specs.Tables.{final_tables};
 ghost use Rattle.openapi_tables.specs.ByRow.{AreRows};
 ghost use Rattle.openapi_schema.specs.KindNames.{flags_in, kind_name_rows};
-ghost use Rattle.openapi_schema.specs.Masks.{mask_of, sort_in, sort_by_names};
+ghost use Rattle.openapi_parts.specs.Masks.{mask_of, sort_in, sort_by_names};
 ghost use Rattle.openapi_schema.specs.RawSlots.{optional_rows};
 
-use crate::mask::Mask;
 use crate::schema::{AdditionalProperties, Schema};
-use crate::sort::Sort;
 use openapi_node::{Node, OrderedMap, Whole};
+use openapi_parts::{Mask, Sort};
 use openapi_rows::Object;
 use openapi_values::ReferenceOr;
 

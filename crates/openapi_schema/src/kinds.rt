@@ -2,18 +2,18 @@
 ghost use Rattle.std.specs.Prelude.{◌≡◌, ◌+◌, ◌*◌, ◌≤◌, IfOk, IfErr};
 ghost use Rattle.openapi_node.specs.Fault.{IsMemory};
 ghost use Rattle.openapi_tables.specs.Members as sorts;
-ghost use Rattle.openapi_schema.specs.Enumerations.{text_tree, number_tree, signed_tree, flag_tree};
+ghost use Rattle.openapi_parts.specs.Enumerations.{text_tree, number_tree, signed_tree, flag_tree};
 ghost use Rattle.openapi_schema.specs.Kinds.{GivesEnumeration, GivesLimit, IsEnumeration, IsKindOf};
 ghost use Rattle.openapi_schema.specs.Kinds.{entries_weight, trees_in, trees_or_none};
 
 use crate::any_schema::AnySchema;
 use crate::composite_types::{ArrayType, ObjectType};
-use crate::enumeration::{Entry, copies, entries};
 use crate::kind_names::{FirstNames, LastNames};
-use crate::scalar_types::{BooleanType, IntegerType, NumberType, StringType};
 use crate::schema::{SchemaKind, SchemaType};
-use crate::sort::Sort;
 use openapi_node::{Fault, Node, OrderedMap, Steps, Whole};
+use openapi_parts::{
+    BooleanType, Entry, IntegerType, NumberType, Sort, StringType, copies, entries,
+};
 use std::alloc::Global;
 
 /// The entries of an enumeration as values of one type; no entries where there is no enumeration. None where an entry

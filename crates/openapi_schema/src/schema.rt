@@ -1,8 +1,7 @@
 //! The Schema Object, and what it holds.
 use crate::any_schema::AnySchema;
 use crate::composite_types::{ArrayType, ObjectType};
-use crate::scalar_types::{BooleanType, IntegerType, NumberType, StringType};
-use crate::schema_data::SchemaData;
+use openapi_parts::{BooleanType, IntegerType, NumberType, SchemaData, StringType};
 use openapi_values::ReferenceOr;
 
 /// The Schema Object: what values may be.

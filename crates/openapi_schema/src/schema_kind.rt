@@ -11,8 +11,8 @@ use crate::kinds::{
     string_kind,
 };
 use crate::schema::{Schema, SchemaKind};
-use crate::sort::Sort;
 use openapi_node::{Fault, Steps};
+use openapi_parts::Sort;
 use openapi_values::ReferenceOr;
 use std::alloc::Global;
 

@@ -12,10 +12,10 @@ ghost use Rattle.openapi_schema.specs.TypeForms.{schema_type_sound};
 
 use crate::composite_types::{ArrayType, ObjectType};
 use crate::members::whole_type;
-use crate::scalar_types::{BooleanType, IntegerType, NumberType, StringType};
 use crate::schema::SchemaType;
 use crate::write::type_rows;
 use openapi_node::{Cause, Expected, Fault, Node, OrderedMap, Steps, View};
+use openapi_parts::{BooleanType, IntegerType, NumberType, StringType};
 use openapi_rows::{FromNode, Record, ToNode, tag};
 use openapi_values::Word;
 use std::alloc::Global;

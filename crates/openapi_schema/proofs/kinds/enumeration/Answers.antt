@@ -1,6 +1,6 @@
 use Rattle.std.proofs.Common.{arith}
 use Rattle.openapi_schema.proofs.FormatSlots.{entries_given}
-use Rattle.openapi_schema.proofs.ItemSizes.{length-items_size}
+use Rattle.openapi_parts.proofs.ItemSizes.{length-items_size}
 use Rattle.openapi_schema.proofs.kinds.enumeration.Goals as goal
 
 pub returns-in-Some-clause-reads : goal.returns-in-Some-clause-reads

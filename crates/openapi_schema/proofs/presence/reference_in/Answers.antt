@@ -3,7 +3,7 @@ use Rattle.openapi_node.specs.Tree.{members_of}
 use Rattle.openapi_tables.specs.Kind.{any_tree}
 use Rattle.openapi_tables.specs.Conforms.{text_in}
 use Rattle.openapi_tables.specs.Tables.{final_tables}
-use Rattle.openapi_schema.proofs.HeldRows.{under_found, under_missing}
+use Rattle.openapi_parts.proofs.HeldRows.{under_found, under_missing}
 use Rattle.openapi_schema.proofs.PresentRows.{shown_no_text}
 use Rattle.openapi_schema.proofs.presence.reference_in.Goals as goal
 

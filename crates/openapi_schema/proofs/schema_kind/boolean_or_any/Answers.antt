@@ -1,6 +1,6 @@
 use Rattle.std.proofs.Common.{◌∙◌}
 use Rattle.openapi_tables.specs.Members.{boolean_sort}
-use Rattle.openapi_schema.specs.Enumerations.{flag_tree}
+use Rattle.openapi_parts.specs.Enumerations.{flag_tree}
 use Rattle.openapi_schema.proofs.KindTests.{is_enumeration, boolean_further, passes_by, fails_by}
 use Rattle.openapi_schema.proofs.schema_kind.boolean_or_any.Goals as goal
 

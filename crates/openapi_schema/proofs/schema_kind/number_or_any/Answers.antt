@@ -1,6 +1,6 @@
 use Rattle.std.proofs.Common.{◌∙◌}
 use Rattle.openapi_tables.specs.Members.{number_sort}
-use Rattle.openapi_schema.specs.Enumerations.{number_tree}
+use Rattle.openapi_parts.specs.Enumerations.{number_tree}
 use Rattle.openapi_schema.proofs.KindTests.{is_enumeration, number_further, passes_by, fails_by}
 use Rattle.openapi_schema.proofs.schema_kind.number_or_any.Goals as goal
 

@@ -1,6 +1,6 @@
 use Rattle.std.proofs.Common.{◌∙◌}
 use Rattle.openapi_tables.specs.Members.{string_sort}
-use Rattle.openapi_schema.specs.Enumerations.{text_tree}
+use Rattle.openapi_parts.specs.Enumerations.{text_tree}
 use Rattle.openapi_schema.proofs.KindTests.{is_enumeration, string_further, passes_by, fails_by}
 use Rattle.openapi_schema.proofs.schema_kind.string_or_any.Goals as goal
 

@@ -1,0 +1,4 @@
+pub mod HeldRows
+pub mod ItemSizes
+pub mod MaskLaws
+pub mod SortByNames

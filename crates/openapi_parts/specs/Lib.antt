@@ -1,0 +1,3 @@
+pub mod Enumerations
+pub mod Masks
+pub mod PartForms

@@ -1,0 +1,152 @@
+//! What every kind of schema can say.
+ghost use Rattle.std.proofs.Common.{lit≤, refl};
+ghost use Rattle.std.specs.Prelude.{◌≡◌, ◌+◌, ◌≤◌, ◌*◌, true, false, [], None};
+ghost use Rattle.openapi_tables.specs.Kind.{by, schema_data};
+ghost use Rattle.openapi_tables.proofs.SlotWriting.{final_apart};
+ghost use Rattle.openapi_rows.specs.Forms.{record_form, record_slots};
+ghost use Rattle.openapi_parts.specs.PartForms.{schema_data_rows};
+
+use openapi_node::{Fault, Node, OrderedMap, Steps, View};
+use openapi_records::{Discriminator, ExternalDocumentation, Xml};
+use openapi_rows::{
+    FromNode, Object, Record, ToNode, extensions, optional, or_implied, put_extensions,
+    put_implied, put_optional, read_record, write_record,
+};
+use std::alloc::Global;
+
+/// What every kind of schema can say.
+#[derive(Clone, Debug, PartialEq, Drop)]
+pub struct SchemaData {
+    /// Whether null is allowed too.
+    pub nullable: bool,
+    /// Whether the value is only sent by the server.
+    pub read_only: bool,
+    /// Whether the value is only sent to the server.
+    pub write_only: bool,
+    /// Whether the value is to be used no more.
+    pub deprecated: bool,
+    /// Where more is said of the value.
+    pub external_docs: Option<ExternalDocumentation>,
+    /// An example of a value.
+    pub example: Option<Node>,
+    /// A name for people.
+    pub title: Option<String>,
+    /// What the value stands for.
+    pub description: Option<String>,
+    /// Which member of a value tells the schema that it is of.
+    pub discriminator: Option<Discriminator>,
+    /// The value where there is none.
+    pub default: Option<Node>,
+    /// How the value is written in XML.
+    pub xml: Option<Xml>,
+    /// Extensions, by names that begin with `x-`.
+    pub extensions: OrderedMap<Node>,
+}
+
+impl SchemaData {
+    /// No flag is set, and nothing else is said.
+    pub fn new(alloc: Global) -> SchemaData
+        ensures nullable { result.nullable ≡ false }
+        ensures read_only { result.read_only ≡ false }
+        ensures write_only { result.write_only ≡ false }
+        ensures deprecated { result.deprecated ≡ false }
+        ensures external_docs { result.external_docs ≡ None }
+        ensures example { result.example ≡ None }
+        ensures title { result.title ≡ None }
+        ensures description { result.description ≡ None }
+        ensures discriminator { result.discriminator ≡ None }
+        ensures default { result.default ≡ None }
+        ensures xml { result.xml ≡ None }
+        ensures extensions { result.extensions ≡ [] }
+    {
+        SchemaData {
+            nullable: false,
+            read_only: false,
+            write_only: false,
+            deprecated: false,
+            external_docs: None,
+            example: None,
+            title: None,
+            description: None,
+            discriminator: None,
+            default: None,
+            xml: None,
+            extensions: OrderedMap::new(alloc),
+        }
+    }
+}
+
+impl Object for SchemaData {
+    ghost object = { by schema_data };
+
+    ghost slots_of = { record_slots schema_data schema_data_rows };
+
+    ghost apart = { λ x. final_apart schema_data (schema_data_rows x) };
+}
+
+#[tactic(auto, unfolding(openapi_tables::specs::Tables::final_tables, openapi_tables::specs::Tables::tables_with))]
+impl Record for SchemaData {
+    ghost rows_of = { schema_data_rows };
+
+    fn from_members(
+        alloc: Global,
+        members: &OrderedMap<Node>,
+        steps: &mut Steps,
+    ) -> Result<SchemaData, Fault> {
+        Ok(SchemaData {
+            nullable: or_implied::<Self, _>(alloc, members, "nullable", steps)?,
+            read_only: or_implied::<Self, _>(alloc, members, "readOnly", steps)?,
+            write_only: or_implied::<Self, _>(alloc, members, "writeOnly", steps)?,
+            deprecated: or_implied::<Self, _>(alloc, members, "deprecated", steps)?,
+            external_docs: optional::<Self, _>(alloc, members, "externalDocs", steps)?,
+            example: optional::<Self, _>(alloc, members, "example", steps)?,
+            title: optional::<Self, _>(alloc, members, "title", steps)?,
+            description: optional::<Self, _>(alloc, members, "description", steps)?,
+            discriminator: optional::<Self, _>(alloc, members, "discriminator", steps)?,
+            default: optional::<Self, _>(alloc, members, "default", steps)?,
+            xml: optional::<Self, _>(alloc, members, "xml", steps)?,
+            extensions: extensions::<Self>(alloc, members, steps)?,
+        })
+    }
+
+    fn put_rows(&self, alloc: Global, out: &mut OrderedMap<Node>) -> Result<(), Fault> {
+        put_implied(alloc, self, out, "nullable", &self.nullable)?;
+        put_implied(alloc, self, out, "readOnly", &self.read_only)?;
+        put_implied(alloc, self, out, "writeOnly", &self.write_only)?;
+        put_implied(alloc, self, out, "deprecated", &self.deprecated)?;
+        put_optional(alloc, self, out, "externalDocs", &self.external_docs)?;
+        put_optional(alloc, self, out, "example", &self.example)?;
+        put_optional(alloc, self, out, "title", &self.title)?;
+        put_optional(alloc, self, out, "description", &self.description)?;
+        put_optional(alloc, self, out, "discriminator", &self.discriminator)?;
+        put_optional(alloc, self, out, "default", &self.default)?;
+        put_optional(alloc, self, out, "xml", &self.xml)?;
+        put_extensions(alloc, self, out, &self.extensions)
+    }
+
+    ghost by_table = { refl };
+
+    ghost by_rows = { λ x. refl };
+}
+
+impl FromNode for SchemaData {
+    ghost kind = { by schema_data };
+
+    ghost form_of = { record_form schema_data_rows };
+
+    fn from_view(alloc: Global, view: &View<'_>, steps: &mut Steps) -> Result<SchemaData, Fault> {
+        read_record(alloc, view, steps)
+    }
+
+    ghost few = { lit≤ tt };
+
+    ghost well_made = { refl };
+}
+
+impl ToNode for SchemaData {
+    fn to_node(&self, alloc: Global) -> Result<Node, Fault> {
+        write_record(alloc, self)
+    }
+
+    ghost there = { λ x. refl };
+}

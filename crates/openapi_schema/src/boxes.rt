@@ -1,13 +1,9 @@
 //! Schemas and references to them, put into the boxes in which other schemas hold them.
-ghost use Rattle.std.specs.Prelude.{◌≡◌, codes, None};
 ghost use Rattle.openapi_node.specs.Tree.{Members, Tree, object};
 ghost use Rattle.openapi_rows.specs.Gives.{Gives};
-ghost use Rattle.openapi_tables.specs.Conforms.{text_in};
 ghost use Rattle.openapi_tables.specs.Kind.{Kind, a_schema, flag_or_schema, ref_to};
-ghost use Rattle.openapi_tables.specs.Members.{held};
-ghost use Rattle.openapi_tables.specs.Tree.{members_list};
 ghost use Rattle.openapi_schema.specs.Reading.{ref_form, inner_box_form, outer_box_form};
-ghost use Rattle.openapi_schema.specs.SchemaForms.{additional_form, schema_form};
+ghost use Rattle.openapi_schema.specs.SchemaForms.{additional_form};
 
 use crate::schema::{AdditionalProperties, Schema};
 use openapi_node::Fault;
@@ -45,17 +41,6 @@ pub(crate) fn in_outer_box(
             Ok(value) => Ok(value),
             Err(_) => Err(Fault::memory(alloc)),
         },
-        Err(fault) => Err(fault),
-    }
-}
-
-/// What was read of an object with no text under `$ref`.
-pub(crate) fn in_item(read: Result<Schema, Fault>) -> Result<ReferenceOr<Schema>, Fault>
-    ensures { (ms : Members) → text_in (held (codes "$ref") (members_list ms)) ≡ None
-        → Gives schema_form read a_schema (object ms) → Gives ref_form result (ref_to a_schema) (object ms) }
-{
-    match read {
-        Ok(schema) => Ok(ReferenceOr::Item(schema)),
         Err(fault) => Err(fault),
     }
 }

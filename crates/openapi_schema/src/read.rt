@@ -17,7 +17,7 @@ ghost use Rattle.openapi_schema.specs.Reading.{GivesKind, GivesPart, first_optio
 ghost use Rattle.openapi_schema.specs.Reading.{any_name, ref_form, inner_box_form, outer_box_form};
 ghost use Rattle.openapi_schema.specs.SchemaForms.{additional_form, schema_form};
 
-use crate::boxes::{in_additional, in_inner_box, in_item, in_outer_box};
+use crate::boxes::{in_additional, in_inner_box, in_outer_box};
 use crate::kind_names::{FirstNames, LastNames};
 use crate::plain_names::{read_plain_first, read_plain_last};
 use crate::presence::{as_member, present_view, reference_in};
@@ -25,7 +25,7 @@ use crate::schema::{AdditionalProperties, Schema, SchemaKind};
 use crate::schema_kind::schema_kind;
 use openapi_node::{Cause, Expected, Fault, Node, OrderedMap, Steps, View};
 use openapi_parts::SchemaData;
-use openapi_rows::{Record, at_index, at_name, put};
+use openapi_rows::{Record, at_name, put};
 use openapi_values::ReferenceOr;
 use std::alloc::Global;
 
@@ -62,7 +62,10 @@ pub(crate) fn schema_ref(
     match reference_in(alloc, members, steps) {
         Ok(reference) => match reference {
             Some(reference) => Ok(ReferenceOr::Reference { reference }),
-            None => in_item(schema(alloc, members, steps)),
+            None => match schema(alloc, members, steps) {
+                Ok(schema) => Ok(ReferenceOr::Item(schema)),
+                Err(fault) => Err(fault),
+            },
         },
         Err(fault) => Err(fault),
     }
@@ -293,9 +296,9 @@ fn refs(alloc: Global, nodes: &[Node], steps: &mut Steps) -> Result<Vec<Referenc
         return Err(Fault::memory(alloc));
     };
     for (i, node) in nodes.iter().enumerate() {
-        match at_index(alloc, i, schema_ref_from_node(alloc, node, steps)) {
+        match schema_ref_from_node(alloc, node, steps) {
             Ok(value) => push(alloc, &mut values, value)?,
-            Err(fault) => return Err(fault),
+            Err(fault) => return Err(fault.at_index(alloc, i)),
         }
     }
     Ok(values)

@@ -29,7 +29,7 @@ use Rattle.openapi_schema.specs.SchemaForms.{additional_form, schema_form}
 use Rattle.openapi_schema.proofs.KindGives.{kind_fails, schema_weight-le}
 use Rattle.openapi_schema.proofs.PartRows.{first_whole, first_weight, last_whole, last_weight}
 use Rattle.openapi_schema.proofs.PresentRows.{row_gone, row_read}
-use Rattle.openapi_schema.proofs.References.{reference_reads, data_fails}
+use Rattle.openapi_schema.proofs.References.{reference_reads, item_reads, item_fails, data_fails}
 use Rattle.openapi_schema.proofs.References.{not_object_fails, not_flag_or_object}
 use Rattle.openapi_schema.proofs.SchemaReads.{kind_read, names_rows, names_weight, schema_reads}
 use Rattle.openapi_schema.proofs.SchemaReads.{additional-any}
@@ -68,13 +68,22 @@ pub schema_ref-returns-in-Some-clause-count : goal.schema_ref-returns-in-Some-cl
 schema_ref-returns-in-Some-clause-count t c =
     rw c.in-Object.is (omega (arith, c.reference_in.ensures.count))
 
-pub schema_ref-returns-in-None-clause-reads : goal.schema_ref-returns-in-None-clause-reads
-schema_ref-returns-in-None-clause-reads t c =
-    rw c.in-Object.is (c.in_item.ensures (members_of c.in-Object.members.now) (rw c.in-None.is at
-    c.in-Ok.ensures.reads) c.schema.ensures.reads)
+pub schema_ref-returns-in-Ok-schema-clause-reads : goal.schema_ref-returns-in-Ok-schema-clause-reads
+schema_ref-returns-in-Ok-schema-clause-reads t c =
+    rw c.in-Object.is (item_reads (members_of c.in-Object.members.now) a_schema (rw c.in-None.is at c.in-Ok.ensures.reads)
+    schema_form c.in-Ok-schema.schema c.in-Ok-schema.ensures.reads)
 
-pub schema_ref-returns-in-None-clause-count : goal.schema_ref-returns-in-None-clause-count
-schema_ref-returns-in-None-clause-count t c =
+pub schema_ref-returns-in-Ok-schema-clause-count : goal.schema_ref-returns-in-Ok-schema-clause-count
+schema_ref-returns-in-Ok-schema-clause-count t c =
+    rw c.in-Object.is (omega (arith, c.reference_in.ensures.count, c.schema.ensures.count))
+
+pub schema_ref-returns-in-Err-schema-clause-reads : goal.schema_ref-returns-in-Err-schema-clause-reads
+schema_ref-returns-in-Err-schema-clause-reads t c =
+    rw c.in-Object.is (item_fails (members_of c.in-Object.members.now) a_schema (rw c.in-None.is at c.in-Ok.ensures.reads)
+    c.in-Err-schema.fault c.in-Err-schema.ensures.reads)
+
+pub schema_ref-returns-in-Err-schema-clause-count : goal.schema_ref-returns-in-Err-schema-clause-count
+schema_ref-returns-in-Err-schema-clause-count t c =
     rw c.in-Object.is (omega (arith, c.reference_in.ensures.count, c.schema.ensures.count))
 
 pub schema_ref-returns-in-Err-clause-reads : goal.schema_ref-returns-in-Err-clause-reads
@@ -508,8 +517,8 @@ refs-schema_ref_from_node-requires t c =
     let next = next_item c.args.nodes.now c.loop-i.i c.index-nodes-i.result c.loop-i-test.true c.index-nodes-i.is in
     (omega (arith, next.within, c.decreases), tt)
 
-pub refs-returns-in_err-push-in-Ok-at_index-clause-count : goal.refs-returns-in_err-push-in-Ok-at_index-clause-count
-refs-returns-in_err-push-in-Ok-at_index-clause-count t c =
+pub refs-returns-in_err-push-in-Ok-schema_ref_from_node-clause-count : goal.refs-returns-in_err-push-in-Ok-schema_ref_from_node-clause-count
+refs-returns-in_err-push-in-Ok-schema_ref_from_node-clause-count t c =
     let next = next_item c.args.nodes.now c.loop-i.i c.index-nodes-i.result c.loop-i-test.true c.index-nodes-i.is in
     omega (arith, next.within, c.schema_ref_from_node.ensures.count, c.loop-i.invariant.counted)
 
@@ -524,10 +533,9 @@ refs-returns-in-Err-clause-reads t c =
     let ts = c.args.nodes.now in
     let i = c.loop-i.i in
     let u = c.index-nodes-i.result in
-    fails_above (indexed i) c.in-Err.fault (list_of k) k (list (items_of ts)) u
+    fails_above (indexed i) c.at_index.result (list_of k) k (list (items_of ts)) u
     (item_leads k ts i u c.loop-i-test.true c.index-nodes-i.is)
-    (step_err ref_form (indexed i) k u c.schema_ref_from_node.result c.in-Err.fault c.in-Err.ensures
-    c.schema_ref_from_node.ensures.reads)
+    (c.in-Err.fault, c.at_index.ensures, c.in-Err.ensures.reads)
 
 pub refs-loop-i-preserved : goal.refs-loop-i-preserved
 refs-loop-i-preserved t c =
@@ -535,17 +543,16 @@ refs-loop-i-preserved t c =
     let ts = c.args.nodes.now in
     let i = c.loop-i.i in
     let u = c.index-nodes-i.result in
-    let x = c.in-Ok-at_index.value in
+    let x = c.in-Ok-schema_ref_from_node.value in
     let next = next_item ts i u c.loop-i-test.true c.index-nodes-i.is in
     let here = next_here ts i u c.loop-i-test.true c.index-nodes-i.is in
-    let read = step_ok ref_form (indexed i) k u c.schema_ref_from_node.result x c.in-Ok-at_index.ensures
-    c.schema_ref_from_node.ensures.reads in
+    let read = c.in-Ok-schema_ref_from_node.ensures.reads in
     record {
       holds = ap (every (conforms final_tables k)) here
           ∙ every-more (conforms final_tables k) (take i ts) u c.loop-i.invariant.holds read.0;
       same = ap (each (form final_tables k)) here ∙ each-more (form final_tables k) (take i ts) u
           ∙ (λ j. c.loop-i.invariant.same j ++ read.1 j ∷ [])
-          ∙ sym (ap (each ref_form) c.in_ok-push-in-Ok-at_index.ensures.ok ∙ each-more ref_form c.loop-i.values.items
+          ∙ sym (ap (each ref_form) c.in_ok-push-in-Ok-schema_ref_from_node.ensures.ok ∙ each-more ref_form c.loop-i.values.items
           x);
       rises = omega (arith, c.schema_ref_from_node.ensures.rises, c.loop-i.invariant.rises);
       counted = omega (arith, next.adds, c.schema_ref_from_node.ensures.count, c.loop-i.invariant.counted);

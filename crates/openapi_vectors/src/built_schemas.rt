@@ -1,11 +1,85 @@
 //! Schemas that are built, and not read.
 
-use crate::trees::{check_tree, write_refusal};
+use crate::trees::{check_same, check_tree, tree, write_refusal};
 use openapiv3::{
-    AnySchema, FromNode, Node, ObjectType, ReferenceOr, Schema, SchemaData, SchemaKind, SchemaType,
-    Steps, StringFormat, StringType, ToNode, VariantOrUnknownOrEmpty, Xml,
+    AdditionalProperties, AnySchema, BooleanType, FromNode, IntegerType, Node, NumberType,
+    ObjectType, ReferenceOr, Schema, SchemaData, SchemaKind, SchemaType, Steps, StringFormat,
+    StringType, ToNode, Type, VariantOrUnknownOrEmpty, Xml,
 };
+use std::fmt::Debug;
 use std::test::Fail;
+
+/// That a new value is what is read of an object without members, and is written as one.
+fn check_empty<T: FromNode + ToNode + PartialEq + Drop>(
+    rt: &HostRuntime,
+    made: T,
+) -> Result<(), Fail> {
+    check_tree(rt, &made.to_node(rt.alloc())?, "{}")?;
+    let mut steps = Steps::new(rt);
+    if T::from_node(rt.alloc(), &tree(rt, "{}")?, &mut steps)? != made {
+        return Err(Fail::from("not what is read of {}"));
+    }
+    Ok(())
+}
+
+#[test]
+fn new_values_are_those_of_empty_objects(rt: HostRuntime) -> Result<(), Fail> {
+    check_empty(&rt, StringType::new(rt.alloc()))?;
+    check_empty(&rt, NumberType::new(rt.alloc()))?;
+    check_empty(&rt, IntegerType::new(rt.alloc()))?;
+    check_empty(&rt, BooleanType::new(rt.alloc()))?;
+    check_empty(&rt, ObjectType::new(rt.alloc()))?;
+    check_empty(&rt, AnySchema::new(rt.alloc()))?;
+    check_empty(&rt, SchemaData::new(rt.alloc()))
+}
+
+#[test]
+fn types_are_written_behind_their_type(rt: HostRuntime) -> Result<(), Fail> {
+    let string: Type = Type::String(StringType::new(rt.alloc()));
+    check_tree(&rt, &string.to_node(rt.alloc())?, r#"{"type":"string"}"#)
+}
+
+#[test]
+fn other_members_are_cloned_and_compared(rt: HostRuntime) -> Result<(), Fail> {
+    let flag = AdditionalProperties::Any(false);
+    let reference = ReferenceOr::ref_(rt.alloc(), "r")?;
+    let schema = AdditionalProperties::Schema(Box::new(rt.alloc(), reference)?);
+    assert!(rt; flag.clone()? == flag);
+    assert!(rt; schema.clone()? == schema);
+    assert!(rt; flag != schema);
+    assert!(rt; flag != AdditionalProperties::Any(true));
+    Ok(())
+}
+
+/// That a value prints as a text for programmers.
+fn check_debug<T: Debug>(rt: &HostRuntime, value: &T, wanted: &str) -> Result<(), Fail> {
+    let found = format!(in rt.alloc(); "{value:?}")?;
+    check_same(rt, found.as_str(), wanted)
+}
+
+#[test]
+fn schemas_print_their_fields(rt: HostRuntime) -> Result<(), Fail> {
+    let string = StringType::new(rt.alloc());
+    check_debug(
+        &rt,
+        &string,
+        "StringType { format: Empty, pattern: None, enumeration: [], min_length: None, max_length: None }",
+    )?;
+    let boolean = BooleanType::new(rt.alloc());
+    check_debug(&rt, &boolean, "BooleanType { enumeration: [] }")?;
+    let object = ObjectType::new(rt.alloc());
+    check_debug(
+        &rt,
+        &SchemaType::Object(object),
+        "Object(ObjectType { properties: {}, required: [], additional_properties: None, min_properties: None, max_properties: None })",
+    )?;
+    check_debug(&rt, &AdditionalProperties::Any(true), "Any(true)")?;
+    let reference = ReferenceOr::ref_(rt.alloc(), "r")?;
+    let not = SchemaKind::Not {
+        not: Box::new(rt.alloc(), reference)?,
+    };
+    check_debug(&rt, &not, r#"Not { not: Reference { reference: "r" } }"#)
+}
 
 #[test]
 fn built_schemas_are_written(rt: HostRuntime) -> Result<(), Fail> {

@@ -15,6 +15,10 @@ mod metadata;
 #[cfg(test)]
 mod references;
 #[cfg(test)]
+mod schema_references;
+#[cfg(test)]
+mod schema_sorts;
+#[cfg(test)]
 mod schema_types;
 #[cfg(test)]
 mod schemas;

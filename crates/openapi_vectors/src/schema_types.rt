@@ -10,7 +10,7 @@ use openapiv3::{
 use std::test::Fail;
 
 /// What every kind of schema can say.
-const SCHEMA_DATA: [Row; 12] = [
+pub const SCHEMA_DATA: [Row; 12] = [
     ("nullable", Flag, "flag", "true"),
     ("readOnly", Flag, "flag", "true"),
     ("writeOnly", Flag, "flag", "true"),
@@ -36,7 +36,7 @@ const SCHEMA_DATA: [Row; 12] = [
 ];
 
 /// The type `string`.
-const STRING: [Row; 5] = [
+pub const STRING: [Row; 5] = [
     ("format", Optional, "text or null", r#""date-time""#),
     ("pattern", Optional, "text", r#""^a$""#),
     ("enum", Listed, "list", r#"["b",null,"a"]"#),
@@ -50,7 +50,7 @@ const STRING: [Row; 5] = [
 ];
 
 /// The types `number` and `integer`.
-const NUMBER: [Row; 7] = [
+pub const NUMBER: [Row; 7] = [
     ("format", Optional, "text or null", r#""unheard-of""#),
     ("multipleOf", Optional, "whole number", "3"),
     ("exclusiveMinimum", Flag, "flag", "true"),
@@ -61,10 +61,10 @@ const NUMBER: [Row; 7] = [
 ];
 
 /// The type `boolean`.
-const BOOLEAN: [Row; 1] = [("enum", Listed, "list", "[true,null,false]")];
+pub const BOOLEAN: [Row; 1] = [("enum", Listed, "list", "[true,null,false]")];
 
 /// The type `object`.
-const OBJECT: [Row; 5] = [
+pub const OBJECT: [Row; 5] = [
     (
         "properties",
         Listed,
@@ -78,7 +78,7 @@ const OBJECT: [Row; 5] = [
 ];
 
 /// The type `array`.
-const ARRAY: [Row; 4] = [
+pub const ARRAY: [Row; 4] = [
     ("items", Optional, "object", r#"{"type":"boolean"}"#),
     ("minItems", Optional, "whole number", "1"),
     ("maxItems", Optional, "whole number", "2"),
@@ -86,7 +86,7 @@ const ARRAY: [Row; 4] = [
 ];
 
 /// A schema of no sort in particular.
-const ANY: [Row; 24] = [
+pub const ANY: [Row; 24] = [
     ("type", Optional, "text", r#""file""#),
     ("pattern", Optional, "text", r#""^a$""#),
     ("multipleOf", Optional, "whole number", "3"),
@@ -142,6 +142,11 @@ fn scalar_types_are_read_alone(rt: HostRuntime) -> Result<(), Fail> {
         (r#"{"minLength":-1}"#, Err("invalid value at #/minLength")),
     ];
     check_texts::<StringType>(&rt, &strings)?;
+    let flags = [(
+        r#"{"enum":[true,null,1]}"#,
+        Err("invalid type, expected flag or null at #/enum/2"),
+    )];
+    check_texts::<BooleanType>(&rt, &flags)?;
     let numbers = [
         (
             r#"{"exclusiveMinimum":null}"#,
@@ -150,6 +155,10 @@ fn scalar_types_are_read_alone(rt: HostRuntime) -> Result<(), Fail> {
         (
             r#"{"enum":[18446744073709551615]}"#,
             Ok(r#"{"enum":[18446744073709551615]}"#),
+        ),
+        (
+            r#"{"enum":["1"]}"#,
+            Err("invalid type, expected whole number or null at #/enum/0"),
         ),
     ];
     check_texts::<NumberType>(&rt, &numbers)?;
@@ -161,6 +170,10 @@ fn scalar_types_are_read_alone(rt: HostRuntime) -> Result<(), Fail> {
         (
             r#"{"enum":[9223372036854775808]}"#,
             Err("invalid value at #/enum/0"),
+        ),
+        (
+            r#"{"enum":[null,true]}"#,
+            Err("invalid type, expected whole number or null at #/enum/1"),
         ),
     ];
     check_texts::<IntegerType>(&rt, &integers)
@@ -174,7 +187,15 @@ fn composite_types_follow_their_tables(rt: HostRuntime) -> Result<(), Fail> {
 
 #[test]
 fn schemas_of_no_sort_follow_their_table(rt: HostRuntime) -> Result<(), Fail> {
-    check_table::<AnySchema>(&rt, &ANY)
+    check_table::<AnySchema>(&rt, &ANY)?;
+    let rows = [
+        (
+            r#"{"enum":null}"#,
+            Err("invalid type, expected list at #/enum"),
+        ),
+        (r#"{"exclusiveMinimum":null}"#, Ok("{}")),
+    ];
+    check_texts::<AnySchema>(&rt, &rows)
 }
 
 #[test]

@@ -61,19 +61,33 @@ fn members(
 }
 
 /// The full tree in written order is cleaned to itself, and so it is with an unknown name and with its members in
-/// another order; each row left out, null or of another kind is answered by its mode; a clone equals its source.
+/// another order; each row left out, null or of another kind is answered by its mode; a clone equals its source, and
+/// what is read without a row differs from it.
 pub fn check_table<T: FromNode + ToNode + Clone + PartialEq + Drop>(
     rt: &HostRuntime,
     rows: &[Row],
 ) -> Result<(), Fail> {
+    check_rows::<T>(rt, rows, 0)
+}
+
+/// The same, but that the rows before a place stay as they are.
+pub fn check_rows<T: FromNode + ToNode + Clone + PartialEq + Drop>(
+    rt: &HostRuntime,
+    rows: &[Row],
+    first: usize,
+) -> Result<(), Fail> {
     let full = members(rt, rows, rows.len(), &[])?;
     check_members::<T>(rt, full.as_slice(), Ok(full.as_slice()))?;
     check_order::<T>(rt, rows, full.as_slice())?;
+    check_clone::<T>(rt, full.as_slice())?;
     for (place, row) in rows.iter().enumerate() {
-        check_missing::<T>(rt, rows, place, row)?;
-        check_null::<T>(rt, rows, place, row)?;
-        check_kind::<T>(rt, rows, place, row)?;
-        check_silent::<T>(rt, rows, place, row)?;
+        if place >= first {
+            check_missing::<T>(rt, rows, place, row)?;
+            check_null::<T>(rt, rows, place, row)?;
+            check_kind::<T>(rt, rows, place, row)?;
+            check_silent::<T>(rt, rows, place, row)?;
+            check_differs::<T>(rt, rows, place, row)?;
+        }
     }
     Ok(())
 }
@@ -181,7 +195,7 @@ fn check_kind<T: FromNode + ToNode + Drop>(
 
 /// What each mode says beside: the value that is not written, the default, the text that is not of the set, and the
 /// second of two names, alone, before the first and behind it.
-fn check_silent<T: FromNode + ToNode + Clone + PartialEq + Drop>(
+fn check_silent<T: FromNode + ToNode + Drop>(
     rt: &HostRuntime,
     rows: &[Row],
     place: usize,
@@ -205,8 +219,7 @@ fn check_silent<T: FromNode + ToNode + Clone + PartialEq + Drop>(
             check_row::<T>(rt, rows, place, &[one, (*other, "null")], &[one])?;
             check_row::<T>(rt, rows, place, &[two, (*name, "null")], &[two])
         }
-        Mode::Extensions => check_clone::<T>(rt, rows, place),
-        Mode::Required | Mode::Optional | Mode::Nullable => Ok(()),
+        Mode::Required | Mode::Optional | Mode::Nullable | Mode::Extensions => Ok(()),
     }
 }
 
@@ -229,20 +242,32 @@ fn check_order<T: FromNode + ToNode + Drop>(
     check_members::<T>(rt, turned.as_slice(), Ok(full))
 }
 
-/// A clone equals its source, and differs from what is read of a tree without extensions.
+/// A clone equals its source.
 fn check_clone<T: FromNode + Clone + PartialEq + Drop>(
     rt: &HostRuntime,
-    rows: &[Row],
-    place: usize,
+    full: &[Member],
 ) -> Result<(), Fail> {
-    let full = members(rt, rows, rows.len(), &[])?;
-    let bare = members(rt, rows, place, &[])?;
-    let value = read::<T>(rt, full.as_slice())?;
+    let value = read::<T>(rt, full)?;
     if value.clone()? != value {
         return Err(Fail::from("a clone differs from its source"));
     }
-    if read::<T>(rt, bare.as_slice())? == value {
-        return Err(Fail::from("equal to a value without extensions"));
+    Ok(())
+}
+
+/// What is read without a row differs from what is read with it, where the row may be left out.
+fn check_differs<T: FromNode + PartialEq + Drop>(
+    rt: &HostRuntime,
+    rows: &[Row],
+    place: usize,
+    (name, mode, _, _): &Row,
+) -> Result<(), Fail> {
+    if matches!(mode, Mode::Required | Mode::OneOf | Mode::Either(_, _)) {
+        return Ok(());
+    }
+    let full = members(rt, rows, rows.len(), &[])?;
+    let bare = members(rt, rows, place, &[])?;
+    if read::<T>(rt, bare.as_slice())? == read::<T>(rt, full.as_slice())? {
+        Err::<(), String>(format!(in rt.alloc(); "equal without `{name}`")?)?;
     }
     Ok(())
 }

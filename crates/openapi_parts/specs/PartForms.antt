@@ -18,10 +18,10 @@ use Rattle.openapi_values.specs.VariantOr.{variant_or_empty_form}
 use Rattle.openapi_values.specs.Words.{number_format_word, integer_format_word, string_format_word}
 use Rattle.openapi_parts.specs.Enumerations.{text_tree, number_tree, signed_tree, flag_tree}
 use Rattle.openapi_parts.specs.declared.schema_data.SchemaData.{SchemaData}
-use Rattle.openapi_parts.specs.declared.scalar_types.StringType.{StringType}
-use Rattle.openapi_parts.specs.declared.scalar_types.NumberType.{NumberType}
-use Rattle.openapi_parts.specs.declared.scalar_types.IntegerType.{IntegerType}
-use Rattle.openapi_parts.specs.declared.scalar_types.BooleanType.{BooleanType}
+use Rattle.openapi_parts.specs.declared.string_type.StringType.{StringType}
+use Rattle.openapi_parts.specs.declared.number_type.NumberType.{NumberType}
+use Rattle.openapi_parts.specs.declared.integer_type.IntegerType.{IntegerType}
+use Rattle.openapi_parts.specs.declared.boolean_type.BooleanType.{BooleanType}
 
 -- entries of enumerations
 abbrev pub entry_form : {X : Type 0} → (X → Tree) → Option X → Form

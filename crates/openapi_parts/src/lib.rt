@@ -2,16 +2,22 @@
 //! The parts of the Schema Object of OpenAPI 3.0.3, section 4.7.24, that hold no schemas: what every kind of schema can
 //! say, the types of texts, numbers and flags, the entries of enumerations, and the sort of a schema by the names that
 //! are present.
+mod boolean_type;
 mod enumeration;
+mod integer_type;
 mod mask;
-mod scalar_types;
+mod number_type;
 mod schema_data;
 mod sort;
+mod string_type;
 #[cfg(test)]
 mod tests;
 
+pub use boolean_type::BooleanType;
 pub use enumeration::{Entry, copies, entries};
+pub use integer_type::IntegerType;
 pub use mask::{Mask, NAMES};
-pub use scalar_types::{BooleanType, IntegerType, NumberType, StringType};
+pub use number_type::NumberType;
 pub use schema_data::SchemaData;
 pub use sort::Sort;
+pub use string_type::StringType;

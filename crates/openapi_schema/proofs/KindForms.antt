@@ -43,10 +43,10 @@ use Rattle.openapi_schema.specs.SchemaForms.{
   size_form,
   list_form,
 }
-use Rattle.openapi_parts.specs.declared.scalar_types.StringType.{StringType}
-use Rattle.openapi_parts.specs.declared.scalar_types.NumberType.{NumberType}
-use Rattle.openapi_parts.specs.declared.scalar_types.IntegerType.{IntegerType}
-use Rattle.openapi_parts.specs.declared.scalar_types.BooleanType.{BooleanType}
+use Rattle.openapi_parts.specs.declared.string_type.StringType.{StringType}
+use Rattle.openapi_parts.specs.declared.number_type.NumberType.{NumberType}
+use Rattle.openapi_parts.specs.declared.integer_type.IntegerType.{IntegerType}
+use Rattle.openapi_parts.specs.declared.boolean_type.BooleanType.{BooleanType}
 use Rattle.openapi_schema.specs.declared.any_schema.AnySchema.{AnySchema}
 use Rattle.openapi_schema.specs.declared.composite_types.ObjectType.{ObjectType, roll-ObjectType}
 use Rattle.openapi_schema.specs.declared.composite_types.ArrayType.{ArrayType, roll-ArrayType}

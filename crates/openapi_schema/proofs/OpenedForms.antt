@@ -30,10 +30,10 @@ use Rattle.openapi_schema.specs.declared.any_schema.AnySchema.{AnySchema, out-An
 use Rattle.openapi_schema.specs.declared.composite_types.ArrayType.{ArrayType, out-ArrayType}
 use Rattle.openapi_schema.specs.declared.composite_types.ObjectType.{ObjectType, out-ObjectType}
 use Rattle.openapi_parts.specs.declared.schema_data.SchemaData.{SchemaData}
-use Rattle.openapi_parts.specs.declared.scalar_types.BooleanType.{BooleanType}
-use Rattle.openapi_parts.specs.declared.scalar_types.IntegerType.{IntegerType}
-use Rattle.openapi_parts.specs.declared.scalar_types.NumberType.{NumberType}
-use Rattle.openapi_parts.specs.declared.scalar_types.StringType.{StringType}
+use Rattle.openapi_parts.specs.declared.boolean_type.BooleanType.{BooleanType}
+use Rattle.openapi_parts.specs.declared.integer_type.IntegerType.{IntegerType}
+use Rattle.openapi_parts.specs.declared.number_type.NumberType.{NumberType}
+use Rattle.openapi_parts.specs.declared.string_type.StringType.{StringType}
 use Rattle.openapi_schema.specs.declared.schema.AdditionalProperties.{the_lemmas}
 use Rattle.openapi_schema.specs.declared.schema.AdditionalProperties.TheFolds.{
   fold_out-AnySchema,

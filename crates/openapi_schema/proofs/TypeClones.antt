@@ -21,10 +21,10 @@ use Rattle.openapi_schema.specs.SchemaForms.{
   integer_type_rows,
   boolean_type_rows,
 }
-use Rattle.openapi_parts.specs.declared.scalar_types.BooleanType.{BooleanType}
-use Rattle.openapi_parts.specs.declared.scalar_types.IntegerType.{IntegerType}
-use Rattle.openapi_parts.specs.declared.scalar_types.NumberType.{NumberType}
-use Rattle.openapi_parts.specs.declared.scalar_types.StringType.{StringType}
+use Rattle.openapi_parts.specs.declared.boolean_type.BooleanType.{BooleanType}
+use Rattle.openapi_parts.specs.declared.integer_type.IntegerType.{IntegerType}
+use Rattle.openapi_parts.specs.declared.number_type.NumberType.{NumberType}
+use Rattle.openapi_parts.specs.declared.string_type.StringType.{StringType}
 use Rattle.openapi_parts.specs.declared.schema_data.SchemaData.{SchemaData}
 use Rattle.openapi_schema.proofs.CloneForms.{
   IsSame,

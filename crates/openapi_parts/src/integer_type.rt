@@ -1,0 +1,135 @@
+//! Schemas of whole numbers.
+ghost use Rattle.std.proofs.Common.{lit≤, refl};
+ghost use Rattle.std.specs.Prelude.{◌≡◌, false, [], None};
+ghost use Rattle.openapi_tables.specs.Kind.{by, integer_type};
+ghost use Rattle.openapi_tables.proofs.SlotWriting.{final_apart};
+ghost use Rattle.openapi_values.specs.declared.variant_or.VariantOrUnknownOrEmpty.TheVariants.{Empty};
+ghost use Rattle.openapi_rows.specs.Forms.{record_form, record_slots};
+ghost use Rattle.openapi_parts.specs.PartForms.{integer_type_rows};
+
+use openapi_node::{Fault, Node, OrderedMap, Steps, View};
+use openapi_rows::{
+    FromNode, Object, Record, ToNode, optional, or_implied, put_implied, put_optional, read_record,
+    write_record,
+};
+use openapi_values::{IntegerFormat, VariantOrUnknownOrEmpty};
+use std::alloc::Global;
+
+/// A schema of `type` `integer`. Its limits fit 64 bits with sign.
+#[derive(Clone, Debug, PartialEq, Drop)]
+pub struct IntegerType {
+    /// How many bits the number has.
+    pub format: VariantOrUnknownOrEmpty<IntegerFormat>,
+    /// What the number is a multiple of.
+    pub multiple_of: Option<i64>,
+    /// Whether the number is to be greater than `minimum`, and not only as great.
+    pub exclusive_minimum: bool,
+    /// Whether the number is to be less than `maximum`, and not only as great.
+    pub exclusive_maximum: bool,
+    /// The least number.
+    pub minimum: Option<i64>,
+    /// The greatest number.
+    pub maximum: Option<i64>,
+    /// `enum`: the numbers that are allowed, null among them.
+    pub enumeration: Vec<Option<i64>>,
+}
+
+impl IntegerType {
+    /// Any whole number.
+    pub fn new(alloc: Global) -> IntegerType
+        ensures format { result.format ≡ Empty }
+        ensures multiple_of { result.multiple_of ≡ None }
+        ensures exclusive_minimum { result.exclusive_minimum ≡ false }
+        ensures exclusive_maximum { result.exclusive_maximum ≡ false }
+        ensures minimum { result.minimum ≡ None }
+        ensures maximum { result.maximum ≡ None }
+        ensures enumeration { result.enumeration.items ≡ [] }
+    {
+        IntegerType {
+            format: VariantOrUnknownOrEmpty::Empty,
+            multiple_of: None,
+            exclusive_minimum: false,
+            exclusive_maximum: false,
+            minimum: None,
+            maximum: None,
+            enumeration: Vec::new(alloc),
+        }
+    }
+}
+
+impl Object for IntegerType {
+    ghost object = { by integer_type };
+
+    ghost slots_of = { record_slots integer_type integer_type_rows };
+
+    ghost apart = { λ x. final_apart integer_type (integer_type_rows x) };
+}
+
+#[tactic(auto, unfolding(openapi_tables::specs::Tables::final_tables, openapi_tables::specs::Tables::tables_with))]
+impl Record for IntegerType {
+    ghost rows_of = { integer_type_rows };
+
+    fn from_members(
+        alloc: Global,
+        members: &OrderedMap<Node>,
+        steps: &mut Steps,
+    ) -> Result<IntegerType, Fault> {
+        Ok(IntegerType {
+            format: or_implied::<Self, _>(alloc, members, "format", steps)?,
+            multiple_of: optional::<Self, _>(alloc, members, "multipleOf", steps)?,
+            exclusive_minimum: or_implied::<Self, _>(alloc, members, "exclusiveMinimum", steps)?,
+            exclusive_maximum: or_implied::<Self, _>(alloc, members, "exclusiveMaximum", steps)?,
+            minimum: optional::<Self, _>(alloc, members, "minimum", steps)?,
+            maximum: optional::<Self, _>(alloc, members, "maximum", steps)?,
+            enumeration: or_implied::<Self, _>(alloc, members, "enum", steps)?,
+        })
+    }
+
+    fn put_rows(&self, alloc: Global, out: &mut OrderedMap<Node>) -> Result<(), Fault> {
+        put_implied(alloc, self, out, "format", &self.format)?;
+        put_optional(alloc, self, out, "multipleOf", &self.multiple_of)?;
+        put_implied(
+            alloc,
+            self,
+            out,
+            "exclusiveMinimum",
+            &self.exclusive_minimum,
+        )?;
+        put_implied(
+            alloc,
+            self,
+            out,
+            "exclusiveMaximum",
+            &self.exclusive_maximum,
+        )?;
+        put_optional(alloc, self, out, "minimum", &self.minimum)?;
+        put_optional(alloc, self, out, "maximum", &self.maximum)?;
+        put_implied(alloc, self, out, "enum", &self.enumeration)
+    }
+
+    ghost by_table = { refl };
+
+    ghost by_rows = { λ x. refl };
+}
+
+impl FromNode for IntegerType {
+    ghost kind = { by integer_type };
+
+    ghost form_of = { record_form integer_type_rows };
+
+    fn from_view(alloc: Global, view: &View<'_>, steps: &mut Steps) -> Result<IntegerType, Fault> {
+        read_record(alloc, view, steps)
+    }
+
+    ghost few = { lit≤ tt };
+
+    ghost well_made = { refl };
+}
+
+impl ToNode for IntegerType {
+    fn to_node(&self, alloc: Global) -> Result<Node, Fault> {
+        write_record(alloc, self)
+    }
+
+    ghost there = { λ x. refl };
+}

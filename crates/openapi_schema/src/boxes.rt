@@ -5,6 +5,7 @@ ghost use Rattle.openapi_tables.specs.Kind.{Kind, a_schema, flag_or_schema, ref_
 ghost use Rattle.openapi_schema.specs.Reading.{ref_form, inner_box_form, outer_box_form};
 ghost use Rattle.openapi_schema.specs.SchemaForms.{additional_form};
 
+use crate::memory::boxed;
 use crate::schema::{AdditionalProperties, Schema};
 use openapi_node::Fault;
 use openapi_values::ReferenceOr;
@@ -20,9 +21,9 @@ pub(crate) fn in_inner_box(
     match read {
         Ok(value) => match value {
             ReferenceOr::Reference { reference } => Ok(ReferenceOr::Reference { reference }),
-            ReferenceOr::Item(schema) => match Box::new(alloc, schema) {
+            ReferenceOr::Item(schema) => match boxed(alloc, schema) {
                 Ok(schema) => Ok(ReferenceOr::Item(schema)),
-                Err(_) => Err(Fault::memory(alloc)),
+                Err(fault) => Err(fault),
             },
         },
         Err(fault) => Err(fault),
@@ -37,10 +38,7 @@ pub(crate) fn in_outer_box(
     ensures { (k : Kind) (t : Tree) → Gives ref_form read k t → Gives outer_box_form result k t }
 {
     match read {
-        Ok(value) => match Box::new(alloc, value) {
-            Ok(value) => Ok(value),
-            Err(_) => Err(Fault::memory(alloc)),
-        },
+        Ok(value) => boxed(alloc, value),
         Err(fault) => Err(fault),
     }
 }

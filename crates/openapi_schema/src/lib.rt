@@ -10,6 +10,7 @@ mod from_node;
 mod kind_names;
 mod kinds;
 mod members;
+mod memory;
 mod plain_names;
 mod presence;
 mod read;

@@ -1,13 +1,12 @@
 //! How schemas are read. The functions call each other in a circle, as schemas hold schemas: each gets a smaller part
 //! of the tree in the end. A value is looked at once, and handed down as the view of that look.
-ghost use Rattle.std.specs.Prelude.{◌≡◌, ◌+◌, ◌*◌, ◌≤◌, [], ◌++◌, ◌∷◌, Some, codes, IfOk, IfErr, OnOk};
+ghost use Rattle.std.specs.Prelude.{◌≡◌, ◌+◌, ◌*◌, ◌≤◌, Some, codes, IfOk};
 ghost use Rattle.openapi_node.specs.Tree.{list, object, items_of, members_of, size_of, items_size, members_size};
 ghost use Rattle.openapi_node.specs.View.{shown};
 ghost use Rattle.openapi_tables.specs.Kind as kinds;
 ghost use Rattle.openapi_tables.specs.ByRow.{is_named, row_where, row_weight, rows_asked, rows_weight};
 ghost use Rattle.openapi_tables.specs.Tables.{final_tables};
 ghost use Rattle.openapi_rows.specs.Entries.{GivesEntries, chosen, entries_size};
-ghost use Rattle.openapi_node.specs.Fault.{IsMemory};
 ghost use Rattle.openapi_rows.specs.Forms.{list_form, map_form, optional_form};
 ghost use Rattle.openapi_rows.specs.Gives.{Gives, GivesRow, Refuses};
 ghost use Rattle.openapi_schema.specs.KindNames.{first_rows, last_rows};
@@ -19,6 +18,7 @@ ghost use Rattle.openapi_schema.specs.SchemaForms.{additional_form, schema_form}
 
 use crate::boxes::{in_additional, in_inner_box, in_outer_box};
 use crate::kind_names::{FirstNames, LastNames};
+use crate::memory::push;
 use crate::plain_names::{read_plain_first, read_plain_last};
 use crate::presence::{as_member, present_view, reference_in};
 use crate::schema::{AdditionalProperties, Schema, SchemaKind};
@@ -69,6 +69,36 @@ pub(crate) fn schema_ref(
         },
         Err(fault) => Err(fault),
     }
+}
+
+/// Reads a schema in a box or a reference to one, of which a look was taken already. Its callers leave it to this
+/// function, and so make no room for a whole schema where none is to be read.
+#[cycle(read)]
+fn boxed_schema_ref(
+    alloc: Global,
+    view: &View<'_>,
+    steps: &mut Steps,
+) -> Result<ReferenceOr<Box<Schema>>, Fault>
+    ensures reads { Gives inner_box_form result (kinds.ref_to kinds.a_schema) (shown view.now) }
+    ensures rises { steps.old ≤ steps.new }
+    ensures count { steps.new + 2 ≤ steps.old + 3 * size_of (shown view.now) }
+{
+    in_inner_box(alloc, schema_ref(alloc, view, steps))
+}
+
+/// Reads a schema or a reference to one, of which a look was taken already, into a box. Its callers leave it to this
+/// function as they leave schemas in boxes to [`boxed_schema_ref`].
+#[cycle(read)]
+fn boxed_ref(
+    alloc: Global,
+    view: &View<'_>,
+    steps: &mut Steps,
+) -> Result<Box<ReferenceOr<Schema>>, Fault>
+    ensures reads { Gives outer_box_form result (kinds.ref_to kinds.a_schema) (shown view.now) }
+    ensures rises { steps.old ≤ steps.new }
+    ensures count { steps.new + 2 ≤ steps.old + 3 * size_of (shown view.now) }
+{
+    in_outer_box(alloc, schema_ref(alloc, view, steps))
 }
 
 /// Reads a schema among the members of an object.
@@ -198,11 +228,7 @@ fn optional_inner_box(
 {
     match present_view(members, name, steps) {
         None => Ok(None),
-        Some(view) => as_member(
-            alloc,
-            name,
-            in_inner_box(alloc, schema_ref(alloc, &view, steps)),
-        ),
+        Some(view) => as_member(alloc, name, boxed_schema_ref(alloc, &view, steps)),
     }
 }
 
@@ -224,11 +250,7 @@ fn optional_outer_box(
 {
     match present_view(members, name, steps) {
         None => Ok(None),
-        Some(view) => as_member(
-            alloc,
-            name,
-            in_outer_box(alloc, schema_ref(alloc, &view, steps)),
-        ),
+        Some(view) => as_member(alloc, name, boxed_ref(alloc, &view, steps)),
     }
 }
 
@@ -270,17 +292,6 @@ fn refs_in(
     match view {
         View::List(nodes) => refs(alloc, nodes, steps),
         _ => Err(Fault::new(alloc, Cause::WrongKind(Expected::List))),
-    }
-}
-
-/// Puts a value last.
-pub(crate) fn push<T: Drop>(alloc: Global, values: &mut Vec<T>, value: T) -> Result<(), Fault>
-    ensures ok { OnOk result (values.new.items ≡ values.old.items ++ value ∷ []) }
-    ensures err { IfErr result IsMemory }
-{
-    match values.push(value) {
-        Ok(()) => Ok(()),
-        Err(_) => Err(Fault::memory(alloc)),
     }
 }
 
@@ -407,7 +418,7 @@ pub(crate) fn additional(
 {
     match view {
         View::Flag(allowed) => Ok(AdditionalProperties::Any(*allowed)),
-        View::Object(_) => in_additional(in_outer_box(alloc, schema_ref(alloc, view, steps))),
+        View::Object(_) => in_additional(boxed_ref(alloc, view, steps)),
         _ => Err(Fault::new(alloc, Cause::WrongKind(Expected::FlagOrObject))),
     }
 }

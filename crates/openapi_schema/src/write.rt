@@ -15,7 +15,7 @@ ghost use Rattle.openapi_schema.specs.Writing.{GivesWritten, RowsWritten, kind_s
 use crate::any_schema::AnySchema;
 use crate::composite_types::{ArrayType, ObjectType};
 use crate::members::{as_some, only_row, put_row, put_written, record_rows, whole_schema};
-use crate::read::push;
+use crate::memory::push;
 use crate::schema::{AdditionalProperties, Schema, SchemaKind, SchemaType};
 use openapi_node::{Fault, Node, OrderedMap};
 use openapi_rows::{put_implied, put_optional, write_reference};

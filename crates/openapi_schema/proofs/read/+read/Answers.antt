@@ -94,6 +94,14 @@ pub schema_ref-returns-in-Err-clause-count : goal.schema_ref-returns-in-Err-clau
 schema_ref-returns-in-Err-clause-count t c =
     rw c.in-Object.is (omega (arith, c.reference_in.ensures.count))
 
+pub boxed_schema_ref-returns-clause-reads : goal.boxed_schema_ref-returns-clause-reads
+boxed_schema_ref-returns-clause-reads t c =
+    c.in_inner_box.ensures (ref_to a_schema) (shown c.args.view.now) c.schema_ref.ensures.reads
+
+pub boxed_ref-returns-clause-reads : goal.boxed_ref-returns-clause-reads
+boxed_ref-returns-clause-reads t c =
+    c.in_outer_box.ensures (ref_to a_schema) (shown c.args.view.now) c.schema_ref.ensures.reads
+
 pub schema-returns-in-Ok-kind-clause-reads : goal.schema-returns-in-Ok-kind-clause-reads
 schema-returns-in-Ok-kind-clause-reads t c =
     schema_reads (record { schema_data = c.in-Ok.schema_data; schema_kind = c.in-Ok-kind.schema_kind })
@@ -297,12 +305,12 @@ pub optional_inner_box-returns-in-Some-clause-reads : goal.optional_inner_box-re
 optional_inner_box-returns-in-Some-clause-reads t c =
     let at : row_where (is_named c.args.name.now) (rows_asked final_tables a_schema_kind) ≡ Some (row c.args.name.now optional (ref_to a_schema)) = search
     rules in
-    row_read inner_box_form c.args.name.now (ref_to a_schema) (members_of c.args.members.now) at (shown c.in-Some.view) c.in_inner_box.result
-    c.as_member.result c.in-Some.ensures.is c.as_member.ensures (c.in_inner_box.ensures (ref_to a_schema) (shown c.in-Some.view) c.schema_ref.ensures.reads)
+    row_read inner_box_form c.args.name.now (ref_to a_schema) (members_of c.args.members.now) at (shown c.in-Some.view) c.boxed_schema_ref.result
+    c.as_member.result c.in-Some.ensures.is c.as_member.ensures c.boxed_schema_ref.ensures.reads
 
 pub optional_inner_box-returns-in-Some-clause-rises : goal.optional_inner_box-returns-in-Some-clause-rises
 optional_inner_box-returns-in-Some-clause-rises t c =
-    omega (arith, c.in-Some.ensures.counted, c.schema_ref.ensures.rises)
+    omega (arith, c.in-Some.ensures.counted, c.boxed_schema_ref.ensures.rises)
 
 pub optional_inner_box-returns-in-Some-clause-count : goal.optional_inner_box-returns-in-Some-clause-count
 optional_inner_box-returns-in-Some-clause-count t c =
@@ -310,12 +318,12 @@ optional_inner_box-returns-in-Some-clause-count t c =
       arith,
       c.in-Some.ensures.counted,
       c.in-Some.ensures.weighs,
-      c.schema_ref.ensures.count,
+      c.boxed_schema_ref.ensures.count,
       weight_of_name c.args.name.now optional optional (ref_to a_schema) any_tree (members_of c.args.members.now),
     )
 
-pub optional_inner_box-schema_ref-requires : goal.optional_inner_box-schema_ref-requires
-optional_inner_box-schema_ref-requires t c =
+pub optional_inner_box-boxed_schema_ref-requires : goal.optional_inner_box-boxed_schema_ref-requires
+optional_inner_box-boxed_schema_ref-requires t c =
     (omega (arith, c.in-Some.ensures.within, c.requires), tt)
 
 pub optional_outer_box-returns-in-None-clause-reads : goal.optional_outer_box-returns-in-None-clause-reads
@@ -332,12 +340,12 @@ pub optional_outer_box-returns-in-Some-clause-reads : goal.optional_outer_box-re
 optional_outer_box-returns-in-Some-clause-reads t c =
     let at : row_where (is_named c.args.name.now) (rows_asked final_tables a_schema_kind) ≡ Some (row c.args.name.now optional (ref_to a_schema)) = search
     rules in
-    row_read outer_box_form c.args.name.now (ref_to a_schema) (members_of c.args.members.now) at (shown c.in-Some.view) c.in_outer_box.result
-    c.as_member.result c.in-Some.ensures.is c.as_member.ensures (c.in_outer_box.ensures (ref_to a_schema) (shown c.in-Some.view) c.schema_ref.ensures.reads)
+    row_read outer_box_form c.args.name.now (ref_to a_schema) (members_of c.args.members.now) at (shown c.in-Some.view) c.boxed_ref.result
+    c.as_member.result c.in-Some.ensures.is c.as_member.ensures c.boxed_ref.ensures.reads
 
 pub optional_outer_box-returns-in-Some-clause-rises : goal.optional_outer_box-returns-in-Some-clause-rises
 optional_outer_box-returns-in-Some-clause-rises t c =
-    omega (arith, c.in-Some.ensures.counted, c.schema_ref.ensures.rises)
+    omega (arith, c.in-Some.ensures.counted, c.boxed_ref.ensures.rises)
 
 pub optional_outer_box-returns-in-Some-clause-count : goal.optional_outer_box-returns-in-Some-clause-count
 optional_outer_box-returns-in-Some-clause-count t c =
@@ -345,12 +353,12 @@ optional_outer_box-returns-in-Some-clause-count t c =
       arith,
       c.in-Some.ensures.counted,
       c.in-Some.ensures.weighs,
-      c.schema_ref.ensures.count,
+      c.boxed_ref.ensures.count,
       weight_of_name c.args.name.now optional optional (ref_to a_schema) any_tree (members_of c.args.members.now),
     )
 
-pub optional_outer_box-schema_ref-requires : goal.optional_outer_box-schema_ref-requires
-optional_outer_box-schema_ref-requires t c =
+pub optional_outer_box-boxed_ref-requires : goal.optional_outer_box-boxed_ref-requires
+optional_outer_box-boxed_ref-requires t c =
     (omega (arith, c.in-Some.ensures.within, c.requires), tt)
 
 pub optional_refs-returns-in-None-clause-reads : goal.optional_refs-returns-in-None-clause-reads
@@ -501,7 +509,7 @@ additional-returns-in-Flag-clause-count t c =
 pub additional-returns-in-Object-clause-reads : goal.additional-returns-in-Object-clause-reads
 additional-returns-in-Object-clause-reads t c =
     rw c.in-Object.is (c.in_additional.ensures (members_of c.in-Object.field-0.now)
-    (rw c.in-Object.is at (c.in_outer_box.ensures (ref_to a_schema) (shown c.args.view.now) c.schema_ref.ensures.reads)))
+    (rw c.in-Object.is at c.boxed_ref.ensures.reads))
 
 pub additional-returns-in_default : goal.additional-returns-in_default
 additional-returns-in_default t c =

@@ -18,6 +18,12 @@ decreases-schema_ref_from_node l = 8 * size_of l.node.now + 1
 abbrev pub decreases-schema_ref : goal.decreases-schema_ref
 decreases-schema_ref l = 8 * size_of (shown l.view.now)
 
+abbrev pub decreases-boxed_schema_ref : goal.decreases-boxed_schema_ref
+decreases-boxed_schema_ref l = 8 * size_of (shown l.view.now) + 1
+
+abbrev pub decreases-boxed_ref : goal.decreases-boxed_ref
+decreases-boxed_ref l = 8 * size_of (shown l.view.now) + 1
+
 abbrev pub decreases-schema : goal.decreases-schema
 decreases-schema l = 8 * members_size (members_of l.members.now) + 6
 
@@ -58,7 +64,7 @@ abbrev pub decreases-optional_additional : goal.decreases-optional_additional
 decreases-optional_additional l = 8 * members_size (members_of l.members.now) + 3
 
 abbrev pub decreases-additional : goal.decreases-additional
-decreases-additional l = 8 * size_of (shown l.view.now) + 1
+decreases-additional l = 8 * size_of (shown l.view.now) + 2
 
 abbrev pub invariant-refs-loop-i : goal.invariant-refs-loop-i
 invariant-refs-loop-i l =

@@ -1,5 +1,5 @@
 -- A tree's data has no float, so the test of data holds exactly where two trees have the same data.
-use Rattle.std.proofs.Common.{◌≡◌, ◌↔◌, IsTrue, Bool, true, false, ◌&&◌, refl, ap, subst, ◌∙◌}
+use Rattle.std.proofs.Common.{◌≡◌, ◌↔◌, IsTrue, Bool, true, false, ◌&&◌, refl, sym, ap, subst, ◌∙◌}
 use Rattle.std.proofs.Common.{true≢false}
 use Rattle.std.proofs.lemmas.Bool.Decides.{Decides-eqb, Decides-int_eq}
 use Rattle.std.proofs.lemmas.Slice.Eq.{bytes_eq-Decides}
@@ -7,7 +7,7 @@ use Rattle.std.specs.Cmp.{both_ways}
 use Rattle.serde_json.specs.Data as json
 use Rattle.serde_json.specs.Data.{Data, unsigned, negative, float}
 use Rattle.serde_json.specs.Written.{has_float, items_have_float, members_have_float}
-use Rattle.openapi_node.specs.Equal.{data_eq, items_eq, members_eq, same_value, same_data}
+use Rattle.openapi_node.specs.Equal.{data_eq, items_eq, members_eq, same_value, same_value-answers, same_data}
 use Rattle.openapi_node.specs.Json.{data_of}
 use Rattle.openapi_node.specs.Tree.{Tree}
 use Rattle.openapi_node.proofs.WholeData.{no_float-data_of, first_of_none, rest_of_none}
@@ -43,6 +43,7 @@ mutual
 -- an answer that is true exactly where the data is the same is what the test answers
 pub told : (b : Bool) (t u : Tree) → IsTrue b ↔ (data_of t ≡ data_of u) → b ≡ same_value t u
 told b t u decides =
-    both_ways b (same_value t u)
+    both_ways b (data_eq (data_of t) (data_of u))
     (λ h. subst (λ d. data_eq (data_of t) d ≡ true) (decides.0 h) (itself (data_of t) (no_float-data_of t)))
     (λ h. decides.1 (same_data _ _ h))
+    ∙ sym (same_value-answers t u)

@@ -38,9 +38,15 @@ abbrev mutual
   members_eq (json.member k d ms) (json.member l e ns) = bytes_eq k l && (data_eq d e && members_eq ms ns)
   members_eq ms ns = false
 
--- whether two trees have the same data
-abbrev pub same_value : Tree → Tree → Bool
+-- Whether two trees have the same data. Nothing outside this module may unfold it, so no reader above learns by equality what
+-- a node holds: only a look that is counted tells that.
+pub same_value : Tree → Tree → Bool
 same_value = on data_of data_eq
+
+-- What it answers, for the proof of this crate alone: the gate refuses a crate above that names this module.
+pub same_value-answers : (t u : Tree) → same_value t u ≡ data_eq (data_of t) (data_of u)
+unfolding same_value
+same_value-answers t u = refl
 
 same_flag : (a b : Bool) → (if a then b else not b) ≡ true → a ≡ b
 same_flag true b h = sym h
@@ -90,4 +96,5 @@ data_eq-per = record {
 
 -- the law of equality
 pub same_value-per : IsPartialEquivalence same_value
+unfolding same_value
 same_value-per = on_per data_of data_eq-per

@@ -22,8 +22,6 @@ use std::mem;
 
 mod iter;
 mod lookup;
-#[cfg(test)]
-mod tests;
 mod traits;
 
 /// A name beside its value.

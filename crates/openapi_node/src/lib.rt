@@ -23,6 +23,3 @@ pub use node::{Node, View};
 pub use openapi_map::OrderedMap;
 pub use steps::Steps;
 pub use whole::Whole;
-
-#[cfg(test)]
-mod tests;

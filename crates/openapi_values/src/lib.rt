@@ -6,8 +6,6 @@ mod reference;
 mod schema;
 mod security_scheme;
 mod status_code;
-#[cfg(test)]
-mod tests;
 mod util;
 mod variant_or;
 mod word;

@@ -1,8 +1,8 @@
 //! The flows of OAuth 2.0.
 
-use crate::tables::Mode::{Optional, Required};
-use crate::tables::{EXTENSIONS, Row, check_table};
-use crate::trees::check_texts;
+use openapi_checks::tables::Mode::{Optional, Required};
+use openapi_checks::tables::{EXTENSIONS, Row, check_table};
+use openapi_checks::trees::check_texts;
 use openapiv3::{
     AuthorizationCodeOAuth2Flow, ClientCredentialsOAuth2Flow, ImplicitOAuth2Flow, OAuth2Flows,
     PasswordOAuth2Flow,

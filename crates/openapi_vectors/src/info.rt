@@ -1,8 +1,8 @@
 //! What the API is, and examples.
 
-use crate::tables::Mode::{Optional, Required};
-use crate::tables::{EXTENSIONS, Row, check_table};
-use crate::trees::{check_texts, check_tree};
+use openapi_checks::tables::Mode::{Optional, Required};
+use openapi_checks::tables::{EXTENSIONS, Row, check_table};
+use openapi_checks::trees::{check_texts, check_tree};
 use openapiv3::{Contact, Example, Info, License, ToNode};
 use std::test::Fail;
 

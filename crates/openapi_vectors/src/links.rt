@@ -1,8 +1,8 @@
 //! Links.
 
-use crate::tables::Mode::{Either, Listed, Optional};
-use crate::tables::{EXTENSIONS, Row, check_table};
-use crate::trees::check_texts;
+use openapi_checks::tables::Mode::{Either, Listed, Optional};
+use openapi_checks::tables::{EXTENSIONS, Row, check_table};
+use openapi_checks::trees::check_texts;
 use openapiv3::{Link, LinkOperation};
 use std::test::Fail;
 

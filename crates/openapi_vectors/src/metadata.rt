@@ -1,9 +1,9 @@
 //! Tags and external documentation.
 
-use crate::tables::Mode::{Optional, Required};
-use crate::tables::{EXTENSIONS, Row, check_table};
-use crate::trees::{check_texts, check_tree, write_refusal};
-use openapiv3::{ExternalDocumentation, Node, OrderedMap, Tag, ToNode};
+use openapi_checks::tables::Mode::{Optional, Required};
+use openapi_checks::tables::{EXTENSIONS, Row, check_table};
+use openapi_checks::trees::{check_texts, check_tree, write_refusal};
+use openapiv3::{ExternalDocumentation, Node, Tag, ToNode};
 use std::test::Fail;
 
 /// Tag Object.
@@ -59,18 +59,20 @@ fn tags_are_refused_at_their_places(rt: HostRuntime) -> Result<(), Fail> {
     check_texts::<Tag>(&rt, &rows)
 }
 
-/// A tag named `t` with one extension of that name, null.
-fn extended(rt: &HostRuntime, name: &str) -> Result<Tag, Fail> {
+/// A tag named `t` with extensions of these names, each null.
+fn extended(rt: &HostRuntime, names: &[&str]) -> Result<Tag, Fail> {
     let mut tag = Tag::new(rt.alloc());
     tag.name.push_str("t")?;
-    tag.extensions
-        .insert(name.to_string(rt.alloc())?, Node::null())?;
+    for name in names {
+        tag.extensions
+            .insert(name.to_string(rt.alloc())?, Node::null())?;
+    }
     Ok(tag)
 }
 
 /// What is said where a tag with one extension of that name is written.
 fn refusal_of(rt: &HostRuntime, name: &str) -> Result<String, Fail> {
-    write_refusal(rt, &extended(rt, name)?)
+    write_refusal(rt, &extended(rt, &[name])?)
 }
 
 // A name that would not be read as an extension again is not written, with its place; `x-` alone is a name of one.
@@ -92,7 +94,7 @@ fn extensions_need_their_prefix(rt: HostRuntime) -> Result<(), Fail> {
 
 #[test]
 fn extensions_need_their_prefix_alone(rt: HostRuntime) -> Result<(), Fail> {
-    let tag = extended(&rt, "x-")?.to_node(rt.alloc())?;
+    let tag = extended(&rt, &["x-"])?.to_node(rt.alloc())?;
     check_tree(&rt, &tag, r#"{"name":"t","x-":null}"#)
 }
 
@@ -122,21 +124,11 @@ fn new_objects_are_empty(rt: HostRuntime) -> Result<(), Fail> {
 // Extensions that differ in their order alone are equal, as maps are.
 #[test]
 fn equality_ignores_the_order_of_extensions(rt: HostRuntime) -> Result<(), Fail> {
-    let one = extended(&rt, "x-a")?;
-    let mut two = extended(&rt, "x-a")?;
-    assert!(rt; one == two);
-    two.extensions
-        .insert("x-b".to_string(rt.alloc())?, Node::null())?;
+    let one = extended(&rt, &["x-a"])?;
+    assert!(rt; one == extended(&rt, &["x-a"])?);
+    let two = extended(&rt, &["x-a", "x-b"])?;
     assert!(rt; one != two);
-    let mut three = Tag::new(rt.alloc());
-    three.name.push_str("t")?;
-    three.extensions = OrderedMap::new(rt.alloc());
-    three
-        .extensions
-        .insert("x-b".to_string(rt.alloc())?, Node::null())?;
-    three
-        .extensions
-        .insert("x-a".to_string(rt.alloc())?, Node::null())?;
-    assert!(rt; two == three);
+    let turned = extended(&rt, &["x-b", "x-a"])?;
+    assert!(rt; two == turned);
     Ok(())
 }

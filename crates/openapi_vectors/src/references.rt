@@ -1,6 +1,6 @@
 //! References, and the items in their place.
 
-use crate::trees::check_texts;
+use openapi_checks::trees::check_texts;
 use openapiv3::{Example, Link, ReferenceOr, SecurityRequirement, SecurityScheme};
 use std::test::Fail;
 
@@ -36,6 +36,8 @@ fn references_stand_for_security_schemes(rt: HostRuntime) -> Result<(), Fail> {
     let rows = [
         (r##"{"$ref":"#/a"}"##, Ok(r##"{"$ref":"#/a"}"##)),
         (r#"{"$ref":null}"#, Err("missing field `type` at #")),
+        ("[]", Err("invalid type, expected object at #")),
+        (r#""http""#, Err("invalid type, expected object at #")),
     ];
     check_texts::<ReferenceOr<SecurityScheme>>(&rt, &rows)
 }

@@ -1,8 +1,8 @@
 //! Security schemes.
 
-use crate::tables::Mode::{OneOf, Optional, Required};
-use crate::tables::{EXTENSIONS, Row, check_table};
-use crate::trees::check_texts;
+use openapi_checks::tables::Mode::{OneOf, Optional, Required};
+use openapi_checks::tables::{EXTENSIONS, Row, check_table};
+use openapi_checks::trees::check_texts;
 use openapiv3::SecurityScheme;
 use std::test::Fail;
 

@@ -1,8 +1,8 @@
 //! Servers, and the names that tell schemas apart.
 
-use crate::tables::Mode::{Listed, Nullable, Optional, Required};
-use crate::tables::{EXTENSIONS, Row, check_table};
-use crate::trees::check_texts;
+use openapi_checks::tables::Mode::{Listed, Nullable, Optional, Required};
+use openapi_checks::tables::{EXTENSIONS, Row, check_table};
+use openapi_checks::trees::check_texts;
 use openapiv3::{Discriminator, Server, ServerVariable};
 use std::test::Fail;
 

@@ -1,6 +1,6 @@
 //! Status codes, formats and references.
 
-use crate::trees::{check_texts, write_refusal};
+use openapi_checks::trees::{check_texts, write_refusal};
 use openapiv3::StatusCode::{Code, Range};
 use openapiv3::{
     Example, IntegerFormat, NumberFormat, ReferenceOr, StatusCode, StringFormat, VariantOrUnknown,

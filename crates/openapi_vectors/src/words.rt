@@ -1,6 +1,6 @@
 //! The words of fixed sets, each read and written.
 
-use crate::trees::{check_cleaned, tree};
+use openapi_checks::trees::{check_cleaned, tree};
 use openapiv3::{
     APIKeyLocation, CookieStyle, FromNode, HeaderStyle, IntegerFormat, NumberFormat, PathStyle,
     QueryStyle, Steps, StringFormat, ToNode, VariantOrUnknown, VariantOrUnknownOrEmpty,

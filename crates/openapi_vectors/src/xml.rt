@@ -1,8 +1,8 @@
 //! How properties are written in XML.
 
-use crate::tables::Mode::{Flag, Optional};
-use crate::tables::{EXTENSIONS, Row, check_table};
-use crate::trees::{check_texts, write_refusal};
+use openapi_checks::tables::Mode::{Flag, Optional};
+use openapi_checks::tables::{EXTENSIONS, Row, check_table};
+use openapi_checks::trees::{check_texts, write_refusal};
 use openapiv3::{Node, Xml};
 use std::test::Fail;
 

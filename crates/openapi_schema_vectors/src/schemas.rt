@@ -1,6 +1,6 @@
 //! Schemas of each sort, from JSON text to JSON text.
 
-use crate::trees::{check_same, check_texts, check_tree, cleaned, tree};
+use openapi_checks::trees::{check_same, check_texts, check_tree, cleaned, tree};
 use openapiv3::{
     AdditionalProperties, FromNode, Node, OrderedMap, Schema, SchemaKind, SchemaType, Steps, ToNode,
 };
@@ -294,6 +294,7 @@ fn schemas_are_refused_where_they_break_a_rule(rt: HostRuntime) -> Result<(), Fa
             r#"{"xml":{"attribute":null}}"#,
             Err("invalid type, expected flag at #/xml/attribute"),
         ),
+        ("null", Err("invalid type, expected object at #")),
     ];
     check_texts::<Schema>(&rt, &rows)
 }

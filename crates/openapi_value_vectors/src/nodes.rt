@@ -1,5 +1,5 @@
-//! Printed texts, worked examples, and each call once with ample memory.
-use crate::{
+//! Nodes, whole numbers and faults.
+use openapi_node::{
     Cause, Expected, Fault, Node, OrderedMap, PlaceStep, Steps, View, Whole, copy_shown,
     find_member,
 };
@@ -220,6 +220,20 @@ fn copies(rt: HostRuntime) -> Result<(), Fail> {
         "Object {\"z\": Number(1), \"a\": Number(2)} Object {\"z\": Number(1), \"a\": Number(2)} \
         Object {\"z\": Number(1), \"a\": Number(2)}"
     );
+    Ok(())
+}
+
+#[test]
+fn long_texts_are_copied(rt: HostRuntime) -> Result<(), Fail> {
+    let alloc = rt.alloc();
+    let mut steps = Steps::new(&rt);
+    let text = "Everything about pets, and more than forty bytes of it.";
+    let node = Node::text(String::from_str(alloc, text)?);
+    let copy = node.copy(alloc, &mut steps)?;
+    match copy.open(&mut steps) {
+        View::Text(copied) => assert_eq!(rt; copied, text),
+        _ => return Err(Fail::from("it is no text")),
+    }
     Ok(())
 }
 

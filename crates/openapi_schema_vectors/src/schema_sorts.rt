@@ -2,7 +2,7 @@
 //! says as much as no member.
 
 use crate::schema_types::{ANY, ARRAY, BOOLEAN, NUMBER, OBJECT, SCHEMA_DATA, STRING};
-use crate::tables::{Mode, Row, check_rows, check_table};
+use openapi_checks::tables::{Mode, Row, check_rows, check_table};
 use openapiv3::{Schema, SchemaKind, SchemaType};
 use std::test::Fail;
 

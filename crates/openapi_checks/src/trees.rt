@@ -1,7 +1,8 @@
 //! Trees from JSON text, and trees as text, with their members in order.
 ghost use Rattle.std.specs.Prelude.{◌≤◌, length};
 
-use openapiv3::{Fault, FromNode, Node, OrderedMap, Steps, ToNode};
+use openapi_node::{Fault, Node, OrderedMap, Steps};
+use openapi_rows::{FromNode, ToNode};
 use serde_json::Value;
 use std::test::Fail;
 

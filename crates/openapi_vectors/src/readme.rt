@@ -1,8 +1,8 @@
-use crate::{Fault, FromNode, Node, OrderedMap, Steps, Tag, ToNode};
+//! The example of the README, as it stands there.
+
+use openapiv3::{Fault, FromNode, Node, OrderedMap, Steps, Tag, ToNode};
 use std::alloc::Global;
 use std::test::Fail;
-
-// The example of the README, as it stands there.
 
 /// The tag that a tree holds, written again: unknown names are gone, and members stand in the order of the Tag Object.
 fn cleaned(alloc: Global, tree: &Node, steps: &mut Steps) -> Result<Node, Fault> {

@@ -1,6 +1,7 @@
 //! Schemas that are built, and not read.
 
-use crate::trees::{check_same, check_tree, tree, write_refusal};
+use crate::schema_references::unwritable;
+use openapi_checks::trees::{check_same, check_tree, tree, write_refusal};
 use openapiv3::{
     AdditionalProperties, AnySchema, BooleanType, FromNode, IntegerType, Node, NumberType,
     ObjectType, ReferenceOr, Schema, SchemaData, SchemaKind, SchemaType, Steps, StringFormat,
@@ -33,10 +34,15 @@ fn new_values_are_those_of_empty_objects(rt: HostRuntime) -> Result<(), Fail> {
     check_empty(&rt, SchemaData::new(rt.alloc()))
 }
 
+/// That a value is written as a tree, member order included.
+fn check_written<T: ToNode + Drop>(rt: &HostRuntime, value: T, wanted: &str) -> Result<(), Fail> {
+    check_tree(rt, &value.to_node(rt.alloc())?, wanted)
+}
+
 #[test]
 fn types_are_written_behind_their_type(rt: HostRuntime) -> Result<(), Fail> {
     let string: Type = Type::String(StringType::new(rt.alloc()));
-    check_tree(&rt, &string.to_node(rt.alloc())?, r#"{"type":"string"}"#)
+    check_written(&rt, string, r#"{"type":"string"}"#)
 }
 
 #[test]
@@ -52,49 +58,45 @@ fn other_members_are_cloned_and_compared(rt: HostRuntime) -> Result<(), Fail> {
 }
 
 /// That a value prints as a text for programmers.
-fn check_debug<T: Debug>(rt: &HostRuntime, value: &T, wanted: &str) -> Result<(), Fail> {
+fn check_debug<T: Debug + Drop>(rt: &HostRuntime, value: T, wanted: &str) -> Result<(), Fail> {
     let found = format!(in rt.alloc(); "{value:?}")?;
     check_same(rt, found.as_str(), wanted)
 }
 
 #[test]
 fn schemas_print_their_fields(rt: HostRuntime) -> Result<(), Fail> {
-    let string = StringType::new(rt.alloc());
     check_debug(
         &rt,
-        &string,
+        StringType::new(rt.alloc()),
         "StringType { format: Empty, pattern: None, enumeration: [], min_length: None, max_length: None }",
     )?;
     let boolean = BooleanType::new(rt.alloc());
-    check_debug(&rt, &boolean, "BooleanType { enumeration: [] }")?;
-    let object = ObjectType::new(rt.alloc());
+    check_debug(&rt, boolean, "BooleanType { enumeration: [] }")?;
     check_debug(
         &rt,
-        &SchemaType::Object(object),
+        SchemaType::Object(ObjectType::new(rt.alloc())),
         "Object(ObjectType { properties: {}, required: [], additional_properties: None, min_properties: None, max_properties: None })",
     )?;
-    check_debug(&rt, &AdditionalProperties::Any(true), "Any(true)")?;
-    let reference = ReferenceOr::ref_(rt.alloc(), "r")?;
+    check_debug(&rt, AdditionalProperties::Any(true), "Any(true)")?;
     let not = SchemaKind::Not {
-        not: Box::new(rt.alloc(), reference)?,
+        not: Box::new(rt.alloc(), ReferenceOr::ref_(rt.alloc(), "r")?)?,
     };
-    check_debug(&rt, &not, r#"Not { not: Reference { reference: "r" } }"#)
+    check_debug(&rt, not, r#"Not { not: Reference { reference: "r" } }"#)
 }
 
 #[test]
 fn built_schemas_are_written(rt: HostRuntime) -> Result<(), Fail> {
-    let plain = StringType::new(rt.alloc());
-    check_tree(&rt, &plain.to_node(rt.alloc())?, "{}")?;
+    check_written(&rt, StringType::new(rt.alloc()), "{}")?;
     let typed = Schema {
         schema_data: SchemaData::new(rt.alloc()),
-        schema_kind: SchemaKind::Typed(SchemaType::String(plain)),
+        schema_kind: SchemaKind::Typed(SchemaType::String(StringType::new(rt.alloc()))),
     };
-    check_tree(&rt, &typed.to_node(rt.alloc())?, r#"{"type":"string"}"#)?;
+    check_written(&rt, typed, r#"{"type":"string"}"#)?;
     let any = Schema {
         schema_data: SchemaData::new(rt.alloc()),
         schema_kind: SchemaKind::Any(AnySchema::new(rt.alloc())),
     };
-    check_tree(&rt, &any.to_node(rt.alloc())?, "{}")
+    check_written(&rt, any, "{}")
 }
 
 #[test]
@@ -129,19 +131,11 @@ fn extensions_of_schemas_need_their_prefix(rt: HostRuntime) -> Result<(), Fail> 
 
 #[test]
 fn extensions_of_members_need_their_prefix(rt: HostRuntime) -> Result<(), Fail> {
-    let mut schema_data = SchemaData::new(rt.alloc());
-    schema_data
-        .extensions
-        .insert("foo".to_string(rt.alloc())?, Node::null())?;
-    let member = Schema {
-        schema_data,
-        schema_kind: SchemaKind::Any(AnySchema::new(rt.alloc())),
-    };
+    let member = ReferenceOr::boxed_item(rt.alloc(), unwritable(&rt)?)?;
     let mut object = ObjectType::new(rt.alloc());
-    object.properties.insert(
-        "p".to_string(rt.alloc())?,
-        ReferenceOr::boxed_item(rt.alloc(), member)?,
-    )?;
+    object
+        .properties
+        .insert("p".to_string(rt.alloc())?, member)?;
     let schema = Schema {
         schema_data: SchemaData::new(rt.alloc()),
         schema_kind: SchemaKind::Typed(SchemaType::Object(object)),

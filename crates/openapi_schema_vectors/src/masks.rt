@@ -1,6 +1,5 @@
 //! The masks of names, and the sorts that they stand for.
-use crate::mask::{Mask, NAMES};
-use crate::sort::Sort;
+use openapi_parts::{Mask, NAMES, Sort};
 
 #[test]
 fn masks_give_the_sort(rt: HostRuntime) {

@@ -1,7 +1,8 @@
 //! One test for every object that has a table.
 
 use crate::trees::{check_cleaned, object};
-use openapiv3::{FromNode, Steps, ToNode};
+use openapi_node::Steps;
+use openapi_rows::{FromNode, ToNode};
 use std::test::Fail;
 
 /// A member of an object: its name, and its value as JSON text.

@@ -1,8 +1,8 @@
 //! What every kind of schema can say, and each type of schema read by itself.
 
-use crate::tables::Mode::{Flag, Listed, Optional};
-use crate::tables::{EXTENSIONS, Row, check_table};
-use crate::trees::check_texts;
+use openapi_checks::tables::Mode::{Flag, Listed, Optional};
+use openapi_checks::tables::{EXTENSIONS, Row, check_table};
+use openapi_checks::trees::check_texts;
 use openapiv3::{
     AnySchema, ArrayType, BooleanType, IntegerType, NumberType, ObjectType, SchemaData, SchemaType,
     StringType,
@@ -226,6 +226,8 @@ fn types_are_told_by_their_word(rt: HostRuntime) -> Result<(), Fail> {
             r#"{"type":"object","required":null}"#,
             Err("invalid type, expected list at #/required"),
         ),
+        (r#""string""#, Err("invalid type, expected object at #")),
+        ("null", Err("invalid type, expected object at #")),
     ];
     check_texts::<SchemaType>(&rt, &rows)
 }

@@ -1,18 +1,21 @@
+//! Status codes, sets of words, formats and references.
 ghost use Rattle.std.specs.Prelude.{◌≡◌, IfOk, is_ok, string_bytes};
 ghost use Rattle.openapi_tables.specs.Lists.{has};
 ghost use Rattle.openapi_tables.specs.Tables.{number_formats};
 ghost use Rattle.openapi_values.specs.VariantOr.{format_form, variant_form};
 ghost use Rattle.openapi_values.specs.Words.{number_format_word};
 
-use crate::*;
 use openapi_node::Whole;
+use openapi_values::{
+    APIKeyLocation, CookieStyle, HeaderStyle, IntegerFormat, NumberFormat, PathStyle, QueryStyle,
+    ReferenceOr, StatusCode, StringFormat, VariantOrUnknown, VariantOrUnknownOrEmpty, Word,
+    is_false,
+};
 use std::alloc::{AllocError, Global};
 use std::fmt;
 use std::process::Abort;
 use std::str::FromStr;
 use std::test::Fail;
-
-mod recursion;
 
 /// Why a reader refuses a text.
 #[derive(Clone, Copy, Debug, PartialEq)]
@@ -180,101 +183,149 @@ fn reads_sets_of_words(rt: HostRuntime) -> Result<(), Fail> {
     Ok(())
 }
 
+/// That a value prints as a text, and as another for programmers.
+fn check_texts<T: fmt::Display + fmt::Debug>(
+    rt: &impl Abort,
+    alloc: Global,
+    value: &T,
+    text: &str,
+    debug: &str,
+) -> Result<(), Fail> {
+    assert_eq!(rt; format!(in alloc; "{value}")?.as_str(), text);
+    assert_eq!(rt; debug_text(alloc, value)?.as_str(), debug);
+    Ok(())
+}
+
 #[test]
-fn prints_formats_and_gives_defaults(rt: HostRuntime) -> Result<(), Fail> {
-    let alloc = rt.alloc();
-    assert_eq!(rt; NumberFormat::Double.to_string(alloc)?.as_str(), "double");
-    assert_eq!(rt; IntegerFormat::Int64.to_string(alloc)?.as_str(), "int64");
-    assert_eq!(rt;
-        StringFormat::DateTime.to_string(alloc)?.as_str(),
-        "date-time"
-    );
-    let padded = format!(in alloc; "{:>7}", StringFormat::Date)?;
+fn prints_formats(rt: HostRuntime) -> Result<(), Fail> {
+    check_texts(&rt, rt.alloc(), &NumberFormat::Double, "double", "Double")?;
+    check_texts(&rt, rt.alloc(), &IntegerFormat::Int64, "int64", "Int64")?;
+    check_texts(
+        &rt,
+        rt.alloc(),
+        &StringFormat::DateTime,
+        "date-time",
+        "DateTime",
+    )?;
+    let padded = format!(in rt.alloc(); "{:>7}", StringFormat::Date)?;
     assert_eq!(rt; padded.as_str(), "   date");
-    assert_eq!(rt;
-        debug_text(alloc, &StringFormat::DateTime)?.as_str(),
-        "DateTime"
-    );
+    Ok(())
+}
+
+#[test]
+fn gives_defaults(rt: HostRuntime) {
     assert_eq!(rt; PathStyle::default(), PathStyle::Simple);
     assert_eq!(rt; QueryStyle::default(), QueryStyle::Form);
     assert_eq!(rt; CookieStyle::default(), CookieStyle::Form);
     assert_eq!(rt; HeaderStyle::default(), HeaderStyle::Simple);
     assert!(rt; is_false(&false) && !is_false(&true));
+}
+
+/// That a text, or none, is kept as a value that prints as another for programmers.
+fn check_kept(
+    rt: &impl Abort,
+    alloc: Global,
+    text: Option<&str>,
+    want: &VariantOrUnknownOrEmpty<StringFormat>,
+    debug: &str,
+) -> Result<(), Fail> {
+    let made = match text {
+        Some(text) => VariantOrUnknownOrEmpty::from(Some(String::from_str(alloc, text)?)),
+        None => VariantOrUnknownOrEmpty::from(None),
+    };
+    assert_eq!(rt; &made, want);
+    assert_eq!(rt; &made.clone()?, want);
+    assert_eq!(rt; made.as_str(), text);
+    assert_eq!(rt; made.is_empty(), text.is_none());
+    assert_eq!(rt; debug_text(alloc, &made)?.as_str(), debug);
+    Ok(())
+}
+
+/// That a text is read as a format.
+fn check_read(
+    rt: &impl Abort,
+    alloc: Global,
+    text: &str,
+    want: &VariantOrUnknownOrEmpty<StringFormat>,
+) -> Result<(), Fail> {
+    assert_eq!(rt; &VariantOrUnknownOrEmpty::from_text(alloc, text)?, want);
     Ok(())
 }
 
 #[test]
-fn keeps_texts_that_are_no_known_word(rt: HostRuntime) -> Result<(), Fail> {
-    let alloc = rt.alloc();
-    let yolo = String::from_str(alloc, "yolo")?;
-    let cases = [
-        (None, VariantOrUnknownOrEmpty::Empty, "Empty"),
-        (
-            Some("date"),
-            VariantOrUnknownOrEmpty::Item(StringFormat::Date),
-            "Item(Date)",
-        ),
-        (
-            Some("yolo"),
-            VariantOrUnknownOrEmpty::Unknown(yolo),
-            "Unknown(\"yolo\")",
-        ),
-    ];
-    for (text, want, debug) in &cases {
-        let made = match text {
-            Some(text) => VariantOrUnknownOrEmpty::from(Some(String::from_str(alloc, *text)?)),
-            None => VariantOrUnknownOrEmpty::from(None),
-        };
-        assert_eq!(rt; &made, want);
-        assert_eq!(rt; &made.clone()?, want);
-        assert_eq!(rt; made.as_str(), *text);
-        assert_eq!(rt; made.is_empty(), text.is_none());
-        assert_eq!(rt; debug_text(alloc, &made)?.as_str(), *debug);
-        if let Some(text) = text {
-            assert_eq!(rt; &VariantOrUnknownOrEmpty::from_text(alloc, *text)?, want);
-        }
-    }
+fn keeps_no_format_and_a_known_one(rt: HostRuntime) -> Result<(), Fail> {
+    check_kept(
+        &rt,
+        rt.alloc(),
+        None,
+        &VariantOrUnknownOrEmpty::Empty,
+        "Empty",
+    )?;
+    let date = VariantOrUnknownOrEmpty::Item(StringFormat::Date);
+    check_kept(&rt, rt.alloc(), Some("date"), &date, "Item(Date)")?;
+    check_read(&rt, rt.alloc(), "date", &date)?;
     assert_eq!(rt;
         VariantOrUnknownOrEmpty::<u8>::default(),
         VariantOrUnknownOrEmpty::Empty
     );
-    let known = number_format(String::from_str(alloc, "double")?);
+    Ok(())
+}
+
+#[test]
+fn keeps_a_text_that_is_no_known_word(rt: HostRuntime) -> Result<(), Fail> {
+    let yolo = VariantOrUnknownOrEmpty::Unknown(String::from_str(rt.alloc(), "yolo")?);
+    check_kept(&rt, rt.alloc(), Some("yolo"), &yolo, "Unknown(\"yolo\")")?;
+    check_read(&rt, rt.alloc(), "yolo", &yolo)
+}
+
+#[test]
+fn converts_texts_of_formats(rt: HostRuntime) -> Result<(), Fail> {
+    let known = number_format(String::from_str(rt.alloc(), "double")?);
     assert_eq!(rt; known.as_str(), "double");
     assert_eq!(rt; known, VariantOrUnknown::Item(NumberFormat::Double));
-    let other = number_format(String::from_str(alloc, "int32")?);
+    let other = number_format(String::from_str(rt.alloc(), "int32")?);
     assert_eq!(rt; other.as_str(), "int32");
+    let read = VariantOrUnknown::from_text(rt.alloc(), "int32")?;
+    assert_eq!(rt; &other.clone()?, &read);
     assert_eq!(rt;
-        &other.clone()?,
-        &VariantOrUnknown::from_text(alloc, "int32")?
-    );
-    assert_eq!(rt; debug_text(alloc, &other)?.as_str(), "Unknown(\"int32\")");
-    let number: VariantOrUnknown<u8> = String::from_str(alloc, "256")?.into();
-    assert_eq!(rt;
-        number,
-        VariantOrUnknown::Unknown(String::from_str(alloc, "256")?)
+        debug_text(rt.alloc(), &other)?.as_str(),
+        "Unknown(\"int32\")"
     );
     Ok(())
 }
 
 #[test]
-fn keeps_references_and_items(rt: HostRuntime) -> Result<(), Fail> {
-    let alloc = rt.alloc();
+fn keeps_a_number_out_of_range(rt: HostRuntime) -> Result<(), Fail> {
+    let number: VariantOrUnknown<u8> = String::from_str(rt.alloc(), "256")?.into();
+    let text = String::from_str(rt.alloc(), "256")?;
+    assert_eq!(rt; number, VariantOrUnknown::Unknown(text));
+    Ok(())
+}
+
+#[test]
+fn keeps_items(rt: HostRuntime) -> Result<(), Fail> {
     let item = ReferenceOr::Item(1);
     assert_eq!(rt; item.as_item(), Some(&1));
     assert_eq!(rt; item.clone()?, ReferenceOr::Item(1));
-    assert_eq!(rt; debug_text(alloc, &item)?.as_str(), "Item(1)");
+    assert_eq!(rt; debug_text(rt.alloc(), &item)?.as_str(), "Item(1)");
     assert_eq!(rt; item.into_item(), Some(1));
+    assert_eq!(rt; boxed_and_unboxed(rt.alloc(), 7)?, ReferenceOr::Item(7));
+    Ok(())
+}
+
+#[test]
+fn keeps_references(rt: HostRuntime) -> Result<(), Fail> {
     let empty = ReferenceOr::<u8>::Reference {
-        reference: String::new(alloc),
+        reference: String::new(rt.alloc()),
     };
     assert_eq!(rt; empty.as_item(), None);
     assert_eq!(rt; empty.into_item(), None);
-    let reference = ReferenceOr::<Box<u8>>::ref_(alloc, "#/a")?.unbox();
-    assert_eq!(rt; &reference, &ReferenceOr::ref_(alloc, "#/a")?);
+    let reference = ReferenceOr::<Box<u8>>::ref_(rt.alloc(), "#/a")?.unbox();
+    let same = ReferenceOr::ref_(rt.alloc(), "#/a")?;
+    assert_eq!(rt; &reference, &same);
     assert_eq!(rt;
-        debug_text(alloc, &reference)?.as_str(),
+        debug_text(rt.alloc(), &reference)?.as_str(),
         "Reference { reference: \"#/a\" }"
     );
-    assert_eq!(rt; boxed_and_unboxed(alloc, 7)?, ReferenceOr::Item(7));
     Ok(())
 }

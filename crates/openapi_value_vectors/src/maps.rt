@@ -1,6 +1,7 @@
+//! Maps of few and of many names.
 ghost use Rattle.std.specs.Prelude.{◌≡◌, IfOk};
 
-use crate::OrderedMap;
+use openapi_map::OrderedMap;
 use std::alloc::{AllocError, Global};
 use std::test::Fail;
 
@@ -62,32 +63,43 @@ fn keeps_few_and_many(rt: HostRuntime) -> Result<(), Fail> {
     Ok(())
 }
 
+/// Three names, the second of which came twice.
+fn sample(alloc: Global) -> Result<OrderedMap<u8>, AllocError> {
+    map_of(alloc, &[("b", 1), ("a", 2), ("c", 3), ("a", 4)])
+}
+
 #[test]
-fn gives_entries_in_order(rt: HostRuntime) -> Result<(), Fail> {
-    let alloc = rt.alloc();
-    let map = map_of(alloc, &[("b", 1), ("a", 2), ("c", 3), ("a", 4)])?;
+fn gives_the_first_and_the_last_entry(rt: HostRuntime) -> Result<(), Fail> {
+    let map = sample(rt.alloc())?;
     assert_eq!(rt; map.first(), Some(("b", &1)));
     assert_eq!(rt; map.last(), Some(("c", &3)));
-    assert_eq!(rt; OrderedMap::<u8>::new(alloc).first(), None);
-    assert_eq!(rt; OrderedMap::<u8>::new(alloc).last(), None);
-    assert_eq!(rt;
-        map.keys().collect::<Vec<&str>>(alloc)?.as_slice(),
-        ["b", "a", "c"].as_slice()
-    );
-    assert_eq!(rt;
-        map.values().copied().collect::<Vec<u8>>(alloc)?.as_slice(),
-        [1, 4, 3].as_slice()
-    );
-    let mut text = String::new(alloc);
+    let empty = OrderedMap::<u8>::new(rt.alloc());
+    assert_eq!(rt; empty.first(), None);
+    assert_eq!(rt; empty.last(), None);
+    Ok(())
+}
+
+#[test]
+fn gives_names_and_values_in_order(rt: HostRuntime) -> Result<(), Fail> {
+    let map = sample(rt.alloc())?;
+    let names = map.keys().collect::<Vec<&str>>(rt.alloc())?;
+    assert_eq!(rt; names.as_slice(), ["b", "a", "c"].as_slice());
+    let values = map.values().copied().collect::<Vec<u8>>(rt.alloc())?;
+    assert_eq!(rt; values.as_slice(), [1, 4, 3].as_slice());
+    Ok(())
+}
+
+#[test]
+fn gives_entries_in_order(rt: HostRuntime) -> Result<(), Fail> {
+    let map = sample(rt.alloc())?;
+    let mut text = String::new(rt.alloc());
     for (name, value) in map.iter() {
         write!(text, "{name}={value} ")?;
     }
-    assert_eq!(rt; text.as_str(), "b=1 a=4 c=3 ");
-    let mut text = String::new(alloc);
     for (name, value) in map {
         write!(text, "{name}={value} ")?;
     }
-    assert_eq!(rt; text.as_str(), "b=1 a=4 c=3 ");
+    assert_eq!(rt; text.as_str(), "b=1 a=4 c=3 b=1 a=4 c=3 ");
     Ok(())
 }
 
@@ -112,33 +124,27 @@ fn compares_in_any_order(rt: HostRuntime) -> Result<(), Fail> {
 }
 
 #[test]
-fn clones_and_prints(rt: HostRuntime) -> Result<(), Fail> {
-    let alloc = rt.alloc();
-    let map = map_of(alloc, &[("b", 1), ("say \"a\"", 2)])?;
+fn prints_names_with_their_values(rt: HostRuntime) -> Result<(), Fail> {
+    let map = map_of(rt.alloc(), &[("b", 1), ("say \"a\"", 2)])?;
+    let copy = copied(rt.alloc(), &map)?;
+    let empty = OrderedMap::<u8>::new(rt.alloc());
+    let text = format!(in rt.alloc(); "{map:?} {copy:?} {empty:?} {map:#?}")?;
     assert_eq!(rt;
-        format!(in alloc; "{map:?}")?.as_str(),
-        r#"{"b": 1, "say \"a\"": 2}"#
+        text.as_str(),
+        "{\"b\": 1, \"say \\\"a\\\"\": 2} {\"b\": 1, \"say \\\"a\\\"\": 2} {} \
+        {\n    \"b\": 1,\n    \"say \\\"a\\\"\": 2,\n}"
     );
-    assert_eq!(rt;
-        format!(in alloc; "{:?}", copied(alloc, &map)?)?.as_str(),
-        r#"{"b": 1, "say \"a\"": 2}"#
-    );
-    assert_eq!(rt;
-        format!(in alloc; "{:#?}", map)?.as_str(),
-        "{\n    \"b\": 1,\n    \"say \\\"a\\\"\": 2,\n}"
-    );
-    assert_eq!(rt;
-        format!(in alloc; "{:?}", OrderedMap::<u8>::new(alloc))?.as_str(),
-        "{}"
-    );
+    Ok(())
+}
+
+#[test]
+fn clones_change_alone(rt: HostRuntime) -> Result<(), Fail> {
     for count in [0, 16, 17] {
-        let numbers = numbered(alloc, count)?;
+        let numbers = numbered(rt.alloc(), count)?;
         let mut cloned = numbers.clone()?;
         assert!(rt; numbers == cloned, "of {count}");
-        assert_eq!(rt;
-            cloned.insert(String::from_str(alloc, "0")?, 7)?.is_some(),
-            count > 0
-        );
+        let old = cloned.insert(String::from_str(rt.alloc(), "0")?, 7)?;
+        assert_eq!(rt; old.is_some(), count > 0);
         assert!(rt; numbers != cloned, "of {count}");
         assert_eq!(rt; numbers.get("7").copied(), cloned.get("7").copied());
         assert_eq!(rt; numbers.len(), count);

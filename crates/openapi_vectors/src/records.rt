@@ -1,7 +1,8 @@
 //! Each object read and written by its table, and the names that are not writable.
-use crate::*;
-use openapi_node::{Cause, Fault, Node, OrderedMap, Steps, View};
-use openapi_rows::{FromNode, ToNode};
+use openapiv3::{
+    Cause, Contact, Discriminator, Example, ExternalDocumentation, Fault, FromNode, Info, License,
+    Node, Server, ServerVariable, Steps, Tag, ToNode, View, Xml,
+};
 use serde_json::Value;
 use std::alloc::Global;
 use std::test::Fail;
@@ -24,25 +25,34 @@ where
 {
     let tree = node(alloc, text)?;
     let value = T::from_node(alloc, &tree, steps)?;
+    let written = value.to_node(alloc)?;
     if value.clone()? != value {
         return Err(Fail::from("the clone differs"));
     }
-    let written = value.to_node(alloc)?;
     if T::from_node(alloc, &written, steps)? != value {
         return Err(Fail::from("the second reading differs"));
     }
-    let found = written.to_value(alloc, steps)?.to_string(alloc)?;
-    if found.as_str() != json {
+    check_json(alloc, steps, &written, json)?;
+    check_names(alloc, steps, &written, names)
+}
+
+/// Checks a tree as JSON, with the names in their order.
+fn check_json(alloc: Global, steps: &mut Steps, tree: &Node, json: &str) -> Result<(), Fail> {
+    let value = tree.to_value(alloc, steps)?;
+    if value.to_string(alloc)?.as_str() != json {
         return Err(Fail::from("the cleaned tree differs"));
     }
-    let View::Object(members) = written.open(steps) else {
+    Ok(())
+}
+
+/// Checks the names of an object as they stand, each with a space behind it.
+fn check_names(alloc: Global, steps: &mut Steps, tree: &Node, names: &str) -> Result<(), Fail> {
+    let View::Object(members) = tree.open(steps) else {
         return Err(Fail::from("no object"));
     };
     let mut order = String::new(alloc);
-    for i in 0..members.len() {
-        let (name, _) = members.entry_at(i);
-        order.push_str(name)?;
-        order.push(' ')?;
+    for name in members.keys() {
+        write!(order, "{name} ")?;
     }
     if order.as_str() != names {
         return Err(Fail::from("the written order differs"));

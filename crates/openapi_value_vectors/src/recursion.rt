@@ -1,5 +1,5 @@
 //! `ReferenceOr` inside a type that leads back to itself, as schemas do.
-use crate::ReferenceOr;
+use openapi_values::ReferenceOr;
 use std::test::Fail;
 
 #[derive(Clone, Debug, PartialEq, Drop)]

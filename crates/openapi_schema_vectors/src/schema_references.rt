@@ -1,12 +1,40 @@
 //! Schemas and references to them, in a box and without one.
 
-use crate::trees::{check_same, check_tree, fault_text, shown, tree};
+use openapi_checks::trees::{check_same, check_tree, fault_text, shown, tree};
 use openapiv3::{
     AnySchema, Fault, Node, OrderedMap, ReferenceOr, Schema, SchemaData, SchemaKind, Steps,
     boxed_schema_ref_from_node, boxed_schema_ref_to_node, schema_ref_from_node, schema_ref_to_node,
 };
 use serde_json::Value;
 use std::test::Fail;
+
+/// The schema that a JSON text holds, or the reference to one.
+fn plain(rt: &HostRuntime, text: &str) -> Result<ReferenceOr<Schema>, Fail> {
+    let mut steps = Steps::new(rt);
+    let node = tree(rt, text)?;
+    Ok(schema_ref_from_node(rt.alloc(), &node, &mut steps)?)
+}
+
+/// The same in a box.
+fn boxed(rt: &HostRuntime, text: &str) -> Result<ReferenceOr<Box<Schema>>, Fail> {
+    let mut steps = Steps::new(rt);
+    let node = tree(rt, text)?;
+    Ok(boxed_schema_ref_from_node(rt.alloc(), &node, &mut steps)?)
+}
+
+/// That a schema or a reference is written as a tree, member order included.
+fn check_plain(rt: &HostRuntime, found: &ReferenceOr<Schema>, wanted: &str) -> Result<(), Fail> {
+    check_tree(rt, &schema_ref_to_node(rt.alloc(), found)?, wanted)
+}
+
+/// The same of one in a box.
+fn check_boxed(
+    rt: &HostRuntime,
+    found: &ReferenceOr<Box<Schema>>,
+    wanted: &str,
+) -> Result<(), Fail> {
+    check_tree(rt, &boxed_schema_ref_to_node(rt.alloc(), found)?, wanted)
+}
 
 #[test]
 fn references_stand_for_schemas(rt: HostRuntime) -> Result<(), Fail> {
@@ -23,13 +51,11 @@ fn references_stand_for_schemas(rt: HostRuntime) -> Result<(), Fail> {
         (r#"{"type":"array"}"#, r#"{"type":"array"}"#),
     ];
     for (given, wanted) in rows {
-        let node = tree(&rt, given)?;
-        let mut steps = Steps::new(&rt);
-        let plain = schema_ref_from_node(rt.alloc(), &node, &mut steps)?;
-        check_tree(&rt, &schema_ref_to_node(rt.alloc(), &plain)?, wanted)?;
-        let boxed = boxed_schema_ref_from_node(rt.alloc(), &node, &mut steps)?;
-        check_tree(&rt, &boxed_schema_ref_to_node(rt.alloc(), &boxed)?, wanted)?;
-        assert!(rt; boxed.unbox() == plain, "{given}");
+        let one = plain(&rt, given)?;
+        check_plain(&rt, &one, wanted)?;
+        let other = boxed(&rt, given)?;
+        check_boxed(&rt, &other, wanted)?;
+        assert!(rt; other.unbox() == one, "{given}");
     }
     Ok(())
 }
@@ -69,7 +95,12 @@ fn arrays_are_refused_at_their_innermost_items(rt: HostRuntime) -> Result<(), Fa
     let plain = schema_ref_from_node(rt.alloc(), &node, &mut steps);
     check_fault(&rt, plain, wanted.as_str())?;
     let boxed = boxed_schema_ref_from_node(rt.alloc(), &node, &mut steps);
-    check_fault(&rt, boxed, wanted.as_str())?;
+    check_fault(&rt, boxed, wanted.as_str())
+}
+
+#[test]
+fn arrays_in_arrays_are_written_as_they_were(rt: HostRuntime) -> Result<(), Fail> {
+    let mut steps = Steps::new(&rt);
     let node = arrays(&rt, 20, "{}")?;
     let plain = schema_ref_from_node(rt.alloc(), &node, &mut steps)?;
     let written = schema_ref_to_node(rt.alloc(), &plain)?;
@@ -80,26 +111,31 @@ fn arrays_are_refused_at_their_innermost_items(rt: HostRuntime) -> Result<(), Fa
     )
 }
 
+/// The schema that a JSON text holds, read of a value whose members stand in the order of their names.
+fn sorted(rt: &HostRuntime, text: &str) -> Result<ReferenceOr<Schema>, Fail> {
+    let mut steps = Steps::new(rt);
+    let value = Value::from_slice(rt.alloc(), text.as_bytes())?;
+    let node = Node::from_value(rt.alloc(), &value)?;
+    Ok(schema_ref_from_node(rt.alloc(), &node, &mut steps)?)
+}
+
 #[test]
 fn properties_keep_the_order_of_the_tree(rt: HostRuntime) -> Result<(), Fail> {
     let text = r#"{"type":"object","properties":{"z":{},"a":{},"b":{}}}"#;
-    let mut steps = Steps::new(&rt);
-    let read = schema_ref_from_node(rt.alloc(), &tree(&rt, text)?, &mut steps)?;
-    check_tree(&rt, &schema_ref_to_node(rt.alloc(), &read)?, text)?;
-    let value = Value::from_slice(rt.alloc(), text.as_bytes())?;
-    let node = Node::from_value(rt.alloc(), &value)?;
-    let sorted = schema_ref_from_node(rt.alloc(), &node, &mut steps)?;
-    check_tree(
+    let one = plain(&rt, text)?;
+    check_plain(&rt, &one, text)?;
+    let other = sorted(&rt, text)?;
+    check_plain(
         &rt,
-        &schema_ref_to_node(rt.alloc(), &sorted)?,
+        &other,
         r#"{"type":"object","properties":{"a":{},"b":{},"z":{}}}"#,
     )?;
-    assert!(rt; read == sorted);
+    assert!(rt; one == other);
     Ok(())
 }
 
 /// A schema with an extension whose name lacks its prefix.
-fn unwritable(rt: &HostRuntime) -> Result<Schema, Fail> {
+pub fn unwritable(rt: &HostRuntime) -> Result<Schema, Fail> {
     let mut schema_data = SchemaData::new(rt.alloc());
     schema_data
         .extensions
@@ -119,19 +155,21 @@ fn names_of_extensions_are_looked_at_in_items(rt: HostRuntime) -> Result<(), Fai
     check_fault(&rt, boxed_schema_ref_to_node(rt.alloc(), &boxed), wanted)
 }
 
+/// That each of two values equals its clone, and not the other.
+fn check_apart<T: Clone + PartialEq + Drop>(one: &T, other: &T) -> Result<(), Fail> {
+    if one.clone()? != *one || other.clone()? != *other {
+        return Err(Fail::from("a clone differs from its source"));
+    }
+    if one == other {
+        return Err(Fail::from("two values that differ are equal"));
+    }
+    Ok(())
+}
+
 #[test]
 fn clones_of_references_and_items_equal_them(rt: HostRuntime) -> Result<(), Fail> {
-    let item = tree(&rt, r#"{"type":"string","pattern":"p"}"#)?;
-    let reference = tree(&rt, r#"{"$ref":"r"}"#)?;
-    let mut steps = Steps::new(&rt);
-    let item = boxed_schema_ref_from_node(rt.alloc(), &item, &mut steps)?;
-    let reference = boxed_schema_ref_from_node(rt.alloc(), &reference, &mut steps)?;
-    assert!(rt; item.clone()? == item);
-    assert!(rt; reference.clone()? == reference);
-    assert!(rt; item != reference);
-    let (item, reference) = (item.unbox(), reference.unbox());
-    assert!(rt; item.clone()? == item);
-    assert!(rt; reference.clone()? == reference);
-    assert!(rt; item != reference);
-    Ok(())
+    let item = boxed(&rt, r#"{"type":"string","pattern":"p"}"#)?;
+    let reference = boxed(&rt, r#"{"$ref":"r"}"#)?;
+    check_apart(&item, &reference)?;
+    check_apart(&item.unbox(), &reference.unbox())
 }

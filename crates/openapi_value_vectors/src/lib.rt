@@ -1,0 +1,11 @@
+//! Tests of maps, nodes and values: printed texts, worked examples, and each call once with ample memory.
+#![tactic(auto)]
+
+#[cfg(test)]
+mod maps;
+#[cfg(test)]
+mod nodes;
+#[cfg(test)]
+mod recursion;
+#[cfg(test)]
+mod values;

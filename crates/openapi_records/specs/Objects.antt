@@ -3,31 +3,20 @@ use Rattle.std.specs.Prelude.{List, [], ◌∷◌}
 use Rattle.openapi_tables.specs.Form.{Form, leaf}
 use Rattle.openapi_rows.specs.Forms.{
   text_form,
-  flag_form,
   optional_form,
   list_form,
   map_form,
   extensions_form,
   record_form,
 }
+use Rattle.openapi_annotations.specs.Objects.{external_documentation_rows}
 use Rattle.openapi_records.specs.declared.contact.Contact.{Contact}
-use Rattle.openapi_records.specs.declared.discriminator.Discriminator.{Discriminator}
 use Rattle.openapi_records.specs.declared.example.Example.{Example}
-use Rattle.openapi_records.specs.declared.external_documentation.ExternalDocumentation.{ExternalDocumentation}
 use Rattle.openapi_records.specs.declared.info.Info.{Info}
 use Rattle.openapi_records.specs.declared.license.License.{License}
 use Rattle.openapi_records.specs.declared.server.Server.{Server}
 use Rattle.openapi_records.specs.declared.server_variable.ServerVariable.{ServerVariable}
 use Rattle.openapi_records.specs.declared.tag.Tag.{Tag}
-use Rattle.openapi_records.specs.declared.xml.Xml.{Xml}
-
--- External Documentation Object
-abbrev pub external_documentation_rows : ExternalDocumentation → List Form
-external_documentation_rows x =
-    optional_form text_form x.description
-    ∷ text_form x.url
-    ∷ extensions_form x.extensions
-    ∷ []
 
 -- Tag Object
 abbrev pub tag_rows : Tag → List Form
@@ -92,24 +81,5 @@ server_rows x =
     text_form x.url
     ∷ optional_form text_form x.description
     ∷ optional_form (map_form (record_form server_variable_rows)) x.variables
-    ∷ extensions_form x.extensions
-    ∷ []
-
--- Discriminator Object
-abbrev pub discriminator_rows : Discriminator → List Form
-discriminator_rows x =
-    text_form x.property_name
-    ∷ map_form text_form x.mapping
-    ∷ extensions_form x.extensions
-    ∷ []
-
--- XML Object
-abbrev pub xml_rows : Xml → List Form
-xml_rows x =
-    optional_form text_form x.name
-    ∷ optional_form text_form x.namespace
-    ∷ optional_form text_form x.prefix
-    ∷ flag_form x.attribute
-    ∷ flag_form x.wrapped
     ∷ extensions_form x.extensions
     ∷ []

@@ -13,16 +13,16 @@ use openapi_rows::{
 };
 use std::alloc::Global;
 
-/// The Contact Object: whom to ask about the API.
+/// The Contact Object (OpenAPI 3.0.3, section 4.7.3): contact information of the API.
 #[derive(Clone, Debug, PartialEq, Drop)]
 pub struct Contact {
-    /// The name of the person or the organization.
+    /// The name of the contact person or organization.
     pub name: Option<String>,
-    /// Their page, as a URL.
+    /// The URL of the contact information.
     pub url: Option<String>,
-    /// Their address.
+    /// The email address of the contact person or organization.
     pub email: Option<String>,
-    /// Extensions, by names that begin with `x-`.
+    /// Extensions: the members whose names begin with `x-`, in their order.
     pub extensions: OrderedMap<Node>,
 }
 

@@ -18,18 +18,19 @@ use openapi_rows::{
 use openapi_values::ReferenceOr;
 use std::alloc::Global;
 
-/// The Example Object: an example of a value.
+/// The Example Object (OpenAPI 3.0.3, section 4.7.19): an example of a value.
 #[derive(Clone, Debug, PartialEq, Drop)]
 pub struct Example {
-    /// What the example shows, in short.
+    /// A short description of the example.
     pub summary: Option<String>,
-    /// What the example shows.
+    /// A long description of the example, in CommonMark.
     pub description: Option<String>,
-    /// The value itself.
+    /// The example itself, a literal value. It excludes `external_value`, which is not checked.
     pub value: Option<Node>,
-    /// Where the value lies, as a URL.
+    /// The URL of the literal example, where it can't well stand in a JSON document. It excludes `value`, which is not
+    /// checked.
     pub external_value: Option<String>,
-    /// Extensions, by names that begin with `x-`.
+    /// Extensions: the members whose names begin with `x-`, in their order.
     pub extensions: OrderedMap<Node>,
 }
 

@@ -15,22 +15,22 @@ use openapi_rows::{
 };
 use std::alloc::Global;
 
-/// The Info Object: what the API is, and who offers it.
+/// The Info Object (OpenAPI 3.0.3, section 4.7.2): metadata about the API.
 #[derive(Clone, Debug, PartialEq, Drop)]
 pub struct Info {
-    /// The name of the API.
+    /// The title of the API. Required.
     pub title: String,
-    /// What the API does.
+    /// A description of the API, in CommonMark.
     pub description: Option<String>,
-    /// Where the terms of service lie, as a URL.
+    /// The URL of the terms of service of the API.
     pub terms_of_service: Option<String>,
-    /// Whom to ask.
+    /// The contact information of the API.
     pub contact: Option<Contact>,
-    /// The license.
+    /// The license information of the API.
     pub license: Option<License>,
-    /// The version of the document, not that of the specification.
+    /// The version of the OpenAPI document, not that of the specification or of the API's implementation. Required.
     pub version: String,
-    /// Extensions, by names that begin with `x-`.
+    /// Extensions: the members whose names begin with `x-`, in their order.
     pub extensions: OrderedMap<Node>,
 }
 

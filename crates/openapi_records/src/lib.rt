@@ -1,9 +1,7 @@
 #![tactic(auto)]
 //! The objects of OpenAPI 3.0 documents that hold no schema, read from trees and written as trees.
 mod contact;
-mod discriminator;
 mod example;
-mod external_documentation;
 mod info;
 mod license;
 mod link;
@@ -11,12 +9,9 @@ mod link_operation;
 mod server;
 mod server_variable;
 mod tag;
-mod xml;
 
 pub use contact::Contact;
-pub use discriminator::Discriminator;
 pub use example::{Example, example_ref_from_node, example_ref_to_node};
-pub use external_documentation::ExternalDocumentation;
 pub use info::Info;
 pub use license::License;
 pub use link::{Link, link_ref_from_node, link_ref_to_node};
@@ -24,7 +19,3 @@ pub use link_operation::LinkOperation;
 pub use server::Server;
 pub use server_variable::ServerVariable;
 pub use tag::Tag;
-pub use xml::Xml;
-
-#[cfg(test)]
-mod tests;

@@ -13,14 +13,14 @@ use openapi_rows::{
 };
 use std::alloc::Global;
 
-/// The License Object: the terms under which the API is offered.
+/// The License Object (OpenAPI 3.0.3, section 4.7.4): license information of the API.
 #[derive(Clone, Debug, PartialEq, Drop)]
 pub struct License {
-    /// The name of the license.
+    /// The name of the license. Required.
     pub name: String,
-    /// Where its text lies, as a URL.
+    /// The URL of the license.
     pub url: Option<String>,
-    /// Extensions, by names that begin with `x-`.
+    /// Extensions: the members whose names begin with `x-`, in their order.
     pub extensions: OrderedMap<Node>,
 }
 

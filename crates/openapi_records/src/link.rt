@@ -20,20 +20,21 @@ use openapi_rows::{
 use openapi_values::ReferenceOr;
 use std::alloc::Global;
 
-/// The Link Object: an operation that a response leads to.
+/// The Link Object (OpenAPI 3.0.3, section 4.7.20): an operation that may follow a response, and how what the response
+/// gives is handed to it.
 #[derive(Clone, Debug, PartialEq, Drop)]
 pub struct Link {
-    /// What the link is for.
+    /// A description of the link, in CommonMark.
     pub description: Option<String>,
-    /// The operation.
+    /// The operation that is linked to: `operationRef` or `operationId`. Required here, as in the Rust crate.
     pub operation: LinkOperation,
-    /// A value or an expression for the body of its request.
+    /// A literal value or a runtime expression to be sent as the request body of the operation.
     pub request_body: Option<Node>,
-    /// Values or expressions for its parameters, by their names.
+    /// Literal values or runtime expressions to be passed to the operation, by the names of its parameters.
     pub parameters: OrderedMap<Node>,
-    /// The server that offers it.
+    /// The server to be used for the operation.
     pub server: Option<Server>,
-    /// Extensions, by names that begin with `x-`.
+    /// Extensions: the members whose names begin with `x-`, in their order.
     pub extensions: OrderedMap<Node>,
 }
 

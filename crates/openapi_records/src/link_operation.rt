@@ -18,12 +18,13 @@ use openapi_rows::{
 };
 use std::alloc::Global;
 
-/// The operation that a link leads to. An object that names it both ways is read by the name that stands first in it.
+/// The operation that a Link Object (OpenAPI 3.0.3, section 4.7.20) leads to. OpenAPI lets a link name it in one way only;
+/// an object that names it in both is read by the name that stands first in it.
 #[derive(Clone, Debug, PartialEq, Drop)]
 pub enum LinkOperation {
-    /// `operationRef`: a reference to the operation.
+    /// `operationRef`: a relative or absolute URI reference to an operation.
     OperationRef(String),
-    /// `operationId`: the name of the operation in the document.
+    /// `operationId`: the name of an operation that the document defines.
     OperationId(String),
 }
 

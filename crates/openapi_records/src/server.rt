@@ -14,16 +14,17 @@ use openapi_rows::{
 };
 use std::alloc::Global;
 
-/// The Server Object: a server of the API.
+/// The Server Object (OpenAPI 3.0.3, section 4.7.5): a server that offers the API.
 #[derive(Clone, Debug, PartialEq, Drop)]
 pub struct Server {
-    /// Its URL, with the names of variables in braces.
+    /// The URL of the target host, which may be relative to the document. Names of variables stand in it in braces.
+    /// Required.
     pub url: String,
-    /// What the server is for.
+    /// A description of the host, in CommonMark.
     pub description: Option<String>,
-    /// The variables of the URL, by their names.
+    /// The server variables by their names, whose values are put into the URL.
     pub variables: Option<OrderedMap<ServerVariable>>,
-    /// Extensions, by names that begin with `x-`.
+    /// Extensions: the members whose names begin with `x-`, in their order.
     pub extensions: OrderedMap<Node>,
 }
 

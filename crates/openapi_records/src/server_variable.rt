@@ -13,16 +13,16 @@ use openapi_rows::{
 };
 use std::alloc::Global;
 
-/// The Server Variable Object: a variable of the URL of a server.
+/// The Server Variable Object (OpenAPI 3.0.3, section 4.7.6): a variable of the URL of a server.
 #[derive(Clone, Debug, PartialEq, Drop)]
 pub struct ServerVariable {
-    /// The values that may stand in its place. Empty where any may.
+    /// `enum`: the values that the variable is limited to. Empty where any value may be put in.
     pub enumeration: Vec<String>,
-    /// The value where none is given.
+    /// The value that is put in where none is supplied. Required.
     pub default: String,
-    /// What the variable stands for.
+    /// A description of the server variable, in CommonMark.
     pub description: Option<String>,
-    /// Extensions, by names that begin with `x-`.
+    /// Extensions: the members whose names begin with `x-`, in their order.
     pub extensions: OrderedMap<Node>,
 }
 

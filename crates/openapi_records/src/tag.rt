@@ -6,7 +6,7 @@ ghost use Rattle.openapi_tables.proofs.SlotWriting.{final_apart};
 ghost use Rattle.openapi_rows.specs.Forms.{record_form, record_slots};
 ghost use Rattle.openapi_records.specs.Objects.{tag_rows};
 
-use crate::external_documentation::ExternalDocumentation;
+use openapi_annotations::ExternalDocumentation;
 use openapi_node::{Fault, Node, OrderedMap, Steps, View};
 use openapi_rows::{
     FromNode, Object, Record, ToNode, extensions, optional, put_extensions, put_optional,
@@ -14,16 +14,16 @@ use openapi_rows::{
 };
 use std::alloc::Global;
 
-/// The Tag Object: more on a tag that operations have.
+/// The Tag Object (OpenAPI 3.0.3, section 4.7.22): metadata of a tag by which operations are grouped.
 #[derive(Clone, Debug, PartialEq, Drop)]
 pub struct Tag {
-    /// The tag.
+    /// The name of the tag, by which operations name it. Required.
     pub name: String,
-    /// What the tag stands for.
+    /// A description of the tag, in CommonMark.
     pub description: Option<String>,
-    /// Where more is said.
+    /// External documentation of the tag.
     pub external_docs: Option<ExternalDocumentation>,
-    /// Extensions, by names that begin with `x-`.
+    /// Extensions: the members whose names begin with `x-`, in their order.
     pub extensions: OrderedMap<Node>,
 }
 

@@ -4,7 +4,7 @@ ghost use Rattle.std.specs.Prelude.{◌≡◌, ◌+◌, ◌≤◌, ◌*◌, true
 ghost use Rattle.openapi_tables.specs.Kind.{by, xml_object};
 ghost use Rattle.openapi_tables.proofs.SlotWriting.{final_apart};
 ghost use Rattle.openapi_rows.specs.Forms.{record_form, record_slots};
-ghost use Rattle.openapi_records.specs.Objects.{xml_rows};
+ghost use Rattle.openapi_annotations.specs.Objects.{xml_rows};
 
 use openapi_node::{Fault, Node, OrderedMap, Steps, View};
 use openapi_rows::{
@@ -13,20 +13,21 @@ use openapi_rows::{
 };
 use std::alloc::Global;
 
-/// The XML Object: how a property is written in XML.
+/// The XML Object (OpenAPI 3.0.3, section 4.7.26): how a property is represented in XML.
 #[derive(Clone, Debug, PartialEq, Drop)]
 pub struct Xml {
-    /// The name of the element or attribute, in place of that of the property.
+    /// The name of the element or attribute that the property is written as, in place of the property's own name.
     pub name: Option<String>,
-    /// Its namespace, as a URL.
+    /// The URI of the namespace, in absolute form.
     pub namespace: Option<String>,
-    /// The prefix of its name.
+    /// The prefix of the name.
     pub prefix: Option<String>,
-    /// Whether it is an attribute, and no element.
+    /// Whether the property is written as an attribute and not as an element. False by default.
     pub attribute: bool,
-    /// Whether the elements of a list stand in an element of their own.
+    /// Whether the elements of an array stand inside a wrapping element. False by default; it means something at arrays
+    /// alone.
     pub wrapped: bool,
-    /// Extensions, by names that begin with `x-`.
+    /// Extensions: the members whose names begin with `x-`, in their order.
     pub extensions: OrderedMap<Node>,
 }
 

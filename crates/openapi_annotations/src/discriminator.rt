@@ -4,7 +4,7 @@ ghost use Rattle.std.specs.Prelude.{◌≡◌, ◌+◌, ◌≤◌, ◌*◌, true
 ghost use Rattle.openapi_tables.specs.Kind.{by, discriminator};
 ghost use Rattle.openapi_tables.proofs.SlotWriting.{final_apart};
 ghost use Rattle.openapi_rows.specs.Forms.{record_form, record_slots};
-ghost use Rattle.openapi_records.specs.Objects.{discriminator_rows};
+ghost use Rattle.openapi_annotations.specs.Objects.{discriminator_rows};
 
 use openapi_node::{Fault, Node, OrderedMap, Steps, View};
 use openapi_rows::{
@@ -13,14 +13,14 @@ use openapi_rows::{
 };
 use std::alloc::Global;
 
-/// The Discriminator Object: how a value tells which schema it has.
+/// The Discriminator Object (OpenAPI 3.0.3, section 4.7.25): how a payload tells which of several schemas describes it.
 #[derive(Clone, Debug, PartialEq, Drop)]
 pub struct Discriminator {
-    /// The property that names the schema.
+    /// The name of the property in the payload that holds the discriminating value. Required.
     pub property_name: String,
-    /// The schemas by the values of that property, where they have other names.
+    /// The names or references of schemas, by the values that the property may hold.
     pub mapping: OrderedMap<String>,
-    /// Extensions, by names that begin with `x-`.
+    /// Extensions: the members whose names begin with `x-`, in their order.
     pub extensions: OrderedMap<Node>,
 }
 

@@ -1,5 +1,5 @@
 use Rattle.openapi_tables.specs.Tables.{final_tables, tables_with}
-use Rattle.openapi_records.proofs.external_documentation.ExternalDocumentationRecord.from_members.Goals as goal
+use Rattle.openapi_annotations.proofs.external_documentation.ExternalDocumentationRecord.from_members.Goals as goal
 
 pub returns-clause-reads : goal.returns-clause-reads
 unfolding final_tables tables_with

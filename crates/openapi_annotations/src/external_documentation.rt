@@ -4,7 +4,7 @@ ghost use Rattle.std.specs.Prelude.{◌≡◌, ◌+◌, ◌≤◌, ◌*◌, true
 ghost use Rattle.openapi_tables.specs.Kind.{by, external_documentation};
 ghost use Rattle.openapi_tables.proofs.SlotWriting.{final_apart};
 ghost use Rattle.openapi_rows.specs.Forms.{record_form, record_slots};
-ghost use Rattle.openapi_records.specs.Objects.{external_documentation_rows};
+ghost use Rattle.openapi_annotations.specs.Objects.{external_documentation_rows};
 
 use openapi_node::{Fault, Node, OrderedMap, Steps, View};
 use openapi_rows::{
@@ -13,14 +13,15 @@ use openapi_rows::{
 };
 use std::alloc::Global;
 
-/// The External Documentation Object: where more is said of a part of the document.
+/// The External Documentation Object (OpenAPI 3.0.3, section 4.7.11): a resource outside the document with further
+/// documentation.
 #[derive(Clone, Debug, PartialEq, Drop)]
 pub struct ExternalDocumentation {
-    /// What the other documentation holds.
+    /// A description of the target documentation, in CommonMark.
     pub description: Option<String>,
-    /// Where it lies, as a URL.
+    /// The URL of the target documentation. Required.
     pub url: String,
-    /// Extensions, by names that begin with `x-`.
+    /// Extensions: the members whose names begin with `x-`, in their order.
     pub extensions: OrderedMap<Node>,
 }
 

@@ -13,18 +13,18 @@ use openapi_rows::{
 };
 use std::alloc::Global;
 
-/// The OAuth Flow Object: the flow by an authorization code.
+/// The OAuth Flow Object (OpenAPI 3.0.3, section 4.7.29) of the authorization code flow of OAuth 2.
 #[derive(Clone, Debug, PartialEq, Drop)]
 pub struct AuthorizationCodeOAuth2Flow {
-    /// Where leave is asked, as a URL.
+    /// The authorization URL of the flow. Required.
     pub authorization_url: String,
-    /// Where a token is had, as a URL.
+    /// The token URL of the flow. Required.
     pub token_url: String,
-    /// Where a token is renewed, as a URL.
+    /// The URL at which refresh tokens are obtained.
     pub refresh_url: Option<String>,
-    /// What each scope allows, by its name.
+    /// The scopes of the flow: a short description by the name of each. Required, and may be empty.
     pub scopes: OrderedMap<String>,
-    /// Extensions, by names that begin with `x-`.
+    /// Extensions: the members whose names begin with `x-`, in their order.
     pub extensions: OrderedMap<Node>,
 }
 

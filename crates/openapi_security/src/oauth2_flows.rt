@@ -17,18 +17,18 @@ use openapi_rows::{
 };
 use std::alloc::Global;
 
-/// The OAuth Flows Object: the flows that a server offers.
+/// The OAuth Flows Object (OpenAPI 3.0.3, section 4.7.28): the flows of OAuth 2 that are supported.
 #[derive(Clone, Debug, PartialEq, Drop)]
 pub struct OAuth2Flows {
-    /// The implicit flow.
+    /// The configuration of the implicit flow.
     pub implicit: Option<ImplicitOAuth2Flow>,
-    /// The flow by the password of the owner.
+    /// The configuration of the resource owner password flow.
     pub password: Option<PasswordOAuth2Flow>,
-    /// The flow by the credentials of the client.
+    /// The configuration of the client credentials flow.
     pub client_credentials: Option<ClientCredentialsOAuth2Flow>,
-    /// The flow by an authorization code.
+    /// The configuration of the authorization code flow.
     pub authorization_code: Option<AuthorizationCodeOAuth2Flow>,
-    /// Extensions, by names that begin with `x-`.
+    /// Extensions: the members whose names begin with `x-`, in their order.
     pub extensions: OrderedMap<Node>,
 }
 

@@ -9,7 +9,8 @@ use openapi_node::{Fault, Node, OrderedMap, Steps};
 use openapi_rows::{FromNode, ToNode};
 use std::alloc::Global;
 
-/// The Security Requirement Object: for each name of a security scheme the scopes that a call needs.
+/// The Security Requirement Object (OpenAPI 3.0.3, section 4.7.30): by the name of each security scheme that a call
+/// needs, the scopes that it needs of it. The list is empty for schemes that have no scopes.
 pub type SecurityRequirement = OrderedMap<Vec<String>>;
 
 /// Reads a security requirement. Err names a rule that the tree breaks, at its place, or says that memory ran out.

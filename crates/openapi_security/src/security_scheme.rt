@@ -26,47 +26,48 @@ use openapi_rows::{
 use openapi_values::{APIKeyLocation, ReferenceOr, Word};
 use std::alloc::Global;
 
-/// The Security Scheme Object: a way in which callers say who they are.
+/// The Security Scheme Object (OpenAPI 3.0.3, section 4.7.27): a security scheme that operations may use. Its `type`
+/// says which.
 #[derive(Clone, Debug, PartialEq, Drop)]
 pub enum SecurityScheme {
-    /// `apiKey`: by a key.
+    /// `apiKey`: an API key in a header, a query parameter or a cookie.
     APIKey {
-        /// `in`: the part of a request that holds the key.
+        /// `in`: where the API key is sent. Required.
         location: APIKeyLocation,
-        /// The name of the header, of the parameter or of the cookie.
+        /// The name of the header, query parameter or cookie. Required.
         name: String,
-        /// What the scheme is for.
+        /// A description of the security scheme, in CommonMark.
         description: Option<String>,
-        /// Extensions, by names that begin with `x-`.
+        /// Extensions: the members whose names begin with `x-`, in their order.
         extensions: OrderedMap<Node>,
     },
-    /// `http`: by the header `Authorization` of HTTP.
+    /// `http`: HTTP authentication by the `Authorization` header.
     HTTP {
-        /// The scheme of HTTP, as `basic`.
+        /// The HTTP authentication scheme (RFC 7235), as `basic` or `bearer`. Required.
         scheme: String,
-        /// How a token of the scheme `bearer` is made.
+        /// `bearerFormat`: a hint at how a bearer token is formatted, for people to read.
         bearer_format: Option<String>,
-        /// What the scheme is for.
+        /// A description of the security scheme, in CommonMark.
         description: Option<String>,
-        /// Extensions, by names that begin with `x-`.
+        /// Extensions: the members whose names begin with `x-`, in their order.
         extensions: OrderedMap<Node>,
     },
-    /// `oauth2`: by OAuth 2.
+    /// `oauth2`: OAuth 2.
     OAuth2 {
-        /// The flows that are offered.
+        /// The flows of OAuth 2 that are supported. Required.
         flows: OAuth2Flows,
-        /// What the scheme is for.
+        /// A description of the security scheme, in CommonMark.
         description: Option<String>,
-        /// Extensions, by names that begin with `x-`.
+        /// Extensions: the members whose names begin with `x-`, in their order.
         extensions: OrderedMap<Node>,
     },
-    /// `openIdConnect`: by OpenID Connect.
+    /// `openIdConnect`: OpenID Connect Discovery.
     OpenIDConnect {
-        /// Where the server says how it is reached.
+        /// `openIdConnectUrl`: the OpenID Connect URL, at which OAuth 2 configuration values are found. Required.
         open_id_connect_url: String,
-        /// What the scheme is for.
+        /// A description of the security scheme, in CommonMark.
         description: Option<String>,
-        /// Extensions, by names that begin with `x-`.
+        /// Extensions: the members whose names begin with `x-`, in their order.
         extensions: OrderedMap<Node>,
     },
 }

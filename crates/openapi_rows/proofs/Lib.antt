@@ -13,3 +13,4 @@ pub mod Deciding
 pub mod Tagging
 pub mod Spared
 pub mod OrNull
+pub mod Present

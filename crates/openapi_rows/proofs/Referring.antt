@@ -1,6 +1,7 @@
 -- What is read of a tree where a reference may stand: the reference, or what is read of the tree itself.
 use Rattle.std.proofs.Common.{◌≡◌, ℕ, true, List, Some, None, refl, sym, ap, ◌∙◌, subst, inr}
 use Rattle.std.specs.Borrow.{Bor}
+use Rattle.openapi_map.specs.declared.OrderedMap.{OrderedMap}
 use Rattle.openapi_node.specs.Fault.{place_of}
 use Rattle.openapi_node.specs.Place.{Place}
 use Rattle.openapi_node.specs.Tree.{Tree, null, flag, whole, text, list, object, Members, find}
@@ -17,6 +18,7 @@ use Rattle.openapi_node.specs.declared.fault.Cause.TheVariants.{
   Memory,
 }
 use Rattle.openapi_node.specs.declared.fault.Fault.{Fault}
+use Rattle.openapi_node.specs.declared.node.Node.{Node}
 use Rattle.openapi_node.specs.declared.node.View.{View}
 use Rattle.openapi_node.specs.declared.node.View.TheVariants as view
 use Rattle.openapi_tables.specs.Kind.{Kind, any_tree, ref_to, required}
@@ -37,30 +39,32 @@ use Rattle.openapi_values.specs.declared.reference.ReferenceOr.TheVariants as v
 use Rattle.openapi_rows.specs.Gives.{FailsBy, Fails, Reads}
 use Rattle.openapi_rows.specs.References.{reference_in}
 
--- where all that one kind asks of a tree another one asks of it too, a refusal by the first is one by the other
-module _ (f : Fault) (k l : Kind) (t : Tree) (leads : (a : Asking) → Among a (asked final_tables k t)
-    → Among a (asked final_tables l t)) where
-  wider : (p : Place) (c : faults.Cause) → Broken final_tables k t p c → Broken final_tables l t p c
-  wider p c b =
-      record {
-        kind = b.kind;
-        tree = b.tree;
-        is_asked = leads (asking p b.kind b.tree) b.is_asked;
-        breaks = b.breaks;
-      }
+-- a refusal moves to where all that is broken there is broken too
+pub fails_moved : (f : Fault) (k l : Kind) (t u : Tree)
+    → ((p : Place) (c : faults.Cause) → Broken final_tables k t p c → Broken final_tables l u p c) → Fails f k t
+    → Fails f l u
+fails_moved f k l t u move h = go f.cause h
+  where
+    go : (c : Cause) → FailsBy c (place_of f) k t → FailsBy c (place_of f) l u
+    go (Missing n) b = move (place_of f) (faults.missing n.now) b
+    go (MissingEither n m) b = move (place_of f) (faults.missing_either n.now m.now) b
+    go (WrongKind w) b = move (place_of f) (faults.wrong_kind w) b
+    go NotAllowed b = move (place_of f) faults.not_allowed b
+    go UnknownVariant b = move (place_of f) faults.unknown_variant b
+    go NameNotWritable b = b
+    go NotWhole b = b
+    go Memory b = b
 
-  by_cause : (c : Cause) (p : Place) → FailsBy c p k t → FailsBy c p l t
-  by_cause (Missing n) p h = wider p (faults.missing n.now) h
-  by_cause (MissingEither n m) p h = wider p (faults.missing_either n.now m.now) h
-  by_cause (WrongKind w) p h = wider p (faults.wrong_kind w) h
-  by_cause NotAllowed p h = wider p faults.not_allowed h
-  by_cause UnknownVariant p h = wider p faults.unknown_variant h
-  by_cause NameNotWritable p h = h
-  by_cause NotWhole p h = h
-  by_cause Memory p h = h
-
-  pub fails_wider : Fails f k t → Fails f l t
-  fails_wider h = by_cause f.cause (place_of f) h
+-- as where another kind asks of a tree all that the kind asks of it
+pub fails_wider : (f : Fault) (k l : Kind) (t : Tree)
+    → ((a : Asking) → Among a (asked final_tables k t) → Among a (asked final_tables l t)) → Fails f k t → Fails f l t
+fails_wider f k l t leads h =
+    fails_moved f k l t t (λ p c b. record {
+      kind = b.kind;
+      tree = b.tree;
+      is_asked = leads (asking p b.kind b.tree) b.is_asked;
+      breaks = b.breaks;
+    }) h
 
 module _ (k : Kind) where
   conforms_or : (t : Tree)
@@ -112,6 +116,15 @@ module _ (k : Kind) where
 
     pub fails_item : (f : Fault) → reference_in t ≡ None → Fails f k t → Fails f (ref_to k) t
     fails_item f e h = fails_wider f k (ref_to k) t (asked_or t e) h
+
+-- a look that shows no object shows no reference
+pub no_reference : (w : View) → ((m : Bor (OrderedMap Node)) → w ≡ view.Object m → ⊥) → reference_in (shown w) ≡ None
+no_reference view.Null h = refl
+no_reference (view.Flag b) h = refl
+no_reference (view.Whole z) h = refl
+no_reference (view.Text s) h = refl
+no_reference (view.List ts) h = refl
+no_reference (view.Object m) h = absurd (h m refl)
 
 -- what stands under a name
 pub held_found : (n : List ℕ) (ms : Members) (u : Tree) → find n ms ≡ Some u → held n (members_list ms) ≡ u

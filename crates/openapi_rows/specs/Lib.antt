@@ -2,3 +2,4 @@ pub mod Forms
 pub mod Gives
 pub mod Entries
 pub mod References
+pub mod Presence

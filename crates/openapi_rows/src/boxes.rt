@@ -1,5 +1,6 @@
 //! Values in boxes.
 use crate::from_node::FromNode;
+use crate::memory::boxed;
 use crate::references::Referable;
 use crate::to_node::ToNode;
 use openapi_node::{Fault, Node, Steps, View};
@@ -13,10 +14,7 @@ impl<T: FromNode + Drop> FromNode for Box<T> {
 
     fn from_view(alloc: Global, view: &View<'_>, steps: &mut Steps) -> Result<Box<T>, Fault> {
         match T::from_view(alloc, view, steps) {
-            Ok(value) => match Box::new(alloc, value) {
-                Ok(boxed) => Ok(boxed),
-                Err(_) => Err(Fault::memory(alloc)),
-            },
+            Ok(value) => boxed(alloc, value),
             Err(fault) => Err(fault),
         }
     }

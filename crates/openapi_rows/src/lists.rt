@@ -1,13 +1,13 @@
 //! Lists.
 ghost use Rattle.std.proofs.Common.{lit≤, refl};
-ghost use Rattle.std.specs.Prelude.{◌≡◌, ◌+◌, ◌≤◌, ◌*◌, true, false, [], ◌++◌, ◌∷◌, OnOk, IfErr};
-ghost use Rattle.openapi_node.specs.Fault.{IsMemory};
+ghost use Rattle.std.specs.Prelude.{◌≡◌, ◌+◌, ◌≤◌, ◌*◌, true, false};
 ghost use Rattle.openapi_node.specs.Tree.{list, items_of, items_size};
 ghost use Rattle.openapi_tables.specs.Kind.{list_of};
 ghost use Rattle.openapi_rows.specs.Forms.{list_form};
 ghost use Rattle.openapi_rows.specs.Gives.{Gives, WrittenAs};
 
 use crate::from_node::FromNode;
+use crate::memory::push;
 use crate::place::at_index;
 use crate::to_node::ToNode;
 use openapi_node::{Cause, Expected, Fault, Node, Steps, View};
@@ -33,17 +33,6 @@ pub fn items<T: FromNode + Drop>(
         }
     }
     Ok(values)
-}
-
-/// Puts a value last.
-fn push<T: Drop>(alloc: Global, values: &mut Vec<T>, value: T) -> Result<(), Fault>
-    ensures ok { OnOk result (values.new.items ≡ values.old.items ++ value ∷ []) }
-    ensures err { IfErr result IsMemory }
-{
-    match values.push(value) {
-        Ok(()) => Ok(()),
-        Err(_) => Err(Fault::memory(alloc)),
-    }
 }
 
 /// Writes the elements of a list, in order.

@@ -16,7 +16,7 @@ pub fn at_name<T>(alloc: Global, name: &str, read: Result<T, Fault>) -> Result<T
 }
 
 /// What was read at the element of an index, seen from the list.
-pub fn at_index<T>(alloc: Global, index: usize, read: Result<T, Fault>) -> Result<T, Fault>
+pub(crate) fn at_index<T>(alloc: Global, index: usize, read: Result<T, Fault>) -> Result<T, Fault>
     ensures { AtStep (indexed index) read result }
 {
     match read {

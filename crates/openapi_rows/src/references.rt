@@ -1,7 +1,7 @@
 //! References, and the items in their place.
 ghost use Rattle.std.proofs.Common.{lit≤, refl, sym, subst};
 ghost use Rattle.std.proofs.lemmas.Bool.{and_from};
-ghost use Rattle.std.specs.Prelude.{◌≡◌, ◌+◌, ◌≤◌, ◌*◌, false, option_map, IfErr, IfOk};
+ghost use Rattle.std.specs.Prelude.{◌≡◌, ◌+◌, ◌≤◌, ◌*◌, false, option_map, string_bytes, IfErr, IfOk};
 ghost use Rattle.openapi_node.specs.Fault.{IsMemory};
 ghost use Rattle.openapi_node.specs.View.{shown};
 ghost use Rattle.openapi_tables.specs.Kind.{ref_to};
@@ -34,7 +34,7 @@ pub trait Referable: FromNode {
 }
 
 /// The text of a reference, where one is shown: an object that holds a text under `$ref`, whatever else it holds.
-pub fn reference_text<'a>(view: &View<'a>, steps: &mut Steps) -> Option<&'a str>
+fn reference_text<'a>(view: &View<'a>, steps: &mut Steps) -> Option<&'a str>
     ensures text { option_map (λ s. s.now) result ≡ reference_in (shown view.now) }
     ensures rises { steps.old ≤ steps.new }
     ensures count { steps.new ≤ steps.old + 1 }
@@ -62,6 +62,26 @@ pub fn write_reference(alloc: Global, reference: &str) -> Result<Node, Fault>
     Ok(Node::object(out))
 }
 
+/// The text of a reference as a text of its own, where one is shown. Err only for want of memory.
+pub fn read_reference(
+    alloc: Global,
+    view: &View<'_>,
+    steps: &mut Steps,
+) -> Result<Option<String>, Fault>
+    ensures reads { IfOk result (λ o. option_map string_bytes o ≡ reference_in (shown view.now)) }
+    ensures err { IfErr result IsMemory }
+    ensures rises { steps.old ≤ steps.new }
+    ensures count { steps.new ≤ steps.old + 1 }
+{
+    match reference_text(view, steps) {
+        None => Ok(None),
+        Some(text) => match String::from_str(alloc, text) {
+            Ok(text) => Ok(Some(text)),
+            Err(_) => Err(Fault::memory(alloc)),
+        },
+    }
+}
+
 impl<T: Referable> FromNode for ReferenceOr<T> {
     ghost kind = { ref_to T.kind };
 
@@ -72,15 +92,15 @@ impl<T: Referable> FromNode for ReferenceOr<T> {
         view: &View<'_>,
         steps: &mut Steps,
     ) -> Result<ReferenceOr<T>, Fault> {
-        match reference_text(view, steps) {
-            Some(text) => match String::from_str(alloc, text) {
-                Ok(reference) => Ok(ReferenceOr::Reference { reference }),
-                Err(_) => Err(Fault::memory(alloc)),
+        match read_reference(alloc, view, steps) {
+            Ok(reference) => match reference {
+                Some(reference) => Ok(ReferenceOr::Reference { reference }),
+                None => match T::from_view(alloc, view, steps) {
+                    Ok(item) => Ok(ReferenceOr::Item(item)),
+                    Err(fault) => Err(fault),
+                },
             },
-            None => match T::from_view(alloc, view, steps) {
-                Ok(item) => Ok(ReferenceOr::Item(item)),
-                Err(fault) => Err(fault),
-            },
+            Err(fault) => Err(fault),
         }
     }
 

@@ -1,18 +1,16 @@
 //! The rows of a table, read among the members of an object.
 ghost use Rattle.std.specs.Prelude.{◌≡◌, ◌+◌, ◌≤◌, ◌*◌, Some};
 ghost use Rattle.openapi_node.specs.Tree.{members_of, find};
-ghost use Rattle.openapi_node.specs.View.{shown};
 ghost use Rattle.openapi_tables.specs.ByRow.{row_where, is_named, row_weight, rows_asked};
 ghost use Rattle.openapi_tables.specs.Kind as kinds;
-ghost use Rattle.openapi_tables.specs.Members.{is_null};
 ghost use Rattle.openapi_tables.specs.Tables.{final_tables};
 ghost use Rattle.openapi_rows.specs.Forms.{optional_form};
 ghost use Rattle.openapi_rows.specs.Gives.{GivesRow, GivesMember, unless_null};
 
 use crate::from_node::FromNode;
 use crate::object::Object;
-use crate::place::at_name;
-use openapi_node::{Cause, Fault, Node, OrderedMap, Steps, View, find_member};
+use crate::presence::{as_member, present_view};
+use openapi_node::{Cause, Fault, Node, OrderedMap, Steps, find_member};
 use std::alloc::Global;
 
 /// The member of a name, where it is there.
@@ -30,20 +28,7 @@ pub(crate) fn found<T: FromNode>(
     let Some(node) = find_member(members, name) else {
         return Ok(None);
     };
-    match at_name(alloc, name, T::from_node(alloc, node, steps)) {
-        Ok(value) => Ok(Some(value)),
-        Err(fault) => Err(fault),
-    }
-}
-
-/// Whether null is shown.
-fn is_null(view: &View<'_>) -> bool
-    ensures { result ≡ is_null (shown view.now) }
-{
-    match view {
-        View::Null => true,
-        _ => false,
-    }
+    as_member(alloc, name, T::from_node(alloc, node, steps))
 }
 
 /// The member of a name, where it is there and not null.
@@ -59,16 +44,9 @@ fn present<T: FromNode>(
     ensures count { steps.new ≤ steps.old + 3 * row_weight (kinds.row name.now kinds.optional T.kind)
         (members_of members.now) }
 {
-    let Some(node) = find_member(members, name) else {
-        return Ok(None);
-    };
-    let view = node.open(steps);
-    if is_null(&view) {
-        return Ok(None);
-    }
-    match at_name(alloc, name, T::from_view(alloc, &view, steps)) {
-        Ok(value) => Ok(Some(value)),
-        Err(fault) => Err(fault),
+    match present_view(members, name, steps) {
+        None => Ok(None),
+        Some(view) => as_member(alloc, name, T::from_view(alloc, &view, steps)),
     }
 }
 

@@ -1,59 +1,41 @@
-use Rattle.std.proofs.Common.{◌≡◌, ◌∙◌, false, Some, None, Err, sym, ap, subst, arith, if◌then◌else◌}
-use Rattle.openapi_node.specs.Place.{named}
-use Rattle.openapi_node.specs.Tree.{members_of, size_of}
-use Rattle.openapi_tables.specs.Kind.{optional}
-use Rattle.openapi_tables.specs.Members.{is_null}
-use Rattle.openapi_tables.specs.Tables.{final_tables}
-use Rattle.openapi_tables.proofs.ByRowLaws.{weight-found}
-use Rattle.openapi_rows.specs.Gives.{Gives, GivesMember, unless_null}
-use Rattle.openapi_rows.proofs.Below.{step_err, size-positive}
+use Rattle.std.proofs.Common.{Ok, None, sym, subst, arith}
+use Rattle.openapi_node.specs.Tree.{members_of}
+use Rattle.openapi_node.specs.View.{shown}
+use Rattle.openapi_tables.specs.Kind.{any_tree, optional}
+use Rattle.openapi_rows.specs.Gives.{GivesMember}
+use Rattle.openapi_rows.proofs.Present.{at_member}
+use Rattle.openapi_rows.proofs.RowReading.{weight_of_name}
 use Rattle.openapi_rows.proofs.rows.present.Goals as goal
 
-pub returns-then-is_null-clause-count : goal.returns-then-is_null-clause-count
-returns-then-is_null-clause-count g c =
-    let u = c.in-Some.node.now in
+pub returns-in-None-clause-reads : goal.returns-in-None-clause-reads
+returns-in-None-clause-reads g c =
+    subst (λ o. GivesMember g.T.FromNode.form_of (Ok None) g.T.FromNode.kind c.args.name.now o)
+    (sym c.in-None.ensures.is) tt
+
+pub returns-in-None-clause-count : goal.returns-in-None-clause-count
+returns-in-None-clause-count g c =
     omega (
       arith,
-      c.open-view.ensures.counted,
-      size-positive u,
-      weight-found final_tables c.args.name.now optional
-          g.T.FromNode.kind (members_of c.args.members.now) u (sym c.in-Some.ensures.found),
+      c.in-None.ensures.counted,
+      weight_of_name c.args.name.now optional optional g.T.FromNode.kind any_tree (members_of c.args.members.now),
     )
 
-pub returns-in-Ok-clause-count : goal.returns-in-Ok-clause-count
-returns-in-Ok-clause-count g c =
-    let u = c.in-Some.node.now in
-    omega (
-      arith,
-      c.open-view.ensures.counted,
-      c.from_view.ensures.count,
-      g.met.T.FromNode.few,
-      ap size_of c.open-view.ensures.shown,
-      weight-found final_tables c.args.name.now optional g.T.FromNode.kind
-          (members_of c.args.members.now) u (sym c.in-Some.ensures.found),
-    )
-
-pub returns-in-Err-clause-reads : goal.returns-in-Err-clause-reads
-returns-in-Err-clause-reads g c =
+pub returns-in-Some-clause-reads : goal.returns-in-Some-clause-reads
+returns-in-Some-clause-reads g c =
     let k = g.T.FromNode.kind in
     let view = g.T.FromNode.form_of in
-    let u = c.in-Some.node.now in
-    let kept : is_null u ≡ false = ap is_null (sym c.open-view.ensures.shown) ∙ sym c.is_null.ensures
-    ∙ c.if-is_null.false in
-    let read = subst (λ t. Gives view c.from_view.result k t) c.open-view.ensures.shown c.from_view.ensures.reads in
-    subst (λ o. GivesMember view (Err c.in-Err.fault) k c.args.name.now (unless_null o)) c.in-Some.ensures.found
-    (subst (λ b. GivesMember view (Err c.in-Err.fault) k c.args.name.now (if b then None else Some u)) (sym kept)
-    (step_err view (named c.args.name.now) k u c.from_view.result c.in-Err.fault c.in-Err.ensures read))
+    let n = c.args.name.now in
+    subst (λ o. GivesMember view c.as_member.result k n o) (sym c.in-Some.ensures.is)
+    (at_member view n k (shown c.in-Some.view) c.from_view.result c.as_member.result c.as_member.ensures
+    c.from_view.ensures.reads)
 
-pub returns-in-Err-clause-count : goal.returns-in-Err-clause-count
-returns-in-Err-clause-count g c =
-    let u = c.in-Some.node.now in
+pub returns-in-Some-clause-count : goal.returns-in-Some-clause-count
+returns-in-Some-clause-count g c =
     omega (
       arith,
-      c.open-view.ensures.counted,
+      c.in-Some.ensures.counted,
+      c.in-Some.ensures.weighs,
       c.from_view.ensures.count,
       g.met.T.FromNode.few,
-      ap size_of c.open-view.ensures.shown,
-      weight-found final_tables c.args.name.now optional g.T.FromNode.kind
-          (members_of c.args.members.now) u (sym c.in-Some.ensures.found),
+      weight_of_name c.args.name.now optional optional g.T.FromNode.kind any_tree (members_of c.args.members.now),
     )

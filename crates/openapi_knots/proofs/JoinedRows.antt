@@ -1,0 +1,39 @@
+-- Rows behind others: what both read, what both ask, and how much both weigh.
+use Rattle.std.proofs.Common.{◌≡◌, ◌+◌, List, [], ◌∷◌, refl, sym, ap, ◌∙◌, arith}
+use Rattle.openapi_node.specs.Tree.{Members}
+use Rattle.openapi_tables.specs.Lists.{join}
+use Rattle.openapi_tables.specs.Tree.{Entry}
+use Rattle.openapi_tables.specs.Kind.{Row, Tables}
+use Rattle.openapi_tables.specs.Form.{Form}
+use Rattle.openapi_tables.specs.Faults.{Asking, Asks, asks_row, asks_rows}
+use Rattle.openapi_tables.specs.Laws.{Among}
+use Rattle.openapi_tables.specs.ByRow.{AreRows, rows_weight}
+use Rattle.openapi_tables.proofs.ByRowLaws.{among_right}
+use Rattle.openapi_tables.proofs.ListLaws.{join_assoc}
+
+-- what each of two lists of rows reads both read
+pub rows_join : (T : Tables) (ws vs : List Row) (fs gs : List Form) (ms : Members) → AreRows T ws fs ms → AreRows T vs gs ms
+    → AreRows T (join ws vs) (join fs gs) ms
+rows_join T [] vs [] gs ms h k = k
+rows_join T [] vs (f ∷ fs) gs ms h k = absurd h
+rows_join T (w ∷ ws) vs [] gs ms h k = absurd h
+rows_join T (w ∷ ws) vs (f ∷ fs) gs ms h k = (h.0, rows_join T ws vs fs gs ms h.1 k)
+
+-- rows ask one after another
+pub asks_join : (es : List (Entry Asks)) (ws vs : List Row) → asks_rows es (join ws vs) ≡ join (asks_rows es ws)
+    (asks_rows es vs)
+asks_join es [] vs = refl
+asks_join es (w ∷ ws) vs = ap (join (asks_row es w)) (asks_join es ws vs) ∙ sym (join_assoc (asks_row es w)
+    (asks_rows es ws) (asks_rows es vs))
+
+-- what the second of two lists of rows asks both ask
+pub among_rows : (x : Asking) (es : List (Entry Asks)) (pre ws : List Row) → Among x (asks_rows es ws)
+    → Among x (asks_rows es (join pre ws))
+among_rows x es [] ws h = h
+among_rows x es (w ∷ pre) ws h = among_right x (asks_row es w) (asks_rows es (join pre ws)) (among_rows x es pre ws h)
+
+-- both weigh as much as each for itself
+pub rows_weight-join : (ws vs : List Row) (ms : Members) → rows_weight (join ws vs) ms
+    ≡ rows_weight ws ms + rows_weight vs ms
+rows_weight-join [] vs ms = omega arith
+rows_weight-join (w ∷ ws) vs ms = omega (arith, rows_weight-join ws vs ms)

@@ -1,0 +1,45 @@
+//! Items and references to them, put into the boxes in which other items hold them.
+ghost use Rattle.openapi_node.specs.Tree.{Tree};
+ghost use Rattle.openapi_tables.specs.Form.{Form};
+ghost use Rattle.openapi_tables.specs.Kind.{Kind};
+ghost use Rattle.openapi_rows.specs.Gives.{Gives};
+ghost use Rattle.openapi_values.specs.Reference.{reference_form};
+
+use openapi_node::Fault;
+use openapi_rows::boxed;
+use openapi_values::ReferenceOr;
+use std::alloc::Global;
+
+/// What was read, with an item in a box; or want of memory.
+pub fn in_inner_box<T: Drop>(
+    alloc: Global,
+    read: Result<ReferenceOr<T>, Fault>,
+) -> Result<ReferenceOr<Box<T>>, Fault>
+    ensures { (view : T → Form) (k : Kind) (t : Tree) → Gives (reference_form view) read k t
+        → Gives (reference_form (λ b. view b.value)) result k t }
+{
+    match read {
+        Ok(value) => match value {
+            ReferenceOr::Reference { reference } => Ok(ReferenceOr::Reference { reference }),
+            ReferenceOr::Item(item) => match boxed(alloc, item) {
+                Ok(item) => Ok(ReferenceOr::Item(item)),
+                Err(fault) => Err(fault),
+            },
+        },
+        Err(fault) => Err(fault),
+    }
+}
+
+/// What was read, in a box; or want of memory.
+pub fn in_outer_box<T: Drop>(
+    alloc: Global,
+    read: Result<ReferenceOr<T>, Fault>,
+) -> Result<Box<ReferenceOr<T>>, Fault>
+    ensures { (view : T → Form) (k : Kind) (t : Tree) → Gives (reference_form view) read k t
+        → Gives (λ b. reference_form view b.value) result k t }
+{
+    match read {
+        Ok(value) => boxed(alloc, value),
+        Err(fault) => Err(fault),
+    }
+}

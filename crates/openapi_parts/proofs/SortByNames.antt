@@ -1,10 +1,10 @@
 -- The possible sort of a schema, by its `type` and by the four names.
-use Rattle.std.proofs.Common.{◌≡◌, ℕ, Bool, true, false, cond, ◌&&◌, codes, List, refl, ◌∙◌, eqb}
+use Rattle.std.proofs.Common.{◌≡◌, ℕ, Bool, true, false, cond, ◌&&◌, codes, List, refl, sym, ap, ◌∙◌, eqb, true≢false}
 use Rattle.std.specs.Int.Bits.{bit_and}
 use Rattle.openapi_node.specs.Tree.{Tree}
 use Rattle.openapi_tables.proofs.ListLaws.{same_text_eq}
 use Rattle.openapi_tables.proofs.RowLaws.{not_both}
-use Rattle.openapi_tables.specs.Lists.{same_text}
+use Rattle.openapi_tables.specs.Lists.{has, same_text}
 use Rattle.openapi_tables.specs.Tree.{Entry}
 use Rattle.openapi_tables.specs.Tables.{any_rows}
 use Rattle.openapi_tables.specs.Members.{
@@ -21,22 +21,25 @@ use Rattle.openapi_tables.specs.Members.{
   is_present,
 }
 use Rattle.openapi_parts.specs.Masks.{mask_of, presence, allowance, first_of_four}
+use Rattle.openapi_parts.specs.TypeNames.{type_words}
 use Rattle.openapi_parts.proofs.MaskLaws.{names_present}
 
 other_text : (s w : List ℕ) → (s ≡ w → ⊥) → same_text s w ≡ false
 other_text s w h = not_both (same_text s w) (λ e. h (same_text_eq s w e))
 
--- no sort has a `type` that is none of the six texts
-pub named_sort-other : (s : List ℕ) → (s ≡ codes "string" → ⊥) → (s ≡ codes "number" → ⊥) → (s ≡ codes "integer" → ⊥)
-    → (s ≡ codes "boolean" → ⊥) → (s ≡ codes "object" → ⊥) → (s ≡ codes "array" → ⊥) → named_sort s ≡ any_sort
-named_sort-other s h1 h2 h3 h4 h5 h6 =
+-- no sort has a `type` that is none of the words
+other_word : (s w : List ℕ) → has type_words s ≡ false → has type_words w ≡ true → same_text s w ≡ false
+other_word s w none known = other_text s w (λ e. true≢false (sym known ∙ ap (has type_words) (sym e) ∙ none))
+
+pub named_sort-other : (s : List ℕ) → has type_words s ≡ false → named_sort s ≡ any_sort
+named_sort-other s none =
     rw (
-      other_text s (codes "string") h1,
-      other_text s (codes "number") h2,
-      other_text s (codes "integer") h3,
-      other_text s (codes "boolean") h4,
-      other_text s (codes "object") h5,
-      other_text s (codes "array") h6,
+      other_word s (codes "string") none refl,
+      other_word s (codes "number") none refl,
+      other_word s (codes "integer") none refl,
+      other_word s (codes "boolean") none refl,
+      other_word s (codes "object") none refl,
+      other_word s (codes "array") none refl,
     ) refl
 
 last : (b : Bool) → (b && true) ≡ b

@@ -12,10 +12,10 @@ use openapi_rows::{
 };
 use std::alloc::Global;
 
-/// A schema of `type` `boolean`.
+/// A schema of `type` `boolean` (OpenAPI 3.0.3, section 4.7.24).
 #[derive(Clone, Debug, PartialEq, Drop)]
 pub struct BooleanType {
-    /// `enum`: the flags that are allowed, null among them.
+    /// `enum`: the booleans that are allowed, null among them. Empty where any is.
     pub enumeration: Vec<Option<bool>>,
 }
 

@@ -15,22 +15,22 @@ use openapi_rows::{
 use openapi_values::{IntegerFormat, VariantOrUnknownOrEmpty};
 use std::alloc::Global;
 
-/// A schema of `type` `integer`. Its limits fit 64 bits with sign.
+/// A schema of `type` `integer` (OpenAPI 3.0.3, section 4.7.24). Its limits fit 64 bits with sign.
 #[derive(Clone, Debug, PartialEq, Drop)]
 pub struct IntegerType {
-    /// How many bits the number has.
+    /// The format of the number: `int32`, `int64`, another text, or none.
     pub format: VariantOrUnknownOrEmpty<IntegerFormat>,
-    /// What the number is a multiple of.
+    /// The number has to be a multiple of this.
     pub multiple_of: Option<i64>,
-    /// Whether the number is to be greater than `minimum`, and not only as great.
+    /// Whether `minimum` itself is excluded. False by default.
     pub exclusive_minimum: bool,
-    /// Whether the number is to be less than `maximum`, and not only as great.
+    /// Whether `maximum` itself is excluded. False by default.
     pub exclusive_maximum: bool,
-    /// The least number.
+    /// The least number that is allowed.
     pub minimum: Option<i64>,
-    /// The greatest number.
+    /// The greatest number that is allowed.
     pub maximum: Option<i64>,
-    /// `enum`: the numbers that are allowed, null among them.
+    /// `enum`: the numbers that are allowed, null among them. Empty where any is.
     pub enumeration: Vec<Option<i64>>,
 }
 

@@ -1,7 +1,7 @@
 #![tactic(auto)]
 //! The parts of the Schema Object of OpenAPI 3.0.3, section 4.7.24, that hold no schemas: what every kind of schema can
-//! say, the types of texts, numbers and flags, the entries of enumerations, and the sort of a schema by the names that
-//! are present.
+//! say, the types of texts, numbers and flags, the names of all types, the entries of enumerations, and the sort of a
+//! schema by the names that are present.
 mod boolean_type;
 mod enumeration;
 mod integer_type;
@@ -10,8 +10,7 @@ mod number_type;
 mod schema_data;
 mod sort;
 mod string_type;
-#[cfg(test)]
-mod tests;
+mod type_name;
 
 pub use boolean_type::BooleanType;
 pub use enumeration::{Entry, copies, entries};
@@ -21,3 +20,4 @@ pub use number_type::NumberType;
 pub use schema_data::SchemaData;
 pub use sort::Sort;
 pub use string_type::StringType;
+pub use type_name::TypeName;

@@ -15,22 +15,22 @@ use openapi_rows::{
 use openapi_values::{NumberFormat, VariantOrUnknownOrEmpty};
 use std::alloc::Global;
 
-/// A schema of `type` `number`. Its limits are whole numbers.
+/// A schema of `type` `number` (OpenAPI 3.0.3, section 4.7.24). Its limits are whole numbers here.
 #[derive(Clone, Debug, PartialEq, Drop)]
 pub struct NumberType {
-    /// How exact the number is.
+    /// The format of the number: `float`, `double`, another text, or none.
     pub format: VariantOrUnknownOrEmpty<NumberFormat>,
-    /// What the number is a multiple of.
+    /// The number has to be a multiple of this.
     pub multiple_of: Option<Whole>,
-    /// Whether the number is to be greater than `minimum`, and not only as great.
+    /// Whether `minimum` itself is excluded. False by default.
     pub exclusive_minimum: bool,
-    /// Whether the number is to be less than `maximum`, and not only as great.
+    /// Whether `maximum` itself is excluded. False by default.
     pub exclusive_maximum: bool,
-    /// The least number.
+    /// The least number that is allowed.
     pub minimum: Option<Whole>,
-    /// The greatest number.
+    /// The greatest number that is allowed.
     pub maximum: Option<Whole>,
-    /// `enum`: the numbers that are allowed, null among them.
+    /// `enum`: the numbers that are allowed, null among them. Empty where any is.
     pub enumeration: Vec<Option<Whole>>,
 }
 

@@ -6,40 +6,41 @@ ghost use Rattle.openapi_tables.proofs.SlotWriting.{final_apart};
 ghost use Rattle.openapi_rows.specs.Forms.{record_form, record_slots};
 ghost use Rattle.openapi_parts.specs.PartForms.{schema_data_rows};
 
+use openapi_annotations::{Discriminator, ExternalDocumentation, Xml};
 use openapi_node::{Fault, Node, OrderedMap, Steps, View};
-use openapi_records::{Discriminator, ExternalDocumentation, Xml};
 use openapi_rows::{
     FromNode, Object, Record, ToNode, extensions, optional, or_implied, put_extensions,
     put_implied, put_optional, read_record, write_record,
 };
 use std::alloc::Global;
 
-/// What every kind of schema can say.
+/// What every kind of Schema Object (OpenAPI 3.0.3, section 4.7.24) can say: its annotations. Each flag is false by
+/// default.
 #[derive(Clone, Debug, PartialEq, Drop)]
 pub struct SchemaData {
     /// Whether null is allowed too.
     pub nullable: bool,
-    /// Whether the value is only sent by the server.
+    /// `readOnly`: whether the property may be sent in a response alone, and not in a request.
     pub read_only: bool,
-    /// Whether the value is only sent to the server.
+    /// `writeOnly`: whether the property may be sent in a request alone, and not in a response.
     pub write_only: bool,
-    /// Whether the value is to be used no more.
+    /// Whether the schema is deprecated, and should go out of use.
     pub deprecated: bool,
-    /// Where more is said of the value.
+    /// External documentation of the schema.
     pub external_docs: Option<ExternalDocumentation>,
-    /// An example of a value.
+    /// A free-form example of an instance of the schema.
     pub example: Option<Node>,
-    /// A name for people.
+    /// The title of the schema, as in JSON Schema.
     pub title: Option<String>,
-    /// What the value stands for.
+    /// A description of the schema, in CommonMark.
     pub description: Option<String>,
-    /// Which member of a value tells the schema that it is of.
+    /// Which property tells by which of several schemas a payload is described.
     pub discriminator: Option<Discriminator>,
-    /// The value where there is none.
+    /// The value that a receiver assumes where none is given.
     pub default: Option<Node>,
-    /// How the value is written in XML.
+    /// How the schema's property is represented in XML.
     pub xml: Option<Xml>,
-    /// Extensions, by names that begin with `x-`.
+    /// Extensions: the members whose names begin with `x-`, in their order.
     pub extensions: OrderedMap<Node>,
 }
 

@@ -6,8 +6,11 @@ ghost use Rattle.openapi_tables.specs.Tree.{Entry};
 ghost use Rattle.openapi_tables.specs.Members.{named_sort, possible_sort, held};
 ghost use Rattle.openapi_parts.specs.Masks.{mask_of, presence, allowance, sort_in};
 ghost use Rattle.openapi_parts.specs.Masks.{sort_by_names, first_of_four, IsType};
+ghost use Rattle.openapi_parts.specs.TypeNames.{type_name_word};
 
 use crate::mask::Mask;
+use crate::type_name::TypeName;
+use openapi_values::Word;
 
 /// What a schema is read as, by the names that are present.
 #[derive(Clone, Copy, Debug, PartialEq)]
@@ -37,18 +40,27 @@ pub enum Sort {
 }
 
 impl Sort {
+    /// The sort of schemas of a type.
+    fn of_name(name: TypeName) -> Sort
+        ensures { sort_in result ≡ named_sort (type_name_word name) }
+    {
+        match name {
+            TypeName::String => Sort::String,
+            TypeName::Number => Sort::Number,
+            TypeName::Integer => Sort::Integer,
+            TypeName::Object => Sort::Object,
+            TypeName::Array => Sort::Array,
+            TypeName::Boolean => Sort::Boolean,
+        }
+    }
+
     /// The sort that a `type` names: Any where it names none.
     fn of_type(typ: &str) -> Sort
         ensures { sort_in result ≡ named_sort typ.now }
     {
-        match typ {
-            "string" => Sort::String,
-            "number" => Sort::Number,
-            "integer" => Sort::Integer,
-            "boolean" => Sort::Boolean,
-            "object" => Sort::Object,
-            "array" => Sort::Array,
-            _ => Sort::Any,
+        match TypeName::from_word(typ) {
+            Some(name) => Sort::of_name(name),
+            None => Sort::Any,
         }
     }
 

@@ -15,14 +15,14 @@ use openapi_rows::{
 use openapi_values::{StringFormat, VariantOrUnknownOrEmpty};
 use std::alloc::Global;
 
-/// A schema of `type` `string`.
+/// A schema of `type` `string` (OpenAPI 3.0.3, section 4.7.24).
 #[derive(Clone, Debug, PartialEq, Drop)]
 pub struct StringType {
-    /// What kind of text it is.
+    /// The format of the string: one that OpenAPI or this crate knows, another text, or none.
     pub format: VariantOrUnknownOrEmpty<StringFormat>,
-    /// A regular expression that the text has to match.
+    /// A regular expression (ECMA 262) that the string has to match.
     pub pattern: Option<String>,
-    /// `enum`: the texts that are allowed, null among them.
+    /// `enum`: the strings that are allowed, null among them. Empty where any is.
     pub enumeration: Vec<Option<String>>,
     /// The least number of characters.
     pub min_length: Option<usize>,

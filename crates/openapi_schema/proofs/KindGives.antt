@@ -1,36 +1,26 @@
 -- A schema by its rows: what they read, what they refuse, and how much they look at.
-use Rattle.std.proofs.Common.{◌≡◌, ◌+◌, ◌≤◌, true, List, [], ◌∷◌, refl, ap, ◌∙◌, subst, arith, inl, inr}
+use Rattle.std.proofs.Common.{◌≡◌, ◌+◌, ◌≤◌, true, List, [], refl, ap, ◌∙◌, subst, arith, inl, inr}
 use Rattle.openapi_node.specs.Place.{Place}
 use Rattle.openapi_node.specs.Tree.{Tree, object, Members, members_size}
-use Rattle.openapi_node.specs.Fault.{place_of}
-use Rattle.openapi_node.specs.declared.fault.Cause as failure
-use Rattle.openapi_node.specs.declared.fault.Cause.TheVariants.{
-  Missing,
-  MissingEither,
-  WrongKind,
-  NotAllowed,
-  UnknownVariant,
-  NameNotWritable,
-  NotWhole,
-  Memory,
-}
 use Rattle.openapi_node.specs.declared.fault.Fault.{Fault}
 use Rattle.openapi_tables.specs.Lists.{each, join}
-use Rattle.openapi_tables.specs.Tree.{Entry, of_members, members_list}
-use Rattle.openapi_tables.specs.Kind.{a_schema, a_schema_kind, schema_data, Row, Tables}
+use Rattle.openapi_tables.specs.Tree.{of_members, members_list}
+use Rattle.openapi_tables.specs.Kind.{a_schema, a_schema_kind, schema_data, Tables}
 use Rattle.openapi_tables.specs.Tables.{final_tables, tables_with, any_rows}
 use Rattle.openapi_tables.specs.Members.{sort, sort_of, sort_rows, made_optional, checked_rows, rows_of}
 use Rattle.openapi_tables.specs.Conforms.{conforms}
 use Rattle.openapi_tables.specs.Form.{Form, fields, forms_of}
 use Rattle.openapi_tables.specs.Read.{form, root_form, slot}
-use Rattle.openapi_tables.specs.Faults.{Asking, Cause, Asks, asked, causes, root_asks, asks_row, asks_rows}
+use Rattle.openapi_tables.specs.Faults.{Asking, Cause, asked, causes, root_asks}
 use Rattle.openapi_tables.specs.Laws.{Among}
 use Rattle.openapi_tables.specs.Sound.{rows_apart}
 use Rattle.openapi_tables.specs.ByRow.{row_form, AreRows, rows_weight, asking, Broken}
 use Rattle.openapi_tables.proofs.ListLaws.{each-join}
 use Rattle.openapi_tables.proofs.Taken.{trees_of-members}
-use Rattle.openapi_tables.proofs.ByRowLaws.{rows_hold, rows_weight-le, among_right}
-use Rattle.openapi_rows.specs.Gives.{FailsBy, Fails}
+use Rattle.openapi_tables.proofs.ByRowLaws.{rows_hold, rows_weight-le}
+use Rattle.openapi_rows.specs.Gives.{Fails}
+use Rattle.openapi_rows.proofs.Referring.{fails_moved}
+use Rattle.openapi_knots.proofs.JoinedRows.{among_rows, rows_join, rows_weight-join}
 use Rattle.openapi_schema.specs.RawSlots.{optional_rows, sort_slots}
 use Rattle.openapi_schema.proofs.SortSlots.{sort_slots-read}
 
@@ -47,13 +37,6 @@ kind_gives T fs ms h =
           (sort_of l))))) (trees_of-members (root_form T) ms)
           ∙ ap (λ gs. fields (sort s) (forms_of gs)) (sort_slots-read T ms fs h s),
     )
-
-pub rows_join : (T : Tables) (ws vs : List Row) (fs gs : List Form) (ms : Members) → AreRows T ws fs ms → AreRows T vs gs ms
-    → AreRows T (join ws vs) (join fs gs) ms
-rows_join T [] vs [] gs ms h k = k
-rows_join T [] vs (f ∷ fs) gs ms h k = absurd h
-rows_join T (w ∷ ws) vs [] gs ms h k = absurd h
-rows_join T (w ∷ ws) vs (f ∷ fs) gs ms h k = (h.0, rows_join T ws vs fs gs ms h.1 k)
 
 -- the same for a schema, with the rows that every kind has
 pub schema_gives : (T : Tables) (ds fs : List Form) (ms : Members) → AreRows T (T schema_data) ds ms
@@ -75,12 +58,7 @@ schema_gives T ds fs ms d h =
     )
 
 -- what is broken of the kind of a schema is broken of the schema
-among_rows : (x : Asking) (es : List (Entry Asks)) (pre ws : List Row) → Among x (asks_rows es ws)
-    → Among x (asks_rows es (join pre ws))
-among_rows x es [] ws h = h
-among_rows x es (w ∷ pre) ws h = among_right x (asks_row es w) (asks_rows es (join pre ws)) (among_rows x es pre ws h)
-
-none_broken : (T : Tables) (c : Cause) (a : Asking) (t : Tree) (ms : Members) → t ≡ object ms → a
+pub none_broken : (T : Tables) (c : Cause) (a : Asking) (t : Tree) (ms : Members) → t ≡ object ms → a
     ≡ asking [] a_schema_kind t
     → Among c (causes T a.kind a.tree) → ⊥
 none_broken T c a t ms e h b =
@@ -100,25 +78,9 @@ kind_broken T ms p c b = record { kind = b.kind; tree = b.tree; is_asked = go b.
         (each made_optional any_rows) h)
 
 pub kind_fails : (f : Fault) (ms : Members) → Fails f a_schema_kind (object ms) → Fails f a_schema (object ms)
-kind_fails f ms h = go f.cause h
-  where
-    go : (c : failure.Cause) → FailsBy c (place_of f) a_schema_kind (object ms)
-        → FailsBy c (place_of f) a_schema (object ms)
-    go (Missing n) b = kind_broken final_tables ms (place_of f) _ b
-    go (MissingEither n m) b = kind_broken final_tables ms (place_of f) _ b
-    go (WrongKind e) b = kind_broken final_tables ms (place_of f) _ b
-    go NotAllowed b = kind_broken final_tables ms (place_of f) _ b
-    go UnknownVariant b = kind_broken final_tables ms (place_of f) _ b
-    go NameNotWritable b = b
-    go NotWhole b = b
-    go Memory b = b
+kind_fails f ms h = fails_moved f a_schema_kind a_schema (object ms) (object ms) (kind_broken final_tables ms) h
 
 -- the rows of a schema look at each member once at most
-pub rows_weight-join : (ws vs : List Row) (ms : Members) → rows_weight (join ws vs) ms
-    ≡ rows_weight ws ms + rows_weight vs ms
-rows_weight-join [] vs ms = omega arith
-rows_weight-join (w ∷ ws) vs ms = omega (arith, rows_weight-join ws vs ms)
-
 schema_apart : rows_apart (join (final_tables schema_data) optional_rows) ≡ true
 unfolding final_tables tables_with optional_rows any_rows
 schema_apart = refl

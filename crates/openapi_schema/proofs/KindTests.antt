@@ -30,16 +30,10 @@ use Rattle.openapi_tables.specs.Members.{
   Sort,
   any_sort,
   further,
-  string_sort,
-  number_sort,
   integer_sort,
-  boolean_sort,
   held,
   entries_pass,
-  is_null_or_text,
-  is_null_or_whole,
   is_null_or_signed,
-  is_null_or_flag,
 }
 use Rattle.openapi_tables.specs.Form.{Form, sequence, no_forms}
 use Rattle.openapi_tables.specs.ByRow.{AreRows, RowGives}
@@ -79,7 +73,7 @@ is_enumeration tree_in v b h = h ∙ ap (or_else (sequence no_forms)) (sym (lent
 module _ (a : FirstNames) (b : LastNames) (ms : Members) (rows : AreRows final_tables optional_rows
     (kind_name_rows a b) ms) where
   -- what stands under `enum` passes a test where its entries do
-  entries_held : (p : Tree → Bool) → entries_pass p (held (codes "enum") (members_list ms))
+  pub entries_held : (p : Tree → Bool) → entries_pass p (held (codes "enum") (members_list ms))
       ≡ entries_test p (trees_in b.enumeration)
   unfolding optional_rows any_rows
   entries_held p =
@@ -87,24 +81,15 @@ module _ (a : FirstNames) (b : LastNames) (ms : Members) (rows : AreRows final_t
       enumeration_read final_tables ms p (trees_in b.enumeration)
       (subst P (lent_form b.enumeration) rows.1.1.1.1.1.1.1.1.1.1.1.1.1.1.1.1.0)
 
-  pub string_further : further string_sort (members_list ms) ≡ entries_test is_null_or_text (trees_in b.enumeration)
-  string_further = entries_held is_null_or_text
-
-  pub number_further : further number_sort (members_list ms) ≡ entries_test is_null_or_whole (trees_in b.enumeration)
-  number_further = entries_held is_null_or_whole
-
-  pub boolean_further : further boolean_sort (members_list ms) ≡ entries_test is_null_or_flag (trees_in b.enumeration)
-  boolean_further = entries_held is_null_or_flag
-
   pub integer_further : further integer_sort (members_list ms)
-      ≡ (entries_test is_null_or_signed (trees_in b.enumeration) && limit_test a.multiple_of && limit_test a.minimum
-      && limit_test a.maximum)
+      ≡ (entries_test is_null_or_signed (trees_in b.enumeration) && limit_test a.plain.multiple_of && limit_test a.plain.minimum
+      && limit_test a.plain.maximum)
   unfolding optional_rows any_rows
   integer_further =
       λ i. entries_held is_null_or_signed i
-      && limit_read final_tables ms (codes "multipleOf") a.multiple_of rows.1.1.0 i
-      && limit_read final_tables ms (codes "minimum") a.minimum rows.1.1.1.1.1.0 i
-      && limit_read final_tables ms (codes "maximum") a.maximum rows.1.1.1.1.1.1.0 i
+      && limit_read final_tables ms (codes "multipleOf") a.plain.multiple_of rows.1.1.0 i
+      && limit_read final_tables ms (codes "minimum") a.plain.minimum rows.1.1.1.1.1.0 i
+      && limit_read final_tables ms (codes "maximum") a.plain.maximum rows.1.1.1.1.1.1.0 i
 
 -- a kind of a sort, where its further condition holds; and of no sort in particular, where it does not
 pub passes_by : (s : Sort) (a : FirstNames) (b : LastNames) (k : SchemaKind)

@@ -54,7 +54,8 @@ use Rattle.openapi_schema.specs.declared.schema.AdditionalProperties.TheFolds.{f
 use Rattle.openapi_schema.specs.declared.schema.AdditionalProperties.TheOpen.{AdditionalProperties-F, Schema-F}
 use Rattle.openapi_schema.specs.declared.schema.Schema.{Schema, roll-Schema}
 use Rattle.openapi_schema.specs.declared.schema.SchemaKind.{SchemaKind}
-use Rattle.openapi_schema.proofs.KindGives.{kind_gives, schema_gives, rows_join, rows_weight-join}
+use Rattle.openapi_knots.proofs.JoinedRows.{rows_join, rows_weight-join}
+use Rattle.openapi_schema.proofs.KindGives.{kind_gives, schema_gives}
 use denote.Hole.Carrier.{roll}
 
 -- the rows of all kind names are those of the first twelve, and of the last twelve

@@ -8,10 +8,10 @@ use Rattle.openapi_tables.specs.Members.{plain}
 use Rattle.openapi_rows.specs.Forms.{text_form, flag_form, number_form, size_form, optional_form}
 use Rattle.openapi_rows.specs.Forms.{extensions_form}
 use Rattle.openapi_values.specs.Words.{number_format_word, integer_format_word, string_format_word}
-use Rattle.openapi_records.specs.Objects.{external_documentation_rows, discriminator_rows, xml_rows}
-use Rattle.openapi_records.specs.declared.discriminator.Discriminator.{Discriminator}
-use Rattle.openapi_records.specs.declared.external_documentation.ExternalDocumentation.{ExternalDocumentation}
-use Rattle.openapi_records.specs.declared.xml.Xml.{Xml}
+use Rattle.openapi_annotations.specs.Objects.{external_documentation_rows, discriminator_rows, xml_rows}
+use Rattle.openapi_annotations.specs.declared.discriminator.Discriminator.{Discriminator}
+use Rattle.openapi_annotations.specs.declared.external_documentation.ExternalDocumentation.{ExternalDocumentation}
+use Rattle.openapi_annotations.specs.declared.xml.Xml.{Xml}
 use Rattle.openapi_parts.specs.Enumerations.{text_tree, number_tree, signed_tree, flag_tree}
 use Rattle.openapi_schema.specs.SchemaForms.{
   entry_form,
@@ -26,7 +26,7 @@ use Rattle.openapi_parts.specs.declared.integer_type.IntegerType.{IntegerType}
 use Rattle.openapi_parts.specs.declared.number_type.NumberType.{NumberType}
 use Rattle.openapi_parts.specs.declared.string_type.StringType.{StringType}
 use Rattle.openapi_parts.specs.declared.schema_data.SchemaData.{SchemaData}
-use Rattle.openapi_schema.proofs.CloneForms.{
+use Rattle.openapi_knots.proofs.CloneForms.{
   IsSame,
   IsTextClone,
   IsOptionClone,

@@ -1,5 +1,5 @@
 -- The type of a schema by itself: its slots are those of its tag, and what is written of it.
-use Rattle.std.proofs.Common.{◌≡◌, ℕ, true, List, [], ◌∷◌, ◌++◌, Option, codes, refl, sym, ap, ◌∙◌, subst}
+use Rattle.std.proofs.Common.{◌≡◌, ℕ, true, List, [], ◌∷◌, ◌++◌, Option, Some, codes, refl, sym, ap, ◌∙◌, subst}
 use Rattle.openapi_map.specs.Entries.{Entries}
 use Rattle.openapi_node.specs.Tree.{Tree, object, members_of}
 use Rattle.openapi_node.specs.declared.fault.Fault.{Fault}
@@ -41,7 +41,8 @@ use Rattle.openapi_schema.specs.TypeForms.{
   schema_type_form,
   schema_type_sound,
 }
-use Rattle.openapi_schema.specs.Writing.{AreNew, sorted_slots, tag_members, tag_slots, type_slots, untagged}
+use Rattle.openapi_knots.specs.Writing.{AreNew}
+use Rattle.openapi_schema.specs.Writing.{sorted_slots, tag_members, tag_slots, type_slots, untagged}
 use Rattle.openapi_schema.specs.declared.schema.AdditionalProperties.TheBlock.{
   the_data,
   the_data-1,
@@ -54,7 +55,7 @@ use Rattle.openapi_schema.specs.declared.schema.AdditionalProperties.TheBlock.{
 use Rattle.openapi_schema.specs.declared.schema.AdditionalProperties.TheFolds.{fold_out-SchemaType, map-SchemaType}
 use Rattle.openapi_schema.specs.declared.schema.AdditionalProperties.TheOpen.{SchemaType-F}
 use Rattle.openapi_schema.specs.declared.schema.SchemaType.{SchemaType, out-SchemaType}
-use Rattle.openapi_schema.proofs.JoinedSlots.{rows_new, tag_new, tagged_rows}
+use Rattle.openapi_schema.proofs.TaggedRows.{rows_new, tag_new, tagged_rows}
 use Rattle.openapi_schema.proofs.WholeSchemas.{loses_wider}
 use Rattle.openapi_schema.proofs.WrittenForms.{untagged_loses}
 
@@ -92,6 +93,10 @@ is_typed t =
 module _ (t : SchemaType) where
   same : type_slots t ≡ tagged_slots (codes "type") type_cases schema_type_word schema_type_fields t
   same = (is_typed t).1
+
+  -- its slots with their `type` are those without it, behind it
+  pub type_again : join (tag_slots (Some (schema_type_word t))) (untagged (type_slots t)) ≡ type_slots t
+  type_again = subst (λ ss. join (tag_slots (Some (schema_type_word t))) (untagged ss) ≡ ss) (sym same) refl
 
   pub type_loses : (f : Fault) → Loses f (slots_lost final_tables (untagged (type_slots t)))
       → Loses f (unwritable final_tables schema_type (schema_type_form t))

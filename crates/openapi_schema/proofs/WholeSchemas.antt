@@ -35,10 +35,12 @@ use Rattle.openapi_tables.proofs.WellMade.{final_sound}
 use Rattle.openapi_rows.specs.Forms.{record_slots}
 use Rattle.openapi_rows.specs.Gives.{Loses, LosesBy}
 use Rattle.openapi_schema.specs.SchemaForms.{schema_data_rows, schema_form, schema_kind_rows}
-use Rattle.openapi_schema.specs.Writing.{AreNew, kind_slots, tag_members, tag_slots, untagged}
+use Rattle.openapi_knots.specs.Writing.{AreNew}
+use Rattle.openapi_schema.specs.Writing.{kind_slots, tag_members, tag_slots, untagged}
 use Rattle.openapi_schema.specs.declared.schema.Schema.{Schema, out-Schema}
 use Rattle.openapi_parts.specs.declared.schema_data.SchemaData.{SchemaData}
-use Rattle.openapi_schema.proofs.JoinedSlots.{loses_first, rows_new, tag_new, tagged_rows, written_behind}
+use Rattle.openapi_knots.proofs.JoinedSlots.{loses_first, written_behind}
+use Rattle.openapi_schema.proofs.TaggedRows.{rows_new, tag_new, tagged_rows}
 use Rattle.openapi_schema.proofs.OpenedForms.{schema_form-out}
 
 -- a refusal of a part is one of the whole

@@ -22,10 +22,12 @@ use Rattle.openapi_tables.proofs.WellMade.{final_sound}
 use Rattle.openapi_rows.specs.Gives.{Loses}
 use Rattle.openapi_schema.specs.SchemaForms.{schema_form, schema_kind_rows}
 use Rattle.openapi_schema.specs.Reading.{schema_kind_form}
-use Rattle.openapi_schema.specs.Writing.{AreNew, kind_slots, tag_members, tag_slots, untagged, untagged_from}
+use Rattle.openapi_knots.specs.Writing.{AreNew}
+use Rattle.openapi_schema.specs.Writing.{kind_slots, tag_members, tag_slots, untagged, untagged_from}
 use Rattle.openapi_schema.specs.declared.schema.Schema.{Schema}
 use Rattle.openapi_schema.specs.declared.schema.SchemaKind.{SchemaKind}
-use Rattle.openapi_schema.proofs.JoinedSlots.{loses_second, rows_new, tag_new, tagged_rows}
+use Rattle.openapi_knots.proofs.JoinedSlots.{loses_second}
+use Rattle.openapi_schema.proofs.TaggedRows.{rows_new, tag_new, tagged_rows}
 use Rattle.openapi_schema.proofs.WholeSchemas.{first, second, its_lost, kind_lost, kind_print, loses_wider}
 
 -- what slots lose without a `type` they lose with it

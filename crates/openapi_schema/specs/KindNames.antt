@@ -1,60 +1,85 @@
--- What stands under the kind names of a schema, as flags and as forms.
-use Rattle.std.specs.Prelude.{Bool, List, [], ◌∷◌, is_some}
+-- What stands under the kind names of a schema, as forms.
+use Rattle.std.specs.Prelude.{Bool, not, List, [], ◌∷◌, take, drop, codes}
 use Rattle.openapi_node.specs.Tree.{Tree}
-use Rattle.openapi_tables.specs.Lists.{each, join}
-use Rattle.openapi_tables.specs.Form.{Form, leaf, sequence, forms_of}
-use Rattle.openapi_rows.specs.Forms.{text_form, optional_form, map_form}
-use Rattle.openapi_values.specs.Reference.{reference_form}
-use Rattle.openapi_schema.specs.SchemaForms.{flag_form, number_form, size_form, list_form, schema_form, additional_form}
+use Rattle.openapi_tables.specs.Lists.{each, join, only}
+use Rattle.openapi_tables.specs.ByRow.{is_named}
+use Rattle.openapi_tables.specs.Form.{Form, leaf, named, no_named, sequence, no_forms, forms_of}
+use Rattle.openapi_tables.specs.Kind.{Row, any_schema}
+use Rattle.openapi_tables.specs.Proper.{is_absent}
+use Rattle.openapi_tables.specs.Tables.{final_tables}
+use Rattle.openapi_rows.specs.Forms.{text_form, optional_form, list_form, map_form}
+use Rattle.openapi_schema.specs.PlainNames.{plain_first_rows, plain_last_rows}
+use Rattle.openapi_schema.specs.RawSlots.{or_else}
+use Rattle.openapi_schema.specs.Reading.{ref_form, inner_box_form, outer_box_form}
+use Rattle.openapi_schema.specs.SchemaForms.{additional_form}
 use Rattle.openapi_schema.specs.declared.kind_names.FirstNames.{FirstNames}
 use Rattle.openapi_schema.specs.declared.kind_names.LastNames.{LastNames}
-
--- under which of the names something stands
-abbrev pub flags_in : FirstNames → LastNames → List Bool
-flags_in a b =
-    is_some a.typ ∷ is_some a.pattern ∷ is_some a.multiple_of ∷ is_some a.exclusive_minimum
-    ∷ is_some a.exclusive_maximum ∷ is_some a.minimum ∷ is_some a.maximum ∷ is_some a.properties
-    ∷ is_some a.required ∷ is_some a.additional_properties ∷ is_some a.min_properties ∷ is_some a.max_properties
-    ∷ is_some b.items ∷ is_some b.min_items ∷ is_some b.max_items ∷ is_some b.unique_items
-    ∷ is_some b.enumeration ∷ is_some b.format ∷ is_some b.min_length ∷ is_some b.max_length
-    ∷ is_some b.one_of ∷ is_some b.all_of ∷ is_some b.any_of ∷ is_some b.not ∷ []
 
 -- a list of trees that are kept
 abbrev pub trees_form : List Tree → Form
 trees_form ts = sequence (forms_of (each leaf ts))
 
--- the forms of what stands under the names
-abbrev pub first_rows : FirstNames → List Form
-first_rows a =
-    optional_form text_form a.typ
-    ∷ optional_form text_form a.pattern
-    ∷ optional_form number_form a.multiple_of
-    ∷ optional_form flag_form a.exclusive_minimum
-    ∷ optional_form flag_form a.exclusive_maximum
-    ∷ optional_form number_form a.minimum
-    ∷ optional_form number_form a.maximum
-    ∷ optional_form (map_form (reference_form (λ b. schema_form b.value))) a.properties
-    ∷ optional_form (list_form text_form) a.required
+-- the form of a list or a map that may be missing, as it is
+abbrev pub as_is : Form → Form → Form
+as_is d f = f
+
+-- the forms of what stands under the first twelve names, with those of lists and maps by whether they may be missing
+abbrev pub first_rows_by : (Form → Form → Form) → FirstNames → List Form
+first_rows_by list_as a =
+    let plain = plain_first_rows a.plain in
+    join (take 7 plain)
+    (list_as (named no_named) (optional_form (map_form inner_box_form) a.properties)
+    ∷ list_as (sequence no_forms) (optional_form (list_form text_form) a.required)
     ∷ optional_form additional_form a.additional_properties
-    ∷ optional_form size_form a.min_properties
-    ∷ optional_form size_form a.max_properties
+    ∷ drop 7 plain)
+
+-- the same for the names that combine schemas
+abbrev pub combined_rows_by : (Form → Form → Form) → LastNames → List Form
+combined_rows_by list_as b =
+    list_as (sequence no_forms) (optional_form (list_form ref_form) b.one_of)
+    ∷ list_as (sequence no_forms) (optional_form (list_form ref_form) b.all_of)
+    ∷ list_as (sequence no_forms) (optional_form (list_form ref_form) b.any_of)
+    ∷ optional_form outer_box_form b.not
     ∷ []
 
+-- the same for the last twelve names, with the form of the enumeration
+abbrev pub last_rows_by : (Form → Form → Form) → Form → LastNames → List Form
+last_rows_by list_as entries b =
+    let plain = plain_last_rows b.plain in
+    optional_form inner_box_form b.items
+    ∷ join (take 3 plain) (entries ∷ join (drop 3 plain) (combined_rows_by list_as b))
+
+-- the forms of what stands under all names, of which any may be missing
+abbrev pub first_rows : FirstNames → List Form
+first_rows = first_rows_by as_is
+
 abbrev pub last_rows : LastNames → List Form
-last_rows b =
-    optional_form (reference_form (λ s. schema_form s.value)) b.items
-    ∷ optional_form size_form b.min_items
-    ∷ optional_form size_form b.max_items
-    ∷ optional_form flag_form b.unique_items
-    ∷ optional_form (λ nodes. trees_form nodes.now) b.enumeration
-    ∷ optional_form text_form b.format
-    ∷ optional_form size_form b.min_length
-    ∷ optional_form size_form b.max_length
-    ∷ optional_form (list_form (reference_form schema_form)) b.one_of
-    ∷ optional_form (list_form (reference_form schema_form)) b.all_of
-    ∷ optional_form (list_form (reference_form schema_form)) b.any_of
-    ∷ optional_form (λ r. reference_form schema_form r.value) b.not
-    ∷ []
+last_rows b = last_rows_by as_is (optional_form (λ nodes. trees_form nodes.now) b.enumeration) b
 
 abbrev pub kind_name_rows : FirstNames → LastNames → List Form
 kind_name_rows a b = join (first_rows a) (last_rows b)
+
+-- under which of the names something stands
+abbrev pub flags_in : FirstNames → LastNames → List Bool
+flags_in a b = each (λ f. not (is_absent f)) (kind_name_rows a b)
+
+-- the rows of a schema of no sort in particular: the first twelve, the last twelve, and these but for the enumeration
+unfoldable pub any_first : List Row
+any_first = take 12 (final_tables any_schema)
+
+unfoldable pub any_last : List Row
+any_last = drop 12 (final_tables any_schema)
+
+unfoldable pub any_rest : List Row
+any_rest = only (λ w. not (is_named (codes "enum") w)) any_last
+
+-- their forms, where a list or a map that is missing is empty
+abbrev pub any_first_rows : FirstNames → List Form
+any_first_rows = first_rows_by or_else
+
+abbrev pub any_last_rows : Form → LastNames → List Form
+any_last_rows = last_rows_by or_else
+
+abbrev pub any_rest_rows : LastNames → List Form
+any_rest_rows b =
+    optional_form inner_box_form b.items ∷ join (plain_last_rows b.plain) (combined_rows_by or_else b)

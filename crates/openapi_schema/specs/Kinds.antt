@@ -19,7 +19,7 @@ use Rattle.openapi_schema.specs.KindNames.{trees_form, kind_name_rows}
 use Rattle.openapi_schema.specs.declared.kind_names.FirstNames.{FirstNames}
 use Rattle.openapi_schema.specs.declared.kind_names.LastNames.{LastNames}
 use Rattle.openapi_schema.specs.declared.schema.SchemaKind.{SchemaKind}
-use Rattle.openapi_schema.specs.declared.schema_kind.Limits.{Limits}
+use Rattle.openapi_schema.specs.declared.kinds.Limits.{Limits}
 
 -- the trees that may be lent
 abbrev pub trees_in : Option (Bor (List Tree)) → Option (List Tree)
@@ -69,13 +69,13 @@ GivesLimit (Some p) o = (limit_test o ≡ true) × (p ≡ o)
 
 -- whether all limits fit
 abbrev pub limits_test : FirstNames → Bool
-limits_test a = limit_test a.multiple_of && limit_test a.minimum && limit_test a.maximum
+limits_test a = limit_test a.plain.multiple_of && limit_test a.plain.minimum && limit_test a.plain.maximum
 
 -- all limits fit, and are the numbers; or one does not fit
 abbrev pub GivesLimits : Option Limits → FirstNames → Type 0
 GivesLimits None a = limits_test a ≡ false
 GivesLimits (Some x) a =
-    (limits_test a ≡ true) × (x.multiple_of ≡ a.multiple_of) × (x.minimum ≡ a.minimum) × (x.maximum ≡ a.maximum)
+    (limits_test a ≡ true) × (x.multiple_of ≡ a.plain.multiple_of) × (x.minimum ≡ a.plain.minimum) × (x.maximum ≡ a.plain.maximum)
 
 -- the trees, none where there are none
 abbrev pub trees_or_none : Option (List Tree) → List Tree

@@ -1,4 +1,3 @@
-pub mod AnyParts
 pub mod Fields
 pub mod KindNames
 pub mod Kinds

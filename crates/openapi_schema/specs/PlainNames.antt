@@ -1,21 +1,19 @@
--- The kind names that hold no schemas.
+-- The kind names of one text, number or flag.
 use Rattle.std.specs.Prelude.{Bool, true, false, List, [], ◌∷◌}
 use Rattle.openapi_tables.specs.Lists.{only}
-use Rattle.openapi_tables.specs.Kind.{Kind, list_of, map_of, ref_to, flag_or_schema, Row, row, either, class, constant}
+use Rattle.openapi_tables.specs.Kind.{Kind, any_text, any_flag, number, Row, row, either, class, constant}
 use Rattle.openapi_tables.specs.Form.{Form}
-use Rattle.openapi_rows.specs.Forms.{text_form, flag_form, optional_form, list_form, number_form, size_form}
-use Rattle.openapi_schema.specs.KindNames.{trees_form}
+use Rattle.openapi_rows.specs.Forms.{text_form, flag_form, optional_form, number_form, size_form}
 use Rattle.openapi_schema.specs.Reading.{first_optional, last_optional}
 use Rattle.openapi_schema.specs.declared.plain_names.PlainFirst.{PlainFirst}
 use Rattle.openapi_schema.specs.declared.plain_names.PlainLast.{PlainLast}
 
--- whether a kind holds no schema
+-- whether a kind is that of a text, a number or a flag
 abbrev pub is_plain : Kind → Bool
-is_plain (ref_to k) = false
-is_plain flag_or_schema = false
-is_plain (list_of k) = is_plain k
-is_plain (map_of k) = is_plain k
-is_plain k = true
+is_plain any_text = true
+is_plain any_flag = true
+is_plain (number w) = true
+is_plain k = false
 
 abbrev pub is_plain_row : Row → Bool
 is_plain_row (row n m k) = is_plain k
@@ -23,7 +21,7 @@ is_plain_row (either a j b k) = false
 is_plain_row (class c k) = false
 is_plain_row (constant n v) = false
 
--- the rows of the names of each half that hold no schemas
+-- the rows of these names in each half
 unfoldable pub plain_first : List Row
 plain_first = only is_plain_row first_optional
 
@@ -40,7 +38,6 @@ plain_first_rows a =
     ∷ optional_form flag_form a.exclusive_maximum
     ∷ optional_form number_form a.minimum
     ∷ optional_form number_form a.maximum
-    ∷ optional_form (list_form text_form) a.required
     ∷ optional_form size_form a.min_properties
     ∷ optional_form size_form a.max_properties
     ∷ []
@@ -50,7 +47,6 @@ plain_last_rows b =
     optional_form size_form b.min_items
     ∷ optional_form size_form b.max_items
     ∷ optional_form flag_form b.unique_items
-    ∷ optional_form (λ nodes. trees_form nodes.now) b.enumeration
     ∷ optional_form text_form b.format
     ∷ optional_form size_form b.min_length
     ∷ optional_form size_form b.max_length

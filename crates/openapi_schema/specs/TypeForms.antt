@@ -28,8 +28,8 @@ use Rattle.openapi_tables.specs.Tables.{
 use Rattle.openapi_rows.specs.Forms.{tagged_form}
 use Rattle.openapi_schema.specs.SchemaForms.{schema_type_rows}
 use Rattle.openapi_schema.specs.declared.schema.SchemaType.{SchemaType}
-use Rattle.openapi_schema.specs.declared.schema_type.TypeName.{TypeName}
-use Rattle.openapi_schema.specs.declared.schema_type.TypeName.TheVariants as names
+use Rattle.openapi_parts.specs.TypeNames.{type_name_word}
+use Rattle.openapi_parts.specs.declared.type_name.TypeName.{TypeName}
 
 -- the types of schemas, each with its table
 abbrev pub type_cases : List Case
@@ -41,20 +41,6 @@ type_cases =
     ∷ case "array" array_type
     ∷ case "boolean" boolean_type
     ∷ []
-
--- the words of the types
-abbrev pub type_words : List (List ℕ)
-type_words =
-    codes "string" ∷ codes "number" ∷ codes "integer" ∷ codes "object" ∷ codes "array" ∷ codes "boolean" ∷ []
-
--- the word of a type
-abbrev pub type_name_word : TypeName → List ℕ
-type_name_word names.String = codes "string"
-type_name_word names.Number = codes "number"
-type_name_word names.Integer = codes "integer"
-type_name_word names.Object = codes "object"
-type_name_word names.Array = codes "array"
-type_name_word names.Boolean = codes "boolean"
 
 -- the table of a type
 abbrev pub table_of : TypeName → TableName

@@ -1,19 +1,11 @@
 -- What the writers of schemas return, beside what the tables say.
-use Rattle.std.specs.Prelude.{◌≡◌, ℕ, true, false, List, [], ◌∷◌, ◌++◌, Option, Some, None, Result, Ok, Err, slice_get, codes}
-use Rattle.openapi_map.specs.Entries.{Entries, get}
-use Rattle.openapi_node.specs.Place.{named}
+use Rattle.std.specs.Prelude.{ℕ, List, [], ◌∷◌, Option, Some, None, codes}
+use Rattle.openapi_map.specs.Entries.{Entries}
 use Rattle.openapi_node.specs.Tree.{Tree, text}
-use Rattle.openapi_node.specs.declared.fault.Fault.{Fault}
-use Rattle.openapi_node.specs.declared.node.Node.{Node}
-use Rattle.openapi_tables.specs.Kind.{Kind, Mode, Row, row, either, class, constant}
-use Rattle.openapi_tables.specs.Tables.{final_tables}
+use Rattle.openapi_tables.specs.Kind.{Row, row, either, class, constant}
 use Rattle.openapi_tables.specs.Members.{sort_rows}
-use Rattle.openapi_tables.specs.Form.{Form, absent}
-use Rattle.openapi_tables.specs.ByRow.{is_named}
-use Rattle.openapi_tables.specs.Print.{print, is_silent}
-use Rattle.openapi_tables.specs.Unwritable.{unwritable}
-use Rattle.openapi_tables.specs.Slots.{Slot, slots, slot_where, slots_lost, IsWritten}
-use Rattle.openapi_rows.specs.Gives.{Loses, LosesBelow}
+use Rattle.openapi_tables.specs.Form.{absent}
+use Rattle.openapi_tables.specs.Slots.{Slot, slots}
 use Rattle.openapi_schema.specs.SchemaForms.{Sorted, schema_kind_rows, schema_type_rows}
 use Rattle.openapi_schema.specs.declared.schema.SchemaKind.{SchemaKind}
 use Rattle.openapi_schema.specs.declared.schema.SchemaType.{SchemaType}
@@ -44,36 +36,7 @@ abbrev pub untagged : List Slot → List Slot
 untagged [] = []
 untagged (s ∷ ss) = untagged_from s.0 s ss
 
--- members that slots were written as, or a refusal of one of these
-abbrev pub RowsWritten : List Slot → Result (Entries Tree) Fault → Type 0
-RowsWritten ss (Ok out) = IsWritten final_tables ss out
-RowsWritten ss (Err f) = Loses f (slots_lost final_tables ss)
-
--- a member was put last, or what was to be put is refused
-abbrev pub PutAs : Kind → Form → List ℕ → Result (Unit {0}) Fault → Entries Tree → Entries Tree → Type 0
-PutAs k f n (Ok u) old new = (new ≡ old ++ (n, print final_tables k f) ∷ []) × (unwritable final_tables k f ≡ [])
-PutAs k f n (Err e) old new = LosesBelow (named n) e (unwritable final_tables k f)
-
--- no name of some members is there yet
-abbrev pub AreNew : Entries Tree → Entries Tree → Type 0
-AreNew more out = (j : ℕ) (e : List ℕ × Tree) → slice_get more j ≡ Some e → get e.0 out ≡ None
-
 -- the member of a `type`
 abbrev pub tag_members : Option (List ℕ) → Entries Tree
 tag_members None = []
 tag_members (Some w) = (codes "type", text w) ∷ []
-
--- what was written of the value of a row of a mode: nothing where it is left out
-abbrev pub GivesWritten : Mode → Kind → Form → Result (Option Node) Fault → Type 0
-GivesWritten m k f (Ok None) = is_silent m f ≡ true
-GivesWritten m k f (Ok (Some n)) =
-    (is_silent m f ≡ false) × (n ≡ print final_tables k f) × (unwritable final_tables k f ≡ [])
-GivesWritten m k f (Err e) = Loses e (unwritable final_tables k f)
-
--- It was written of the value of a name among slots.
-pub record HoldsWritten (n : List ℕ) (ss : List Slot) (w : Result (Option Node) Fault) : Type 0 where
-  pub mode : Mode
-  pub kind : Kind
-  pub form : Form
-  pub at : slot_where (is_named n) ss ≡ Some (row n mode kind, form)
-  pub is : GivesWritten mode kind form w

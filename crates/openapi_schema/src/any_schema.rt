@@ -6,65 +6,65 @@ ghost use Rattle.openapi_tables.proofs.SlotWriting.{final_apart};
 ghost use Rattle.openapi_rows.specs.Forms.{record_form};
 ghost use Rattle.openapi_schema.specs.Fields.{any_fields, any_slots};
 
-use crate::any_parts::{any_of_parts, read_any_first, read_any_last};
+use crate::any_names::{any_of_names, read_any_first, read_any_rest};
 use crate::schema::{AdditionalProperties, Schema};
 use crate::write::any_rows;
 use openapi_node::{Fault, Node, OrderedMap, Steps, View, Whole};
-use openapi_rows::{FromNode, Object, Record, ToNode, read_record, write_record};
+use openapi_rows::{FromNode, Object, Record, ToNode, or_implied, read_record, write_record};
 use openapi_values::ReferenceOr;
 use std::alloc::Global;
 
-/// A schema with any combination of the members that tell the kinds of schemas apart.
+/// A schema whose members fit no one kind: any combination of the members by which the kinds of schemas are told apart.
 #[cycle(schema)]
 #[derive(Debug, PartialEq, Drop)]
 pub struct AnySchema {
     /// `type`: any text.
     pub typ: Option<String>,
-    /// A regular expression that a text has to match.
+    /// A regular expression (ECMA 262) that a string has to match.
     pub pattern: Option<String>,
-    /// What a number is a multiple of.
+    /// A number has to be a multiple of this.
     pub multiple_of: Option<Whole>,
-    /// Whether a number is to be greater than `minimum`, and not only as great.
+    /// Whether `minimum` itself is excluded.
     pub exclusive_minimum: Option<bool>,
-    /// Whether a number is to be less than `maximum`, and not only as great.
+    /// Whether `maximum` itself is excluded.
     pub exclusive_maximum: Option<bool>,
-    /// The least number.
+    /// The least number that is allowed.
     pub minimum: Option<Whole>,
-    /// The greatest number.
+    /// The greatest number that is allowed.
     pub maximum: Option<Whole>,
-    /// What the members of an object of these names may be.
+    /// The schemas of the properties of an object, by their names.
     pub properties: OrderedMap<ReferenceOr<Box<Schema>>>,
-    /// The names of the members that an object has to have.
+    /// The names of the properties that an object has to have.
     pub required: Vec<String>,
-    /// What the other members of an object may be.
+    /// `additionalProperties`: whether an object may have other properties, or the schema that they have.
     pub additional_properties: Option<AdditionalProperties>,
-    /// The least number of members of an object.
+    /// The least number of properties of an object.
     pub min_properties: Option<usize>,
-    /// The greatest number of members of an object.
+    /// The greatest number of properties of an object.
     pub max_properties: Option<usize>,
-    /// What the elements of an array may be.
+    /// The schema of the items of an array.
     pub items: Option<ReferenceOr<Box<Schema>>>,
-    /// The least number of elements of an array.
+    /// The least number of items of an array.
     pub min_items: Option<usize>,
-    /// The greatest number of elements of an array.
+    /// The greatest number of items of an array.
     pub max_items: Option<usize>,
-    /// Whether no two elements of an array may be equal.
+    /// Whether no two items of an array may be equal.
     pub unique_items: Option<bool>,
-    /// `enum`: the values that are allowed.
+    /// `enum`: the values that are allowed. Empty where any is.
     pub enumeration: Vec<Node>,
-    /// What kind of text or number it is.
+    /// The format of a string or a number.
     pub format: Option<String>,
-    /// The least number of characters of a text.
+    /// The least number of characters of a string.
     pub min_length: Option<usize>,
-    /// The greatest number of characters of a text.
+    /// The greatest number of characters of a string.
     pub max_length: Option<usize>,
-    /// Exactly one of these schemas.
+    /// `oneOf`: exactly one of these schemas has to fit.
     pub one_of: Vec<ReferenceOr<Schema>>,
-    /// All of these schemas.
+    /// `allOf`: all of these schemas have to fit.
     pub all_of: Vec<ReferenceOr<Schema>>,
-    /// At least one of these schemas.
+    /// `anyOf`: at least one of these schemas has to fit.
     pub any_of: Vec<ReferenceOr<Schema>>,
-    /// Not this schema.
+    /// This schema may not fit.
     pub not: Option<Box<ReferenceOr<Schema>>>,
 }
 
@@ -135,6 +135,7 @@ impl Object for AnySchema {
     ghost apart = { λ x. final_apart any_schema (any_fields x) };
 }
 
+#[tactic(auto, unfolding(openapi_tables::specs::Tables::final_tables, openapi_tables::specs::Tables::tables_with, openapi_tables::specs::Tables::any_rows))]
 impl Record for AnySchema {
     ghost rows_of = { any_fields };
 
@@ -143,13 +144,10 @@ impl Record for AnySchema {
         members: &OrderedMap<Node>,
         steps: &mut Steps,
     ) -> Result<AnySchema, Fault> {
-        match read_any_first(alloc, members, steps) {
-            Ok(first) => match read_any_last(alloc, members, steps) {
-                Ok(last) => Ok(any_of_parts(first, last)),
-                Err(fault) => Err(fault),
-            },
-            Err(fault) => Err(fault),
-        }
+        let first = read_any_first(alloc, members, steps)?;
+        let enumeration = or_implied::<Self, _>(alloc, members, "enum", steps)?;
+        let last = read_any_rest(alloc, members, steps)?;
+        Ok(any_of_names(alloc, first, last, enumeration))
     }
 
     fn put_rows(&self, alloc: Global, out: &mut OrderedMap<Node>) -> Result<(), Fault> {

@@ -1,15 +1,21 @@
 //! Clones of the types that hold schemas. They are written by hand, since a derived clone of a type that leads back to
 //! itself promises nothing. The functions call each other in a circle, as schemas hold schemas: each gets a smaller
 //! part of the schema in the end. An error says that memory was refused.
-ghost use Rattle.std.specs.Prelude.{◌≡◌, IfOk};
+ghost use Rattle.std.specs.Prelude.{◌≡◌, IfOk, take, drop};
+ghost use Rattle.openapi_tables.specs.Form.{leaf};
 ghost use Rattle.openapi_rows.specs.Forms.{list_form, map_form, optional_form};
 ghost use Rattle.openapi_schema.specs.Fields.{any_fields, array_fields, object_fields};
+ghost use Rattle.openapi_schema.specs.KindNames.{any_first_rows, any_last_rows};
 ghost use Rattle.openapi_schema.specs.Reading.{ref_form, inner_box_form, outer_box_form};
 ghost use Rattle.openapi_schema.specs.SchemaForms.{additional_form, schema_form};
 ghost use Rattle.openapi_schema.specs.SchemaForms.{schema_kind_rows, schema_type_rows};
+ghost use Rattle.openapi_schema.specs.declared.any_schema.AnySchema.{out-AnySchema};
 
+use crate::any_names::any_of_names;
 use crate::any_schema::AnySchema;
 use crate::composite_types::{ArrayType, ObjectType};
+use crate::kind_names::{FirstNames, LastNames};
+use crate::plain_names::{PlainFirst, PlainLast};
 use crate::schema::{AdditionalProperties, Schema, SchemaKind, SchemaType};
 use openapi_node::OrderedMap;
 use openapi_values::ReferenceOr;
@@ -154,35 +160,62 @@ fn clone_array(typ: &ArrayType) -> Result<ArrayType, AllocError>
     })
 }
 
-/// A schema of no sort in particular, field by field.
+/// A schema of no sort in particular, in two halves.
 #[cycle(clone)]
 fn clone_any(any: &AnySchema) -> Result<AnySchema, AllocError>
     ensures { IfOk result (λ x. any_fields x ≡ any_fields any.now) }
 {
-    Ok(AnySchema {
-        typ: any.typ.clone()?,
-        pattern: any.pattern.clone()?,
+    let first = clone_first(any)?;
+    let last = clone_last(any)?;
+    let enumeration = any.enumeration.clone()?;
+    Ok(any_of_names(*any.enumeration.allocator(), first, last, enumeration))
+}
+
+/// What a schema of no sort in particular has under the first twelve names, field by field.
+#[cycle(clone)]
+fn clone_first(any: &AnySchema) -> Result<FirstNames, AllocError>
+    ensures { IfOk result (λ a. any_first_rows a ≡ take 12 (any_fields any.now)) }
+{
+    let plain = PlainFirst {
         multiple_of: any.multiple_of,
         exclusive_minimum: any.exclusive_minimum,
         exclusive_maximum: any.exclusive_maximum,
         minimum: any.minimum,
         maximum: any.maximum,
-        properties: clone_properties(&any.properties)?,
-        required: any.required.clone()?,
-        additional_properties: clone_if_additional(&any.additional_properties)?,
         min_properties: any.min_properties,
         max_properties: any.max_properties,
-        items: clone_items(&any.items)?,
+        typ: any.typ.clone()?,
+        pattern: any.pattern.clone()?,
+    };
+    Ok(FirstNames {
+        plain,
+        properties: Some(clone_properties(&any.properties)?),
+        required: Some(any.required.clone()?),
+        additional_properties: clone_if_additional(&any.additional_properties)?,
+    })
+}
+
+/// What it has under the last twelve names but for the enumeration, field by field.
+#[cycle(clone)]
+fn clone_last(any: &AnySchema) -> Result<LastNames<'static>, AllocError>
+    ensures { IfOk result (λ b. any_last_rows (list_form leaf (out-AnySchema any.now).enumeration) b
+        ≡ drop 12 (any_fields any.now)) }
+{
+    let plain = PlainLast {
         min_items: any.min_items,
         max_items: any.max_items,
         unique_items: any.unique_items,
-        enumeration: any.enumeration.clone()?,
-        format: any.format.clone()?,
         min_length: any.min_length,
         max_length: any.max_length,
-        one_of: clone_refs(&any.one_of)?,
-        all_of: clone_refs(&any.all_of)?,
-        any_of: clone_refs(&any.any_of)?,
+        format: any.format.clone()?,
+    };
+    Ok(LastNames {
+        plain,
+        items: clone_items(&any.items)?,
+        enumeration: None,
+        one_of: Some(clone_refs(&any.one_of)?),
+        all_of: Some(clone_refs(&any.all_of)?),
+        any_of: Some(clone_refs(&any.any_of)?),
         not: clone_not(&any.not)?,
     })
 }

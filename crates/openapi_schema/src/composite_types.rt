@@ -15,19 +15,19 @@ use openapi_rows::{
 use openapi_values::ReferenceOr;
 use std::alloc::Global;
 
-/// A schema of `type` `object`.
+/// A schema of `type` `object` (OpenAPI 3.0.3, section 4.7.24).
 #[cycle(schema)]
 #[derive(Debug, PartialEq, Drop)]
 pub struct ObjectType {
-    /// What the members of these names may be.
+    /// The schemas of the properties, by their names.
     pub properties: OrderedMap<ReferenceOr<Box<Schema>>>,
-    /// The names of the members that have to be there.
+    /// The names of the properties that have to be there.
     pub required: Vec<String>,
-    /// What the other members may be.
+    /// `additionalProperties`: whether other properties may be there, or the schema that they have. True by default.
     pub additional_properties: Option<AdditionalProperties>,
-    /// The least number of members.
+    /// The least number of properties.
     pub min_properties: Option<usize>,
-    /// The greatest number of members.
+    /// The greatest number of properties.
     pub max_properties: Option<usize>,
 }
 
@@ -52,17 +52,17 @@ impl ObjectType {
     }
 }
 
-/// A schema of `type` `array`.
+/// A schema of `type` `array` (OpenAPI 3.0.3, section 4.7.24).
 #[cycle(schema)]
 #[derive(Debug, PartialEq, Drop)]
 pub struct ArrayType {
-    /// What the elements may be.
+    /// The schema of the items. OpenAPI requires it; here it may be missing, as in the Rust crate.
     pub items: Option<ReferenceOr<Box<Schema>>>,
-    /// The least number of elements.
+    /// The least number of items.
     pub min_items: Option<usize>,
-    /// The greatest number of elements.
+    /// The greatest number of items.
     pub max_items: Option<usize>,
-    /// Whether no two elements may be equal.
+    /// Whether no two items may be equal. False by default.
     pub unique_items: bool,
 }
 

@@ -7,9 +7,9 @@ ghost use Rattle.openapi_rows.specs.Gives.{Gives, Refuses};
 ghost use Rattle.openapi_schema.specs.Reading.{inner_box_form, schema_kind_form};
 ghost use Rattle.openapi_schema.specs.SchemaForms.{additional_form, schema_form};
 
-use crate::boxes::in_inner_box;
-use crate::read::{additional, kind, schema, schema_ref};
+use crate::read::{read_additional_in, read_kind, read_schema, read_schema_ref};
 use crate::schema::{AdditionalProperties, Schema, SchemaKind};
+use openapi_knots::in_inner_box;
 use openapi_node::{Cause, Expected, Fault, Node, Steps, View};
 use openapi_rows::{FromNode, Referable};
 use openapi_values::ReferenceOr;
@@ -28,7 +28,7 @@ pub fn boxed_schema_ref_from_node(
     ensures count { steps.new ≤ steps.old + 3 * size_of node.now }
 {
     let view = node.open(steps);
-    in_inner_box(alloc, schema_ref(alloc, &view, steps))
+    in_inner_box(alloc, read_schema_ref(alloc, &view, steps))
 }
 
 impl FromNode for Schema {
@@ -38,7 +38,7 @@ impl FromNode for Schema {
 
     fn from_view(alloc: Global, view: &View<'_>, steps: &mut Steps) -> Result<Schema, Fault> {
         match view {
-            View::Object(members) => schema(alloc, members, steps),
+            View::Object(members) => read_schema(alloc, members, steps),
             _ => Err(Fault::new(alloc, Cause::WrongKind(Expected::Object))),
         }
     }
@@ -62,7 +62,7 @@ impl FromNode for SchemaKind {
 
     fn from_view(alloc: Global, view: &View<'_>, steps: &mut Steps) -> Result<SchemaKind, Fault> {
         match view {
-            View::Object(members) => kind(alloc, members, steps),
+            View::Object(members) => read_kind(alloc, members, steps),
             _ => Err(Fault::new(alloc, Cause::WrongKind(Expected::Object))),
         }
     }
@@ -82,7 +82,7 @@ impl FromNode for AdditionalProperties {
         view: &View<'_>,
         steps: &mut Steps,
     ) -> Result<AdditionalProperties, Fault> {
-        additional(alloc, view, steps)
+        read_additional_in(alloc, view, steps)
     }
 
     ghost few = { lit≤ tt };

@@ -11,8 +11,9 @@ ghost use Rattle.openapi_schema.specs.KindNames.{flags_in, kind_name_rows};
 ghost use Rattle.openapi_parts.specs.Masks.{mask_of, sort_in, sort_by_names};
 ghost use Rattle.openapi_schema.specs.RawSlots.{optional_rows};
 
+use crate::plain_names::{PlainFirst, PlainLast};
 use crate::schema::{AdditionalProperties, Schema};
-use openapi_node::{Node, OrderedMap, Whole};
+use openapi_node::{Node, OrderedMap};
 use openapi_parts::{Mask, Sort};
 use openapi_rows::Object;
 use openapi_values::ReferenceOr;
@@ -31,32 +32,19 @@ impl Object for KindNames {
 /// What stands under the first twelve of these names, where it is not null.
 #[derive(Drop)]
 pub(crate) struct FirstNames {
-    pub typ: Option<String>,
-    pub pattern: Option<String>,
-    pub multiple_of: Option<Whole>,
-    pub exclusive_minimum: Option<bool>,
-    pub exclusive_maximum: Option<bool>,
-    pub minimum: Option<Whole>,
-    pub maximum: Option<Whole>,
+    pub plain: PlainFirst,
     pub properties: Option<OrderedMap<ReferenceOr<Box<Schema>>>>,
     pub required: Option<Vec<String>>,
     pub additional_properties: Option<AdditionalProperties>,
-    pub min_properties: Option<usize>,
-    pub max_properties: Option<usize>,
 }
 
 /// What stands under the last twelve of these names, where it is not null. The entries of the enumeration are not read
 /// yet.
 #[derive(Drop)]
 pub(crate) struct LastNames<'a> {
+    pub plain: PlainLast,
     pub items: Option<ReferenceOr<Box<Schema>>>,
-    pub min_items: Option<usize>,
-    pub max_items: Option<usize>,
-    pub unique_items: Option<bool>,
     pub enumeration: Option<&'a [Node]>,
-    pub format: Option<String>,
-    pub min_length: Option<usize>,
-    pub max_length: Option<usize>,
     pub one_of: Option<Vec<ReferenceOr<Schema>>>,
     pub all_of: Option<Vec<ReferenceOr<Schema>>>,
     pub any_of: Option<Vec<ReferenceOr<Schema>>>,
@@ -68,26 +56,26 @@ fn present_names(first: &FirstNames, last: &LastNames<'_>) -> Mask
     ensures { result.bits ≡ mask_of (flags_in first.now last.now) }
 {
     Mask::of_flags(&[
-        first.typ.is_some(),
-        first.pattern.is_some(),
-        first.multiple_of.is_some(),
-        first.exclusive_minimum.is_some(),
-        first.exclusive_maximum.is_some(),
-        first.minimum.is_some(),
-        first.maximum.is_some(),
+        first.plain.typ.is_some(),
+        first.plain.pattern.is_some(),
+        first.plain.multiple_of.is_some(),
+        first.plain.exclusive_minimum.is_some(),
+        first.plain.exclusive_maximum.is_some(),
+        first.plain.minimum.is_some(),
+        first.plain.maximum.is_some(),
         first.properties.is_some(),
         first.required.is_some(),
         first.additional_properties.is_some(),
-        first.min_properties.is_some(),
-        first.max_properties.is_some(),
+        first.plain.min_properties.is_some(),
+        first.plain.max_properties.is_some(),
         last.items.is_some(),
-        last.min_items.is_some(),
-        last.max_items.is_some(),
-        last.unique_items.is_some(),
+        last.plain.min_items.is_some(),
+        last.plain.max_items.is_some(),
+        last.plain.unique_items.is_some(),
         last.enumeration.is_some(),
-        last.format.is_some(),
-        last.min_length.is_some(),
-        last.max_length.is_some(),
+        last.plain.format.is_some(),
+        last.plain.min_length.is_some(),
+        last.plain.max_length.is_some(),
         last.one_of.is_some(),
         last.all_of.is_some(),
         last.any_of.is_some(),
@@ -110,5 +98,5 @@ pub(crate) fn named_sort(first: &FirstNames, last: &LastNames<'_>) -> Sort
     ensures { (ms : Members) → AreRows final_tables optional_rows (kind_name_rows first.now last.now) ms
         → sort_in result ≡ sort_by_names (members_list ms) }
 {
-    Sort::by_names(lent(&first.typ), present_names(first, last))
+    Sort::by_names(lent(&first.plain.typ), present_names(first, last))
 }

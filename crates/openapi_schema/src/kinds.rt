@@ -1,12 +1,13 @@
 //! The kind of a schema, made of what stands under the kind names.
+ghost use Rattle.std.proofs.Common.{refl};
 ghost use Rattle.std.specs.Prelude.{◌≡◌, ◌+◌, ◌*◌, ◌≤◌, IfOk, IfErr};
 ghost use Rattle.openapi_node.specs.Fault.{IsMemory};
 ghost use Rattle.openapi_tables.specs.Members as sorts;
 ghost use Rattle.openapi_parts.specs.Enumerations.{text_tree, number_tree, signed_tree, flag_tree};
-ghost use Rattle.openapi_schema.specs.Kinds.{GivesEnumeration, GivesLimit, IsEnumeration, IsKindOf};
+ghost use Rattle.openapi_schema.specs.Kinds.{GivesEnumeration, GivesLimit, GivesLimits, IsEnumeration, IsKindBy, IsKindOf};
 ghost use Rattle.openapi_schema.specs.Kinds.{entries_weight, trees_in, trees_or_none};
 
-use crate::any_schema::AnySchema;
+use crate::any_names::any_of_names;
 use crate::composite_types::{ArrayType, ObjectType};
 use crate::kind_names::{FirstNames, LastNames};
 use crate::schema::{SchemaKind, SchemaType};
@@ -18,7 +19,7 @@ use std::alloc::Global;
 
 /// The entries of an enumeration as values of one type; no entries where there is no enumeration. None where an entry
 /// is of another type. Err only for want of memory.
-pub(crate) fn enumeration<T: Entry + Drop>(
+fn enumeration<T: Entry + Drop>(
     alloc: Global,
     nodes: Option<&[Node]>,
     steps: &mut Steps,
@@ -47,83 +48,108 @@ fn kept(alloc: Global, nodes: Option<&[Node]>, steps: &mut Steps) -> Result<Vec<
     }
 }
 
+/// What the entries of an enumeration can be in a schema of one `type`, with the kind of that schema.
+pub(crate) trait TypedEntry: Entry + Drop {
+    ghost use Rattle.std.specs.Prelude.{◌≡◌, codes};
+    ghost use Rattle.openapi_node.specs.Tree.{Members};
+    ghost use Rattle.openapi_tables.specs.Tree.{members_list};
+    ghost use Rattle.openapi_tables.specs.Members.{Sort, entries_pass, further, held};
+    ghost use Rattle.openapi_schema.specs.Kinds.{IsEnumeration, IsKindOf};
+
+    // The sort of the schema.
+    ghost sort: { Sort };
+
+    /// A schema of this type.
+    fn kind(first: FirstNames, last: LastNames<'_>, enumeration: Vec<Option<Self>>) -> SchemaKind
+        requires { IsEnumeration Self.tree_in enumeration last }
+        ensures { IsKindOf sort result first last.entry };
+
+    // What the sort asks further is that the entries are such values.
+    ghost asks: { (ms : Members) → further sort (members_list ms) ≡ entries_pass Self.test
+        (held (codes "enum") (members_list ms)) };
+}
+
 /// A schema of texts.
-pub(crate) fn string_kind(
-    first: FirstNames,
-    last: LastNames<'_>,
-    enumeration: Vec<Option<String>>,
-) -> SchemaKind
-    requires { IsEnumeration text_tree enumeration last }
-    ensures { IsKindOf sorts.string_sort result first last.entry }
-{
-    SchemaKind::Typed(SchemaType::String(StringType {
-        format: last.format.into(),
-        pattern: first.pattern,
-        enumeration,
-        min_length: last.min_length,
-        max_length: last.max_length,
-    }))
-}
+impl TypedEntry for String {
+    ghost sort = { sorts.string_sort };
 
-/// A schema of objects.
-pub(crate) fn object_kind(alloc: Global, first: FirstNames, last: LastNames<'_>) -> SchemaKind
-    ensures { IsKindOf sorts.object_sort result first last.entry }
-{
-    SchemaKind::Typed(SchemaType::Object(ObjectType {
-        properties: first.properties.unwrap_or(OrderedMap::new(alloc)),
-        required: first.required.unwrap_or(Vec::new(alloc)),
-        additional_properties: first.additional_properties,
-        min_properties: first.min_properties,
-        max_properties: first.max_properties,
-    }))
-}
+    fn kind(first: FirstNames, last: LastNames<'_>, enumeration: Vec<Option<String>>) -> SchemaKind
+        requires { IsEnumeration text_tree enumeration last }
+        ensures { IsKindOf sorts.string_sort result first last.entry }
+    {
+        let plain_first = first.plain;
+        let plain_last = last.plain;
+        SchemaKind::Typed(SchemaType::String(StringType {
+            format: plain_last.format.into(),
+            pattern: plain_first.pattern,
+            enumeration,
+            min_length: plain_last.min_length,
+            max_length: plain_last.max_length,
+        }))
+    }
 
-/// A schema of arrays.
-pub(crate) fn array_kind(first: FirstNames, last: LastNames<'_>) -> SchemaKind
-    ensures { IsKindOf sorts.array_sort result first last.entry }
-{
-    SchemaKind::Typed(SchemaType::Array(ArrayType {
-        items: last.items,
-        min_items: last.min_items,
-        max_items: last.max_items,
-        unique_items: last.unique_items.unwrap_or(false),
-    }))
+    ghost asks = { λ ms. refl };
 }
 
 /// A schema of numbers.
-pub(crate) fn number_kind(
-    first: FirstNames,
-    last: LastNames<'_>,
-    enumeration: Vec<Option<Whole>>,
-) -> SchemaKind
-    requires { IsEnumeration number_tree enumeration last }
-    ensures { IsKindOf sorts.number_sort result first last.entry }
-{
-    SchemaKind::Typed(SchemaType::Number(NumberType {
-        format: last.format.into(),
-        multiple_of: first.multiple_of,
-        exclusive_minimum: first.exclusive_minimum.unwrap_or(false),
-        exclusive_maximum: first.exclusive_maximum.unwrap_or(false),
-        minimum: first.minimum,
-        maximum: first.maximum,
-        enumeration,
-    }))
+impl TypedEntry for Whole {
+    ghost sort = { sorts.number_sort };
+
+    fn kind(first: FirstNames, last: LastNames<'_>, enumeration: Vec<Option<Whole>>) -> SchemaKind
+        requires { IsEnumeration number_tree enumeration last }
+        ensures { IsKindOf sorts.number_sort result first last.entry }
+    {
+        let plain_first = first.plain;
+        let plain_last = last.plain;
+        SchemaKind::Typed(SchemaType::Number(NumberType {
+            format: plain_last.format.into(),
+            multiple_of: plain_first.multiple_of,
+            exclusive_minimum: plain_first.exclusive_minimum.unwrap_or(false),
+            exclusive_maximum: plain_first.exclusive_maximum.unwrap_or(false),
+            minimum: plain_first.minimum,
+            maximum: plain_first.maximum,
+            enumeration,
+        }))
+    }
+
+    ghost asks = { λ ms. refl };
 }
 
 /// A schema of flags.
-pub(crate) fn boolean_kind(
+impl TypedEntry for bool {
+    ghost sort = { sorts.boolean_sort };
+
+    fn kind(first: FirstNames, last: LastNames<'_>, enumeration: Vec<Option<bool>>) -> SchemaKind
+        requires { IsEnumeration flag_tree enumeration last }
+        ensures { IsKindOf sorts.boolean_sort result first last.entry }
+    {
+        SchemaKind::Typed(SchemaType::Boolean(BooleanType { enumeration }))
+    }
+
+    ghost asks = { λ ms. refl };
+}
+
+/// The kind of a schema of one `type`, or of no sort in particular where an entry of the enumeration is something else.
+/// Err only for want of memory.
+pub(crate) fn typed_or_any<T: TypedEntry>(
+    alloc: Global,
     first: FirstNames,
     last: LastNames<'_>,
-    enumeration: Vec<Option<bool>>,
-) -> SchemaKind
-    requires { IsEnumeration flag_tree enumeration last }
-    ensures { IsKindOf sorts.boolean_sort result first last.entry }
+    steps: &mut Steps,
+) -> Result<SchemaKind, Fault>
+    ensures reads { IfOk result (λ k. IsKindBy T.sort k first last.entry) }
+    ensures err { IfErr result IsMemory }
+    ensures rises { steps.old ≤ steps.new }
+    ensures count { steps.new ≤ steps.old + 2 * entries_weight (trees_in last.entry.enumeration) }
 {
-    SchemaKind::Typed(SchemaType::Boolean(BooleanType { enumeration }))
+    match enumeration::<T>(alloc, last.enumeration, steps)? {
+        Some(enumeration) => Ok(T::kind(first, last, enumeration)),
+        None => any_kind(alloc, first, last, steps),
+    }
 }
 
 /// A limit of whole numbers of 64 bits. None where the number does not fit.
-pub(crate) fn limit(number: &Option<Whole>) -> Option<Option<i64>>
+fn limit(number: &Option<Whole>) -> Option<Option<i64>>
     ensures { GivesLimit result number.now }
 {
     match number {
@@ -135,29 +161,106 @@ pub(crate) fn limit(number: &Option<Whole>) -> Option<Option<i64>>
     }
 }
 
-/// A schema of whole numbers, whose limits fit 64 bits with sign.
-pub(crate) fn integer_kind(
-    first: FirstNames,
-    last: LastNames<'_>,
+/// The limits of a schema of whole numbers, each of 64 bits with sign.
+#[derive(Clone, Copy)]
+struct Limits {
     multiple_of: Option<i64>,
     minimum: Option<i64>,
     maximum: Option<i64>,
+}
+
+/// The limits, where each of them fits.
+fn limits_in(first: &FirstNames) -> Option<Limits>
+    ensures { GivesLimits result first.now }
+{
+    let Some(multiple_of) = limit(&first.plain.multiple_of) else {
+        return None;
+    };
+    let Some(minimum) = limit(&first.plain.minimum) else {
+        return None;
+    };
+    let Some(maximum) = limit(&first.plain.maximum) else {
+        return None;
+    };
+    Some(Limits {
+        multiple_of,
+        minimum,
+        maximum,
+    })
+}
+
+/// A schema of whole numbers with these limits.
+fn integer_kind(
+    first: FirstNames,
+    last: LastNames<'_>,
+    limits: Limits,
     enumeration: Vec<Option<i64>>,
 ) -> SchemaKind
-    requires multiple_of { multiple_of ≡ first.multiple_of }
-    requires minimum { minimum ≡ first.minimum }
-    requires maximum { maximum ≡ first.maximum }
+    requires multiple_of { limits.multiple_of ≡ first.plain.multiple_of }
+    requires minimum { limits.minimum ≡ first.plain.minimum }
+    requires maximum { limits.maximum ≡ first.plain.maximum }
     requires enumeration { IsEnumeration signed_tree enumeration last }
     ensures { IsKindOf sorts.integer_sort result first last.entry }
 {
+    let plain_first = first.plain;
+    let plain_last = last.plain;
     SchemaKind::Typed(SchemaType::Integer(IntegerType {
-        format: last.format.into(),
-        multiple_of,
-        exclusive_minimum: first.exclusive_minimum.unwrap_or(false),
-        exclusive_maximum: first.exclusive_maximum.unwrap_or(false),
-        minimum,
-        maximum,
+        format: plain_last.format.into(),
+        multiple_of: limits.multiple_of,
+        exclusive_minimum: plain_first.exclusive_minimum.unwrap_or(false),
+        exclusive_maximum: plain_first.exclusive_maximum.unwrap_or(false),
+        minimum: limits.minimum,
+        maximum: limits.maximum,
         enumeration,
+    }))
+}
+
+/// The kind of a schema of whole numbers, or of no sort in particular where a limit or an entry of the enumeration
+/// does not fit 64 bits with sign. Err only for want of memory.
+pub(crate) fn integer_or_any(
+    alloc: Global,
+    first: FirstNames,
+    last: LastNames<'_>,
+    steps: &mut Steps,
+) -> Result<SchemaKind, Fault>
+    ensures reads { IfOk result (λ k. IsKindBy sorts.integer_sort k first last.entry) }
+    ensures err { IfErr result IsMemory }
+    ensures rises { steps.old ≤ steps.new }
+    ensures count { steps.new ≤ steps.old + 2 * entries_weight (trees_in last.entry.enumeration) }
+{
+    let Some(limits) = limits_in(&first) else {
+        return any_kind(alloc, first, last, steps);
+    };
+    match enumeration(alloc, last.enumeration, steps)? {
+        Some(enumeration) => Ok(integer_kind(first, last, limits, enumeration)),
+        None => any_kind(alloc, first, last, steps),
+    }
+}
+
+/// A schema of objects.
+pub(crate) fn object_kind(alloc: Global, first: FirstNames, last: LastNames<'_>) -> SchemaKind
+    ensures { IsKindOf sorts.object_sort result first last.entry }
+{
+    let plain_first = first.plain;
+    SchemaKind::Typed(SchemaType::Object(ObjectType {
+        properties: first.properties.unwrap_or(OrderedMap::new(alloc)),
+        required: first.required.unwrap_or(Vec::new(alloc)),
+        additional_properties: first.additional_properties,
+        min_properties: plain_first.min_properties,
+        max_properties: plain_first.max_properties,
+    }))
+}
+
+/// A schema of arrays.
+pub(crate) fn array_kind(first: FirstNames, last: LastNames<'_>) -> SchemaKind
+    ensures { IsKindOf sorts.array_sort result first last.entry }
+{
+    let plain_last = last.plain;
+    SchemaKind::Typed(SchemaType::Array(ArrayType {
+        items: last.items,
+        min_items: plain_last.min_items,
+        max_items: plain_last.max_items,
+        unique_items: plain_last.unique_items.unwrap_or(false),
     }))
 }
 
@@ -174,30 +277,5 @@ pub(crate) fn any_kind(
     ensures count { steps.new ≤ steps.old + entries_weight (trees_in last.entry.enumeration) }
 {
     let enumeration = kept(alloc, last.enumeration, steps)?;
-    Ok(SchemaKind::Any(AnySchema {
-        typ: first.typ,
-        pattern: first.pattern,
-        multiple_of: first.multiple_of,
-        exclusive_minimum: first.exclusive_minimum,
-        exclusive_maximum: first.exclusive_maximum,
-        minimum: first.minimum,
-        maximum: first.maximum,
-        properties: first.properties.unwrap_or(OrderedMap::new(alloc)),
-        required: first.required.unwrap_or(Vec::new(alloc)),
-        additional_properties: first.additional_properties,
-        min_properties: first.min_properties,
-        max_properties: first.max_properties,
-        items: last.items,
-        min_items: last.min_items,
-        max_items: last.max_items,
-        unique_items: last.unique_items,
-        enumeration,
-        format: last.format,
-        min_length: last.min_length,
-        max_length: last.max_length,
-        one_of: last.one_of.unwrap_or(Vec::new(alloc)),
-        all_of: last.all_of.unwrap_or(Vec::new(alloc)),
-        any_of: last.any_of.unwrap_or(Vec::new(alloc)),
-        not: last.not,
-    }))
+    Ok(SchemaKind::Any(any_of_names(alloc, first, last, enumeration)))
 }

@@ -1,7 +1,7 @@
 #![tactic(auto)]
 //! The Schema Object of OpenAPI 3.0.3, section 4.7.24: its types, and how the kind of a schema is told from its
 //! members.
-mod any_parts;
+mod any_names;
 mod any_schema;
 mod boxes;
 mod clone;
@@ -10,7 +10,6 @@ mod from_node;
 mod kind_names;
 mod kinds;
 mod members;
-mod memory;
 mod plain_names;
 mod presence;
 mod read;

@@ -1,19 +1,17 @@
-//! What stands under the names that tell the kinds of schemas apart and hold no schemas.
-ghost use Rattle.std.specs.Prelude.{◌+◌, ◌*◌, ◌≤◌, IfOk};
+//! What stands under the names that tell the kinds of schemas apart, where it is one text, number or flag.
+ghost use Rattle.std.specs.Prelude.{◌+◌, ◌*◌, ◌≤◌};
 ghost use Rattle.openapi_node.specs.Tree.{members_of};
 ghost use Rattle.openapi_tables.specs.ByRow.{rows_weight};
 ghost use Rattle.openapi_tables.specs.Kind as kinds;
-ghost use Rattle.openapi_schema.specs.Kinds.{entries_weight, trees_in};
 ghost use Rattle.openapi_schema.specs.PlainNames.{plain_first, plain_first_rows, plain_last, plain_last_rows};
-ghost use Rattle.openapi_schema.specs.Reading.{GivesPart};
+ghost use Rattle.openapi_knots.specs.Reading.{GivesPart};
 
 use crate::kind_names::KindNames;
-use crate::presence::lent_entries;
 use openapi_node::{Fault, Node, OrderedMap, Steps, Whole};
 use openapi_rows::optional;
 use std::alloc::Global;
 
-/// What stands under those of the first twelve names that hold no schemas, where it is not null.
+/// One text, number or flag under each of the first twelve names that has one, where it is not null.
 #[derive(Drop)]
 pub(crate) struct PlainFirst {
     pub typ: Option<String>,
@@ -23,25 +21,22 @@ pub(crate) struct PlainFirst {
     pub exclusive_maximum: Option<bool>,
     pub minimum: Option<Whole>,
     pub maximum: Option<Whole>,
-    pub required: Option<Vec<String>>,
     pub min_properties: Option<usize>,
     pub max_properties: Option<usize>,
 }
 
-/// What stands under those of the last twelve names that hold no schemas, where it is not null. The entries of the
-/// enumeration are not read yet.
+/// One text, number or flag under each of the last twelve names that has one, where it is not null.
 #[derive(Drop)]
-pub(crate) struct PlainLast<'a> {
+pub(crate) struct PlainLast {
     pub min_items: Option<usize>,
     pub max_items: Option<usize>,
     pub unique_items: Option<bool>,
-    pub enumeration: Option<&'a [Node]>,
     pub format: Option<String>,
     pub min_length: Option<usize>,
     pub max_length: Option<usize>,
 }
 
-/// Reads what stands under those of the first twelve names that hold no schemas.
+/// Reads the texts, numbers and flags under the first twelve names, the texts last.
 #[tactic(auto, unfolding(openapi_tables::specs::Members::checked_rows, openapi_tables::specs::Tables::any_rows, crate::specs::RawSlots::optional_rows, crate::specs::Reading::first_optional, crate::specs::PlainNames::plain_first))]
 pub(crate) fn read_plain_first(
     alloc: Global,
@@ -53,40 +48,35 @@ pub(crate) fn read_plain_first(
     ensures count { steps.new ≤ steps.old + 3 * rows_weight plain_first (members_of members.now) }
 {
     Ok(PlainFirst {
-        typ: optional::<KindNames, _>(alloc, members, "type", steps)?,
-        pattern: optional::<KindNames, _>(alloc, members, "pattern", steps)?,
         multiple_of: optional::<KindNames, _>(alloc, members, "multipleOf", steps)?,
         exclusive_minimum: optional::<KindNames, _>(alloc, members, "exclusiveMinimum", steps)?,
         exclusive_maximum: optional::<KindNames, _>(alloc, members, "exclusiveMaximum", steps)?,
         minimum: optional::<KindNames, _>(alloc, members, "minimum", steps)?,
         maximum: optional::<KindNames, _>(alloc, members, "maximum", steps)?,
-        required: optional::<KindNames, _>(alloc, members, "required", steps)?,
         min_properties: optional::<KindNames, _>(alloc, members, "minProperties", steps)?,
         max_properties: optional::<KindNames, _>(alloc, members, "maxProperties", steps)?,
+        typ: optional::<KindNames, _>(alloc, members, "type", steps)?,
+        pattern: optional::<KindNames, _>(alloc, members, "pattern", steps)?,
     })
 }
 
-/// Reads what stands under those of the last twelve names that hold no schemas. What is left to look at pays for the
-/// entries of the enumeration.
+/// Reads the texts, numbers and flags under the last twelve names, the text last.
 #[tactic(auto, unfolding(openapi_tables::specs::Members::checked_rows, openapi_tables::specs::Tables::any_rows, crate::specs::RawSlots::optional_rows, crate::specs::Reading::last_optional, crate::specs::PlainNames::plain_last))]
-pub(crate) fn read_plain_last<'a>(
+pub(crate) fn read_plain_last(
     alloc: Global,
-    members: &'a OrderedMap<Node>,
+    members: &OrderedMap<Node>,
     steps: &mut Steps,
-) -> Result<PlainLast<'a>, Fault>
+) -> Result<PlainLast, Fault>
     ensures reads { GivesPart plain_last_rows result kinds.a_schema_kind plain_last (members_of members.now) }
     ensures rises { steps.old ≤ steps.new }
     ensures count { steps.new ≤ steps.old + 3 * rows_weight plain_last (members_of members.now) }
-    ensures left { IfOk result (λ b. steps.new + 2 * entries_weight (trees_in b.enumeration) ≤ steps.old
-        + 3 * rows_weight plain_last (members_of members.now)) }
 {
     Ok(PlainLast {
         min_items: optional::<KindNames, _>(alloc, members, "minItems", steps)?,
         max_items: optional::<KindNames, _>(alloc, members, "maxItems", steps)?,
         unique_items: optional::<KindNames, _>(alloc, members, "uniqueItems", steps)?,
-        enumeration: lent_entries(alloc, members, steps)?,
-        format: optional::<KindNames, _>(alloc, members, "format", steps)?,
         min_length: optional::<KindNames, _>(alloc, members, "minLength", steps)?,
         max_length: optional::<KindNames, _>(alloc, members, "maxLength", steps)?,
+        format: optional::<KindNames, _>(alloc, members, "format", steps)?,
     })
 }

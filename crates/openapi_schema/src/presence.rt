@@ -1,6 +1,5 @@
-//! Members that are there and not null.
-ghost use Rattle.std.specs.Prelude.{◌≡◌, ◌+◌, ◌*◌, ◌<◌, ◌≤◌, codes, IfOk, IfErr};
-ghost use Rattle.openapi_node.specs.Fault.{IsMemory};
+//! The entries under `enum`, where it is there and not null.
+ghost use Rattle.std.specs.Prelude.{◌+◌, ◌*◌, ◌<◌, ◌≤◌, codes, IfOk};
 ghost use Rattle.openapi_node.specs.Tree.{items_of, items_size, members_of, size_of};
 ghost use Rattle.openapi_node.specs.View.{shown};
 ghost use Rattle.openapi_tables.specs.ByRow.{row_weight};
@@ -9,67 +8,10 @@ ghost use Rattle.openapi_rows.specs.Forms.{optional_form};
 ghost use Rattle.openapi_rows.specs.Gives.{Gives, GivesRow};
 ghost use Rattle.openapi_schema.specs.KindNames.{trees_form};
 ghost use Rattle.openapi_schema.specs.Kinds.{entries_weight, trees_in};
-ghost use Rattle.openapi_schema.specs.Reading.{AtMember, GivesReference, GivesView};
 
-use openapi_node::{Cause, Expected, Fault, Node, OrderedMap, Steps, View, find_member};
-use openapi_rows::at_name;
+use openapi_node::{Cause, Expected, Fault, Node, OrderedMap, Steps, View};
+use openapi_rows::{as_member, present_view};
 use std::alloc::Global;
-
-/// A look at the member of a name, where it is there and not null.
-pub(crate) fn present_view<'a>(
-    members: &'a OrderedMap<Node>,
-    name: &str,
-    steps: &mut Steps,
-) -> Option<View<'a>>
-    ensures { GivesView result name.now (members_of members.now) steps.old steps.new }
-{
-    let Some(node) = find_member(members, name) else {
-        return None;
-    };
-    let view = node.open(steps);
-    match view {
-        View::Null => None,
-        _ => Some(view),
-    }
-}
-
-/// What was read of the member of a name, seen from the object.
-pub(crate) fn as_member<T>(
-    alloc: Global,
-    name: &str,
-    read: Result<T, Fault>,
-) -> Result<Option<T>, Fault>
-    ensures { AtMember name.now read result }
-{
-    match at_name(alloc, name, read) {
-        Ok(value) => Ok(Some(value)),
-        Err(fault) => Err(fault),
-    }
-}
-
-/// The text under `$ref`, where there is one. Err only for want of memory.
-pub(crate) fn reference_in(
-    alloc: Global,
-    members: &OrderedMap<Node>,
-    steps: &mut Steps,
-) -> Result<Option<String>, Fault>
-    ensures reads { IfOk result (λ o. GivesReference o (members_of members.now)) }
-    ensures err { IfErr result IsMemory }
-    ensures rises { steps.old ≤ steps.new }
-    ensures count { steps.new ≤ steps.old + 1 }
-{
-    let Some(node) = find_member(members, "$ref") else {
-        return Ok(None);
-    };
-    let view = node.open(steps);
-    match view {
-        View::Text(text) => match String::from_str(alloc, text) {
-            Ok(text) => Ok(Some(text)),
-            Err(_) => Err(Fault::memory(alloc)),
-        },
-        _ => Ok(None),
-    }
-}
 
 /// The elements of a list, which are not looked into.
 fn elements<'a>(alloc: Global, view: &View<'a>) -> Result<&'a [Node], Fault>

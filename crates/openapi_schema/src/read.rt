@@ -9,23 +9,24 @@ ghost use Rattle.openapi_tables.specs.Tables.{final_tables};
 ghost use Rattle.openapi_rows.specs.Entries.{GivesEntries, chosen, entries_size};
 ghost use Rattle.openapi_rows.specs.Forms.{list_form, map_form, optional_form};
 ghost use Rattle.openapi_rows.specs.Gives.{Gives, GivesRow, Refuses};
+ghost use Rattle.openapi_knots.specs.Reading.{GivesPart, any_name};
 ghost use Rattle.openapi_schema.specs.KindNames.{first_rows, last_rows};
 ghost use Rattle.openapi_schema.specs.Kinds.{entries_weight, trees_in};
 ghost use Rattle.openapi_schema.specs.RawSlots.{optional_rows};
-ghost use Rattle.openapi_schema.specs.Reading.{GivesKind, GivesPart, first_optional, last_optional};
-ghost use Rattle.openapi_schema.specs.Reading.{any_name, ref_form, inner_box_form, outer_box_form};
+ghost use Rattle.openapi_schema.specs.Reading.{GivesKind, first_optional, last_optional};
+ghost use Rattle.openapi_schema.specs.Reading.{ref_form, inner_box_form, outer_box_form};
 ghost use Rattle.openapi_schema.specs.SchemaForms.{additional_form, schema_form};
 
-use crate::boxes::{in_additional, in_inner_box, in_outer_box};
-use crate::kind_names::{FirstNames, LastNames};
-use crate::memory::push;
+use crate::boxes::in_additional;
+use crate::kind_names::{FirstNames, KindNames, LastNames};
 use crate::plain_names::{read_plain_first, read_plain_last};
-use crate::presence::{as_member, present_view, reference_in};
+use crate::presence::lent_entries;
 use crate::schema::{AdditionalProperties, Schema, SchemaKind};
 use crate::schema_kind::schema_kind;
+use openapi_knots::{in_inner_box, in_outer_box};
 use openapi_node::{Cause, Expected, Fault, Node, OrderedMap, Steps, View};
 use openapi_parts::SchemaData;
-use openapi_rows::{Record, at_name, put};
+use openapi_rows::{Record, as_member, at_name, optional, present_view, push, put, read_reference};
 use openapi_values::ReferenceOr;
 use std::alloc::Global;
 
@@ -42,12 +43,12 @@ pub fn schema_ref_from_node(
     ensures count { steps.new ≤ steps.old + 3 * size_of node.now }
 {
     let view = node.open(steps);
-    schema_ref(alloc, &view, steps)
+    read_schema_ref(alloc, &view, steps)
 }
 
 /// Reads a schema or a reference to one, of which a look was taken already.
 #[cycle(read)]
-pub(crate) fn schema_ref(
+pub(crate) fn read_schema_ref(
     alloc: Global,
     view: &View<'_>,
     steps: &mut Steps,
@@ -59,10 +60,10 @@ pub(crate) fn schema_ref(
     let View::Object(members) = view else {
         return Err(Fault::new(alloc, Cause::WrongKind(Expected::Object)));
     };
-    match reference_in(alloc, members, steps) {
+    match read_reference(alloc, view, steps) {
         Ok(reference) => match reference {
             Some(reference) => Ok(ReferenceOr::Reference { reference }),
-            None => match schema(alloc, members, steps) {
+            None => match read_schema(alloc, members, steps) {
                 Ok(schema) => Ok(ReferenceOr::Item(schema)),
                 Err(fault) => Err(fault),
             },
@@ -74,7 +75,7 @@ pub(crate) fn schema_ref(
 /// Reads a schema in a box or a reference to one, of which a look was taken already. Its callers leave it to this
 /// function, and so make no room for a whole schema where none is to be read.
 #[cycle(read)]
-fn boxed_schema_ref(
+fn read_boxed_schema_ref(
     alloc: Global,
     view: &View<'_>,
     steps: &mut Steps,
@@ -83,13 +84,13 @@ fn boxed_schema_ref(
     ensures rises { steps.old ≤ steps.new }
     ensures count { steps.new + 2 ≤ steps.old + 3 * size_of (shown view.now) }
 {
-    in_inner_box(alloc, schema_ref(alloc, view, steps))
+    in_inner_box(alloc, read_schema_ref(alloc, view, steps))
 }
 
 /// Reads a schema or a reference to one, of which a look was taken already, into a box. Its callers leave it to this
-/// function as they leave schemas in boxes to [`boxed_schema_ref`].
+/// function as they leave schemas in boxes to [`read_boxed_schema_ref`].
 #[cycle(read)]
-fn boxed_ref(
+fn read_boxed_ref(
     alloc: Global,
     view: &View<'_>,
     steps: &mut Steps,
@@ -98,12 +99,12 @@ fn boxed_ref(
     ensures rises { steps.old ≤ steps.new }
     ensures count { steps.new + 2 ≤ steps.old + 3 * size_of (shown view.now) }
 {
-    in_outer_box(alloc, schema_ref(alloc, view, steps))
+    in_outer_box(alloc, read_schema_ref(alloc, view, steps))
 }
 
 /// Reads a schema among the members of an object.
 #[cycle(read)]
-pub(crate) fn schema(
+pub(crate) fn read_schema(
     alloc: Global,
     members: &OrderedMap<Node>,
     steps: &mut Steps,
@@ -113,7 +114,7 @@ pub(crate) fn schema(
     ensures count { steps.new ≤ steps.old + 3 * members_size (members_of members.now) }
 {
     match SchemaData::from_members(alloc, members, steps) {
-        Ok(schema_data) => match kind(alloc, members, steps) {
+        Ok(schema_data) => match read_kind(alloc, members, steps) {
             Ok(schema_kind) => Ok(Schema {
                 schema_data,
                 schema_kind,
@@ -126,7 +127,7 @@ pub(crate) fn schema(
 
 /// Reads the kind of a schema among the members of an object.
 #[cycle(read)]
-pub(crate) fn kind(
+pub(crate) fn read_kind(
     alloc: Global,
     members: &OrderedMap<Node>,
     steps: &mut Steps,
@@ -135,8 +136,8 @@ pub(crate) fn kind(
     ensures rises { steps.old ≤ steps.new }
     ensures count { steps.new ≤ steps.old + 3 * rows_weight optional_rows (members_of members.now) }
 {
-    match first_names(alloc, members, steps) {
-        Ok(first) => match last_names(alloc, members, steps) {
+    match read_first_names(alloc, members, steps) {
+        Ok(first) => match read_last_names(alloc, members, steps) {
             Ok(last) => schema_kind(alloc, first, last, steps),
             Err(fault) => Err(fault),
         },
@@ -146,7 +147,8 @@ pub(crate) fn kind(
 
 /// Reads what stands under the first twelve names that tell the kinds of schemas apart.
 #[cycle(read)]
-fn first_names(
+#[tactic(auto, unfolding(openapi_tables::specs::Members::checked_rows, openapi_tables::specs::Tables::any_rows))]
+fn read_first_names(
     alloc: Global,
     members: &OrderedMap<Node>,
     steps: &mut Steps,
@@ -156,28 +158,21 @@ fn first_names(
     ensures count { steps.new ≤ steps.old + 3 * rows_weight first_optional (members_of members.now) }
 {
     let plain = read_plain_first(alloc, members, steps)?;
-    let properties = optional_properties(alloc, members, steps)?;
-    let additional_properties = optional_additional(alloc, members, steps)?;
+    let properties = read_properties(alloc, members, steps)?;
+    let required = optional::<KindNames, _>(alloc, members, "required", steps)?;
+    let additional_properties = read_additional(alloc, members, steps)?;
     Ok(FirstNames {
-        typ: plain.typ,
-        pattern: plain.pattern,
-        multiple_of: plain.multiple_of,
-        exclusive_minimum: plain.exclusive_minimum,
-        exclusive_maximum: plain.exclusive_maximum,
-        minimum: plain.minimum,
-        maximum: plain.maximum,
+        plain,
         properties,
-        required: plain.required,
+        required,
         additional_properties,
-        min_properties: plain.min_properties,
-        max_properties: plain.max_properties,
     })
 }
 
 /// Reads what stands under the last twelve names. What is left to look at pays for the entries of the enumeration.
 #[cycle(read)]
 #[tactic(auto, unfolding(openapi_tables::specs::Members::checked_rows, openapi_tables::specs::Tables::any_rows))]
-fn last_names<'a>(
+fn read_last_names<'a>(
     alloc: Global,
     members: &'a OrderedMap<Node>,
     steps: &mut Steps,
@@ -188,21 +183,17 @@ fn last_names<'a>(
     ensures left { IfOk result (λ b. steps.new + 2 * entries_weight (trees_in b.enumeration) ≤ steps.old
         + 3 * rows_weight last_optional (members_of members.now)) }
 {
+    let enumeration = lent_entries(alloc, members, steps)?;
     let plain = read_plain_last(alloc, members, steps)?;
-    let items = optional_inner_box(alloc, members, "items", steps)?;
-    let one_of = optional_refs(alloc, members, "oneOf", steps)?;
-    let all_of = optional_refs(alloc, members, "allOf", steps)?;
-    let any_of = optional_refs(alloc, members, "anyOf", steps)?;
-    let not = optional_outer_box(alloc, members, "not", steps)?;
+    let items = read_inner_box(alloc, members, "items", steps)?;
+    let one_of = read_listed(alloc, members, "oneOf", steps)?;
+    let all_of = read_listed(alloc, members, "allOf", steps)?;
+    let any_of = read_listed(alloc, members, "anyOf", steps)?;
+    let not = read_outer_box(alloc, members, "not", steps)?;
     Ok(LastNames {
+        plain,
         items,
-        min_items: plain.min_items,
-        max_items: plain.max_items,
-        unique_items: plain.unique_items,
-        enumeration: plain.enumeration,
-        format: plain.format,
-        min_length: plain.min_length,
-        max_length: plain.max_length,
+        enumeration,
         one_of,
         all_of,
         any_of,
@@ -212,7 +203,7 @@ fn last_names<'a>(
 
 /// A reference or a schema in a box under a name, where it is there and not null.
 #[cycle(read)]
-fn optional_inner_box(
+fn read_inner_box(
     alloc: Global,
     members: &OrderedMap<Node>,
     name: &'static str,
@@ -228,13 +219,13 @@ fn optional_inner_box(
 {
     match present_view(members, name, steps) {
         None => Ok(None),
-        Some(view) => as_member(alloc, name, boxed_schema_ref(alloc, &view, steps)),
+        Some(view) => as_member(alloc, name, read_boxed_schema_ref(alloc, &view, steps)),
     }
 }
 
 /// A schema or a reference in a box under a name, where it is there and not null.
 #[cycle(read)]
-fn optional_outer_box(
+fn read_outer_box(
     alloc: Global,
     members: &OrderedMap<Node>,
     name: &'static str,
@@ -250,13 +241,13 @@ fn optional_outer_box(
 {
     match present_view(members, name, steps) {
         None => Ok(None),
-        Some(view) => as_member(alloc, name, boxed_ref(alloc, &view, steps)),
+        Some(view) => as_member(alloc, name, read_boxed_ref(alloc, &view, steps)),
     }
 }
 
 /// A list of schemas and references under a name, where it is there and not null.
 #[cycle(read)]
-fn optional_refs(
+fn read_listed(
     alloc: Global,
     members: &OrderedMap<Node>,
     name: &'static str,
@@ -274,13 +265,13 @@ fn optional_refs(
 {
     match present_view(members, name, steps) {
         None => Ok(None),
-        Some(view) => as_member(alloc, name, refs_in(alloc, &view, steps)),
+        Some(view) => as_member(alloc, name, read_refs_in(alloc, &view, steps)),
     }
 }
 
 /// The schemas and references of a list.
 #[cycle(read)]
-fn refs_in(
+fn read_refs_in(
     alloc: Global,
     view: &View<'_>,
     steps: &mut Steps,
@@ -290,14 +281,18 @@ fn refs_in(
     ensures count { steps.new + 3 ≤ steps.old + 3 * size_of (shown view.now) }
 {
     match view {
-        View::List(nodes) => refs(alloc, nodes, steps),
+        View::List(nodes) => read_refs(alloc, nodes, steps),
         _ => Err(Fault::new(alloc, Cause::WrongKind(Expected::List))),
     }
 }
 
 /// The schemas and references among the elements of a list, in order.
 #[cycle(read)]
-fn refs(alloc: Global, nodes: &[Node], steps: &mut Steps) -> Result<Vec<ReferenceOr<Schema>>, Fault>
+fn read_refs(
+    alloc: Global,
+    nodes: &[Node],
+    steps: &mut Steps,
+) -> Result<Vec<ReferenceOr<Schema>>, Fault>
     ensures reads { Gives (list_form ref_form) result (kinds.list_of (kinds.ref_to kinds.a_schema))
         (list (items_of nodes.now)) }
     ensures rises { steps.old ≤ steps.new }
@@ -317,7 +312,7 @@ fn refs(alloc: Global, nodes: &[Node], steps: &mut Steps) -> Result<Vec<Referenc
 
 /// The schemas and references under `properties`, where it is there and not null.
 #[cycle(read)]
-fn optional_properties(
+fn read_properties(
     alloc: Global,
     members: &OrderedMap<Node>,
     steps: &mut Steps,
@@ -332,13 +327,13 @@ fn optional_properties(
 {
     match present_view(members, "properties", steps) {
         None => Ok(None),
-        Some(view) => as_member(alloc, "properties", properties_in(alloc, &view, steps)),
+        Some(view) => as_member(alloc, "properties", read_properties_in(alloc, &view, steps)),
     }
 }
 
 /// The schemas and references of a map.
 #[cycle(read)]
-fn properties_in(
+fn read_properties_in(
     alloc: Global,
     view: &View<'_>,
     steps: &mut Steps,
@@ -349,14 +344,14 @@ fn properties_in(
     ensures count { steps.new + 3 ≤ steps.old + 3 * size_of (shown view.now) }
 {
     match view {
-        View::Object(members) => properties(alloc, members, steps),
+        View::Object(members) => read_named(alloc, members, steps),
         _ => Err(Fault::new(alloc, Cause::WrongKind(Expected::Object))),
     }
 }
 
 /// The schemas and references among the members of an object, in order.
 #[cycle(read)]
-fn properties(
+fn read_named(
     alloc: Global,
     members: &OrderedMap<Node>,
     steps: &mut Steps,
@@ -384,7 +379,7 @@ fn properties(
 
 /// What stands under `additionalProperties`, where it is there and not null.
 #[cycle(read)]
-fn optional_additional(
+fn read_additional(
     alloc: Global,
     members: &OrderedMap<Node>,
     steps: &mut Steps,
@@ -400,14 +395,14 @@ fn optional_additional(
         Some(view) => as_member(
             alloc,
             "additionalProperties",
-            additional(alloc, &view, steps),
+            read_additional_in(alloc, &view, steps),
         ),
     }
 }
 
 /// A flag, or a schema or a reference to one.
 #[cycle(read)]
-pub(crate) fn additional(
+pub(crate) fn read_additional_in(
     alloc: Global,
     view: &View<'_>,
     steps: &mut Steps,
@@ -418,7 +413,7 @@ pub(crate) fn additional(
 {
     match view {
         View::Flag(allowed) => Ok(AdditionalProperties::Any(*allowed)),
-        View::Object(_) => in_additional(boxed_ref(alloc, view, steps)),
+        View::Object(_) => in_additional(read_boxed_ref(alloc, view, steps)),
         _ => Err(Fault::new(alloc, Cause::WrongKind(Expected::FlagOrObject))),
     }
 }

@@ -4,31 +4,31 @@ use crate::composite_types::{ArrayType, ObjectType};
 use openapi_parts::{BooleanType, IntegerType, NumberType, SchemaData, StringType};
 use openapi_values::ReferenceOr;
 
-/// The Schema Object: what values may be.
+/// The Schema Object (OpenAPI 3.0.3, section 4.7.24): which values are allowed, in the words of JSON Schema.
 #[cycle(schema)]
 #[derive(Debug, PartialEq, Drop)]
 pub struct Schema {
-    /// What every kind of schema can say.
+    /// What every kind of schema can say: its annotations.
     pub schema_data: SchemaData,
-    /// The kind of the schema, with what it says of values.
+    /// The kind of the schema, with what it asks of values.
     pub schema_kind: SchemaKind,
 }
 
-/// The kinds of schemas.
+/// The kinds of schemas, told apart by which members a Schema Object has.
 #[cycle(schema)]
 #[derive(Debug, PartialEq, Drop)]
 pub enum SchemaKind {
-    /// A schema with a `type`, and no member that this type does not have.
+    /// A schema with a `type`, and no member that belongs to another type.
     Typed(SchemaType),
-    /// Exactly one of the schemas.
+    /// `oneOf`: exactly one of the schemas has to fit.
     OneOf { one_of: Vec<ReferenceOr<Schema>> },
-    /// All of the schemas.
+    /// `allOf`: all of the schemas have to fit.
     AllOf { all_of: Vec<ReferenceOr<Schema>> },
-    /// At least one of the schemas.
+    /// `anyOf`: at least one of the schemas has to fit.
     AnyOf { any_of: Vec<ReferenceOr<Schema>> },
-    /// Not the schema.
+    /// `not`: the schema may not fit.
     Not { not: Box<ReferenceOr<Schema>> },
-    /// Any other combination of members.
+    /// Any other combination of members, with no loss of any.
     Any(AnySchema),
 }
 
@@ -53,12 +53,12 @@ pub enum SchemaType {
 /// The name that the crate openapiv3 has for `SchemaType`.
 pub type Type = SchemaType;
 
-/// What members of an object may be that its schema does not name.
+/// `additionalProperties` (OpenAPI 3.0.3, section 4.7.24): the properties of an object that its schema does not name.
 #[cycle(schema)]
 #[derive(Debug, PartialEq, Drop)]
 pub enum AdditionalProperties {
-    /// Whether there may be any.
+    /// Whether there may be others, of any schema.
     Any(bool),
-    /// What they may be.
+    /// The schema that they have, or a reference to one.
     Schema(Box<ReferenceOr<Schema>>),
 }

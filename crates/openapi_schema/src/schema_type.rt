@@ -6,7 +6,8 @@ ghost use Rattle.openapi_tables.specs.ByRow.{rows_weight};
 ghost use Rattle.openapi_tables.specs.Kind.{by};
 ghost use Rattle.openapi_tables.specs.Tables.{final_tables, schema_type};
 ghost use Rattle.openapi_rows.specs.Gives.{GivesRows};
-ghost use Rattle.openapi_schema.specs.TypeForms.{table_of, type_words, type_name_word};
+ghost use Rattle.openapi_parts.specs.TypeNames.{type_name_word};
+ghost use Rattle.openapi_schema.specs.TypeForms.{table_of};
 ghost use Rattle.openapi_schema.specs.TypeForms.{schema_type_fields, schema_type_form, schema_type_word};
 ghost use Rattle.openapi_schema.specs.TypeForms.{schema_type_sound};
 
@@ -15,60 +16,9 @@ use crate::members::whole_type;
 use crate::schema::SchemaType;
 use crate::write::type_rows;
 use openapi_node::{Cause, Expected, Fault, Node, OrderedMap, Steps, View};
-use openapi_parts::{BooleanType, IntegerType, NumberType, StringType};
+use openapi_parts::{BooleanType, IntegerType, NumberType, StringType, TypeName};
 use openapi_rows::{FromNode, Record, ToNode, tag};
-use openapi_values::Word;
 use std::alloc::Global;
-
-/// The types of schemas.
-#[derive(Clone, Copy)]
-pub(crate) enum TypeName {
-    String,
-    Number,
-    Integer,
-    Object,
-    Array,
-    Boolean,
-}
-
-impl Word for TypeName {
-    ghost use Rattle.openapi_schema.specs.declared.schema_type.TypeName.TheVariants as names;
-
-    ghost words = { type_words };
-
-    ghost word_of = { type_name_word };
-
-    ghost known = { elim [
-      | names.String ↦ refl
-      | names.Number ↦ refl
-      | names.Integer ↦ refl
-      | names.Object ↦ refl
-      | names.Array ↦ refl
-      | names.Boolean ↦ refl
-    ] };
-
-    fn all() -> &'static [TypeName] {
-        &[
-            TypeName::String,
-            TypeName::Number,
-            TypeName::Integer,
-            TypeName::Object,
-            TypeName::Array,
-            TypeName::Boolean,
-        ]
-    }
-
-    fn as_str(&self) -> &'static str {
-        match self {
-            TypeName::String => "string",
-            TypeName::Number => "number",
-            TypeName::Integer => "integer",
-            TypeName::Object => "object",
-            TypeName::Array => "array",
-            TypeName::Boolean => "boolean",
-        }
-    }
-}
 
 /// Reads a schema of a type among the members of an object.
 fn of_type(

@@ -7,18 +7,19 @@ ghost use Rattle.openapi_tables.specs.Slots.{before, slots_lost, IsWritten};
 ghost use Rattle.openapi_tables.specs.Tables.{final_tables};
 ghost use Rattle.openapi_rows.specs.Forms.{list_form, map_form, optional_form};
 ghost use Rattle.openapi_rows.specs.Gives.{Loses, WrittenAs};
+ghost use Rattle.openapi_knots.specs.Writing.{GivesWritten, RowsWritten};
 ghost use Rattle.openapi_schema.specs.Fields.{any_slots, array_slots, object_slots};
 ghost use Rattle.openapi_schema.specs.Reading.{ref_form, inner_box_form, outer_box_form};
 ghost use Rattle.openapi_schema.specs.SchemaForms.{additional_form, schema_form};
-ghost use Rattle.openapi_schema.specs.Writing.{GivesWritten, RowsWritten, kind_slots, type_slots, untagged};
+ghost use Rattle.openapi_schema.specs.Writing.{kind_slots, type_slots, untagged};
 
 use crate::any_schema::AnySchema;
 use crate::composite_types::{ArrayType, ObjectType};
-use crate::members::{as_some, only_row, put_row, put_written, record_rows, whole_schema};
-use crate::memory::push;
+use crate::members::whole_schema;
 use crate::schema::{AdditionalProperties, Schema, SchemaKind, SchemaType};
+use openapi_knots::{as_some, only_row, put_row, put_written, record_rows};
 use openapi_node::{Fault, Node, OrderedMap};
-use openapi_rows::{put_implied, put_optional, write_reference};
+use openapi_rows::{push, put_implied, put_optional, write_reference};
 use openapi_values::ReferenceOr;
 use std::alloc::Global;
 

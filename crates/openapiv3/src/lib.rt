@@ -5,12 +5,12 @@
 //! [`ToNode::to_node`] writes the object.
 #![tactic(auto)]
 
+pub use openapi_annotations::{Discriminator, ExternalDocumentation, Xml};
 pub use openapi_map::OrderedMap;
 pub use openapi_node::{Cause, Expected, Fault, Node, PlaceStep, Steps, View, Whole};
 pub use openapi_records::{
-    Contact, Discriminator, Example, ExternalDocumentation, Info, License, Link, LinkOperation,
-    Server, ServerVariable, Tag, Xml, example_ref_from_node, example_ref_to_node,
-    link_ref_from_node, link_ref_to_node,
+    Contact, Example, Info, License, Link, LinkOperation, Server, ServerVariable, Tag,
+    example_ref_from_node, example_ref_to_node, link_ref_from_node, link_ref_to_node,
 };
 pub use openapi_rows::{FromNode, ToNode};
 pub use openapi_schema::{
@@ -29,6 +29,3 @@ pub use openapi_values::{
     ReferenceOr, StatusCode, StringFormat, VariantOrUnknown, VariantOrUnknownOrEmpty, Word,
     is_false,
 };
-
-#[cfg(test)]
-mod tests;

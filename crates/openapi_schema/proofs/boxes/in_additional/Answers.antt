@@ -1,5 +1,5 @@
 use Rattle.std.proofs.Common.{sym, ◌∙◌}
-use Rattle.openapi_schema.proofs.References.{other_fails}
+use Rattle.openapi_schema.proofs.Refusals.{other_fails}
 use Rattle.openapi_schema.proofs.SchemaReads.{additional-schema}
 use Rattle.openapi_schema.proofs.boxes.in_additional.Goals as goal
 

@@ -2,19 +2,19 @@ use Rattle.std.proofs.Common.{◌∙◌, ◌∷◌, [], sym, ap, arith, take, st
 use Rattle.openapi_map.specs.Entries.{get}
 use Rattle.openapi_map.proofs.EntryLemmas.{absent-next}
 use Rattle.openapi_tables.specs.Form.{absent, leaf}
-use Rattle.openapi_tables.specs.Lists.{each}
+use Rattle.openapi_tables.specs.Lists.{each, join}
 use Rattle.openapi_tables.specs.Members.{string_sort, number_sort, integer_sort, boolean_sort, object_sort}
 use Rattle.openapi_tables.specs.Members.{one_of_sort, all_of_sort, any_of_sort, any_sort}
-use Rattle.openapi_rows.specs.Forms.{text_form, flag_form, number_form, size_form, optional_form}
+use Rattle.openapi_rows.specs.Forms.{text_form, flag_form, number_form, size_form, optional_form, list_form}
+use Rattle.openapi_schema.specs.KindNames.{any_last_rows}
 use Rattle.openapi_schema.specs.Reading.{ref_form, inner_box_form}
 use Rattle.openapi_schema.specs.SchemaForms.{Sorted, schema_kind_rows, schema_type_rows}
 use Rattle.openapi_schema.specs.declared.any_schema.AnySchema.{out-AnySchema}
 use Rattle.openapi_schema.specs.declared.composite_types.ObjectType.{out-ObjectType}
 use Rattle.openapi_schema.specs.declared.schema.Schema.{out-Schema}
-use Rattle.openapi_schema.proofs.AnyForms.{any_rows-roll}
-use Rattle.openapi_schema.proofs.CloneForms.{IsSame, IsTextClone, get-absent, list-clone, pairs-next, text-clone}
+use Rattle.openapi_knots.proofs.CloneForms.{IsSame, IsTextClone, get-absent, list-clone, pairs-next, text-clone}
 use Rattle.openapi_schema.proofs.CombinedForms.{one_of_rows-kind, all_of_rows-kind, any_of_rows-kind}
-use Rattle.openapi_schema.proofs.FormSizes.{element_smaller, rows_size, value_smaller}
+use Rattle.openapi_knots.proofs.FormSizes.{element_smaller, rows_size, value_smaller}
 use Rattle.openapi_schema.proofs.KindForms.{any_rows-kind, object_rows-roll}
 use Rattle.openapi_schema.proofs.OpenedForms.{any_rows-out, object_rows-out, object_rows-type, schema-same}
 use Rattle.openapi_schema.proofs.OpenedForms.{string_rows-type, number_rows-type, integer_rows-type, boolean_rows-type}
@@ -129,9 +129,16 @@ clone_object-returns t c =
 
 pub clone_any-returns : goal.clone_any-returns
 clone_any-returns t c =
+    let entries = list-clone IsSame leaf (λ a b h. ap leaf h) (out-AnySchema c.args.any.now).enumeration
+    c.in_ok-enumeration.enumeration c.in_ok-enumeration.ensures.cases in
+    c.any_of_names.ensures
+    ∙ (λ i. join (c.in_ok-first.ensures i) ((ap (λ e. any_last_rows e c.in_ok-last.last) entries
+    ∙ c.in_ok-last.ensures) i))
+
+pub clone_first-returns : goal.clone_first-returns
+clone_first-returns t c =
     let x = out-AnySchema c.args.any.now in
-    sym (any_rows-out _) ∙ any_rows-roll _
-    ∙ (λ i. texts-clone x.typ c.in_ok-clone.field-0 c.in_ok-clone.ensures.cases i
+    (λ i. texts-clone x.typ c.in_ok-clone.field-0 c.in_ok-clone.ensures.cases i
     ∷ texts-clone x.pattern c.in_ok-clone-2.field-0 c.in_ok-clone-2.ensures.cases i
     ∷ optional_form number_form x.multiple_of
     ∷ optional_form flag_form x.exclusive_minimum
@@ -143,12 +150,17 @@ clone_any-returns t c =
     ∷ c.in_ok-clone_if_additional.ensures i
     ∷ optional_form size_form x.min_properties
     ∷ optional_form size_form x.max_properties
-    ∷ c.in_ok-clone_items.ensures i
+    ∷ [])
+
+pub clone_last-returns : goal.clone_last-returns
+clone_last-returns t c =
+    let x = out-AnySchema c.args.any.now in
+    (λ i. c.in_ok-clone_items.ensures i
     ∷ optional_form size_form x.min_items
     ∷ optional_form size_form x.max_items
     ∷ optional_form flag_form x.unique_items
-    ∷ list-clone IsSame leaf (λ a b h. ap leaf h) x.enumeration c.in_ok-clone-4.field-0 c.in_ok-clone-4.ensures.cases i
-    ∷ texts-clone x.format c.in_ok-clone-5.field-0 c.in_ok-clone-5.ensures.cases i
+    ∷ list_form leaf x.enumeration
+    ∷ texts-clone x.format c.in_ok-clone.field-0 c.in_ok-clone.ensures.cases i
     ∷ optional_form size_form x.min_length
     ∷ optional_form size_form x.max_length
     ∷ c.in_ok-clone_refs.ensures i

@@ -5,7 +5,7 @@ use Rattle.openapi_rows.specs.Forms.{list_form, map_form, optional_form}
 use Rattle.openapi_schema.specs.Fields.{any_fields, array_fields, object_fields}
 use Rattle.openapi_schema.specs.Reading.{ref_form, inner_box_form, outer_box_form}
 use Rattle.openapi_schema.specs.SchemaForms.{additional_form, schema_form, schema_kind_rows, schema_type_rows}
-use Rattle.openapi_schema.proofs.FormSizes.{form_size, rows_size}
+use Rattle.openapi_knots.proofs.FormSizes.{form_size, rows_size}
 use Rattle.openapi_schema.proofs.clone.+clone.Given as goal
 
 -- the size of the form that is left to clone; and for the same form, the caller above what it calls
@@ -13,10 +13,10 @@ abbrev pub decreases-clone_schema : goal.decreases-clone_schema
 decreases-clone_schema l = 8 * form_size (schema_form l.schema.now)
 
 abbrev pub decreases-clone_kind : goal.decreases-clone_kind
-decreases-clone_kind l = 8 * rows_size (schema_kind_rows l.kind.now).1 + 6
+decreases-clone_kind l = 8 * rows_size (schema_kind_rows l.kind.now).1 + 7
 
 abbrev pub decreases-clone_type : goal.decreases-clone_type
-decreases-clone_type l = 8 * rows_size (schema_type_rows l.typ.now).1 + 5
+decreases-clone_type l = 8 * rows_size (schema_type_rows l.typ.now).1 + 6
 
 abbrev pub decreases-clone_object : goal.decreases-clone_object
 decreases-clone_object l = 8 * rows_size (object_fields l.typ.now) + 4
@@ -25,7 +25,13 @@ abbrev pub decreases-clone_array : goal.decreases-clone_array
 decreases-clone_array l = 8 * rows_size (array_fields l.typ.now) + 4
 
 abbrev pub decreases-clone_any : goal.decreases-clone_any
-decreases-clone_any l = 8 * rows_size (any_fields l.any.now) + 4
+decreases-clone_any l = 8 * rows_size (any_fields l.any.now) + 5
+
+abbrev pub decreases-clone_first : goal.decreases-clone_first
+decreases-clone_first l = 8 * rows_size (any_fields l.any.now) + 4
+
+abbrev pub decreases-clone_last : goal.decreases-clone_last
+decreases-clone_last l = 8 * rows_size (any_fields l.any.now) + 4
 
 abbrev pub decreases-clone_ref : goal.decreases-clone_ref
 decreases-clone_ref l = 8 * form_size (ref_form l.value.now)

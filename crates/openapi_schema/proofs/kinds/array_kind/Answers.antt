@@ -16,6 +16,6 @@ returns c =
     let b = c.args.last in
     array_rows-kind _
     ∙ ap (λ rows. (array_sort, absent ∷ rows)) (array_rows-roll _
-    ∙ (λ i. optional_form (reference_form (λ s. schema_form s.value)) b.items ∷ optional_form size_form b.min_items
-    ∷ optional_form size_form b.max_items
-    ∷ (ap flag_form c.unwrap_or.ensures ∙ flag_slot b.unique_items) i ∷ []))
+    ∙ (λ i. optional_form (reference_form (λ s. schema_form s.value)) b.items ∷ optional_form size_form b.plain.min_items
+    ∷ optional_form size_form b.plain.max_items
+    ∷ (ap flag_form c.unwrap_or.ensures ∙ flag_slot b.plain.unique_items) i ∷ []))

@@ -16,10 +16,10 @@ returns c =
     let a = c.args.first in
     integer_rows-kind _
     ∙ ap (λ rows. (integer_sort, absent ∷ rows)) (λ i.
-    format_slot _ integer_format_word integer_formats c.args.last.format _ c.into.ensures i
+    format_slot _ integer_format_word integer_formats c.args.last.plain.format _ c.into.ensures i
     ∷ optional_form number_form (c.requires.multiple_of i)
-    ∷ (ap flag_form c.unwrap_or.ensures ∙ flag_slot a.exclusive_minimum) i
-    ∷ (ap flag_form c.unwrap_or-2.ensures ∙ flag_slot a.exclusive_maximum) i
+    ∷ (ap flag_form c.unwrap_or.ensures ∙ flag_slot a.plain.exclusive_minimum) i
+    ∷ (ap flag_form c.unwrap_or-2.ensures ∙ flag_slot a.plain.exclusive_maximum) i
     ∷ optional_form number_form (c.requires.minimum i)
     ∷ optional_form number_form (c.requires.maximum i)
     ∷ c.requires.enumeration i ∷ [])

@@ -22,5 +22,5 @@ returns c =
     ∷ (ap (list_form text_form) c.unwrap_or-2.ensures ∙ list_slot text_form a.required c.new-2.result
     c.new-2.ensures.items) i
     ∷ optional_form additional_form a.additional_properties
-    ∷ optional_form size_form a.min_properties
-    ∷ optional_form size_form a.max_properties ∷ []))
+    ∷ optional_form size_form a.plain.min_properties
+    ∷ optional_form size_form a.plain.max_properties ∷ []))

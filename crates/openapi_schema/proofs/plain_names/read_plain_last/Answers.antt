@@ -6,5 +6,22 @@ use Rattle.openapi_schema.proofs.plain_names.read_plain_last.Goals as goal
 
 pub returns-clause-reads : goal.returns-clause-reads
 unfolding any_rows optional_rows last_optional plain_last
-returns-clause-reads c =
-    (c.in_ok-optional.ensures.reads, (c.in_ok-optional-2.ensures.reads, (c.in_ok-optional-3.ensures.reads, (c.in_ok-lent_entries.ensures.reads, (c.in_ok-optional-4.ensures.reads, (c.in_ok-optional-5.ensures.reads, (c.in_ok-optional-6.ensures.reads, tt)))))))
+returns-clause-reads c = (
+  c.in_ok-optional.ensures.reads,
+  (
+    c.in_ok-optional-2.ensures.reads,
+    (
+      c.in_ok-optional-3.ensures.reads,
+      (
+        c.in_ok-optional-6.ensures.reads,
+        (
+          c.in_ok-optional-4.ensures.reads,
+          (
+            c.in_ok-optional-5.ensures.reads,
+            tt,
+          ),
+        ),
+      ),
+    ),
+  ),
+)

@@ -2,20 +2,21 @@ use Rattle.std.proofs.Common.{List, codes, refl, arith}
 use Rattle.std.specs.Borrow.{Bor}
 use Rattle.openapi_node.specs.Tree.{Tree, members_of}
 use Rattle.openapi_node.specs.View.{shown}
-use Rattle.openapi_tables.specs.Kind.{any_tree, list_of, optional, row}
+use Rattle.openapi_tables.specs.Kind.{a_schema_kind, any_tree, list_of, optional, row}
 use Rattle.openapi_tables.specs.Tables.{any_rows}
 use Rattle.openapi_tables.specs.Members.{checked_rows}
 use Rattle.openapi_tables.specs.ByRow.{row_weight}
 use Rattle.openapi_rows.proofs.Below.{size-positive}
 use Rattle.openapi_rows.proofs.RowReading.{weight_of_name}
 use Rattle.openapi_schema.specs.KindNames.{trees_form}
-use Rattle.openapi_schema.proofs.PresentRows.{row_gone, row_read, entries_left}
+use Rattle.openapi_knots.proofs.PresentRows.{row_gone, row_read}
+use Rattle.openapi_schema.proofs.LentEntries.{entries_left}
 use Rattle.openapi_schema.proofs.presence.lent_entries.Goals as goal
 
 pub returns-in-None-clause-reads : goal.returns-in-None-clause-reads
 unfolding checked_rows any_rows
 returns-in-None-clause-reads c =
-    row_gone (λ (nodes : Bor (List Tree)). trees_form nodes.now) (codes "enum") (list_of any_tree) (members_of c.args.members.now) refl
+    row_gone (λ (nodes : Bor (List Tree)). trees_form nodes.now) a_schema_kind (codes "enum") (list_of any_tree) (members_of c.args.members.now) refl
     c.in-None.ensures.is
 
 pub returns-in-None-clause-count : goal.returns-in-None-clause-count
@@ -37,7 +38,7 @@ returns-in-None-clause-left c =
 pub returns-in-Some-clause-reads : goal.returns-in-Some-clause-reads
 unfolding checked_rows any_rows
 returns-in-Some-clause-reads c =
-    row_read (λ (nodes : Bor (List Tree)). trees_form nodes.now) (codes "enum") (list_of any_tree) (members_of c.args.members.now) refl
+    row_read (λ (nodes : Bor (List Tree)). trees_form nodes.now) a_schema_kind (codes "enum") (list_of any_tree) (members_of c.args.members.now) refl
     (shown c.in-Some.view) c.elements.result c.as_member.result c.in-Some.ensures.is c.as_member.ensures
     c.elements.ensures.reads
 

@@ -1,4 +1,4 @@
-use Rattle.std.proofs.Common.{◌≡◌, ◌+◌, ◌≤◌, ◌∙◌, ◌++◌, ◌∷◌, [], Some, take, codes, refl, sym, ap, subst, arith, rules, inr}
+use Rattle.std.proofs.Common.{◌≡◌, ◌+◌, ◌≤◌, ◌∙◌, ◌++◌, ◌∷◌, [], Some, take, codes, string_bytes, refl, sym, ap, subst, arith, rules, inr}
 use Rattle.std.proofs.lemmas.List.{take_all}
 use Rattle.openapi_node.specs.Place.{named, indexed}
 use Rattle.openapi_node.specs.Tree.{list, items_of, members_of, members_size, size_of}
@@ -22,36 +22,37 @@ use Rattle.openapi_rows.proofs.Below.{wrong_here, not_list, not_map}
 use Rattle.openapi_rows.proofs.Chosen.{entry_fails, next_within, next_size, next_holds, next_same, next_new}
 use Rattle.openapi_rows.proofs.Elements.{list_gives, every-more, each-more, item_leads, next_here}
 use Rattle.openapi_rows.proofs.Mapped.{map_gives, all_chosen, all_size}
+use Rattle.openapi_rows.proofs.Referring.{fails_item, reads_item, reads_reference}
 use Rattle.openapi_rows.proofs.RowReading.{weight_of_name}
 use Rattle.openapi_schema.specs.RawSlots.{optional_rows}
-use Rattle.openapi_schema.specs.Reading.{any_name, ref_form, inner_box_form, outer_box_form}
+use Rattle.openapi_knots.specs.Reading.{any_name}
+use Rattle.openapi_schema.specs.Reading.{ref_form, inner_box_form, outer_box_form}
 use Rattle.openapi_schema.specs.SchemaForms.{additional_form, schema_form}
 use Rattle.openapi_schema.proofs.KindGives.{kind_fails, schema_weight-le}
 use Rattle.openapi_schema.proofs.PartRows.{first_whole, first_weight, last_whole, last_weight}
-use Rattle.openapi_schema.proofs.PresentRows.{row_gone, row_read}
-use Rattle.openapi_schema.proofs.References.{reference_reads, item_reads, item_fails, data_fails}
-use Rattle.openapi_schema.proofs.References.{not_object_fails, not_flag_or_object}
+use Rattle.openapi_knots.proofs.PresentRows.{row_gone, row_read}
+use Rattle.openapi_schema.proofs.Refusals.{data_fails, not_object_fails, not_flag_or_object}
 use Rattle.openapi_schema.proofs.SchemaReads.{kind_read, names_rows, names_weight, schema_reads}
 use Rattle.openapi_schema.proofs.SchemaReads.{additional-any}
 use Rattle.openapi_schema.proofs.read.+read.Goals as goal
 
 pub schema_ref_from_node-returns-clause-reads : goal.schema_ref_from_node-returns-clause-reads
 schema_ref_from_node-returns-clause-reads t c =
-    subst (λ u. Gives ref_form c.schema_ref.result (ref_to a_schema) u) c.open-view.ensures.shown
-    c.schema_ref.ensures.reads
+    subst (λ u. Gives ref_form c.read_schema_ref.result (ref_to a_schema) u) c.open-view.ensures.shown
+    c.read_schema_ref.ensures.reads
 
 pub schema_ref_from_node-returns-clause-refuses : goal.schema_ref_from_node-returns-clause-refuses
 schema_ref_from_node-returns-clause-refuses t c =
-    refuses (ref_to a_schema) c.args.node.now refl ref_form c.schema_ref.result
-    (subst (λ u. Gives ref_form c.schema_ref.result (ref_to a_schema) u) c.open-view.ensures.shown
-    c.schema_ref.ensures.reads)
+    refuses (ref_to a_schema) c.args.node.now refl ref_form c.read_schema_ref.result
+    (subst (λ u. Gives ref_form c.read_schema_ref.result (ref_to a_schema) u) c.open-view.ensures.shown
+    c.read_schema_ref.ensures.reads)
 
 pub schema_ref_from_node-returns-clause-count : goal.schema_ref_from_node-returns-clause-count
 schema_ref_from_node-returns-clause-count t c =
-    omega (arith, c.open-view.ensures.counted, ap size_of c.open-view.ensures.shown, c.schema_ref.ensures.count)
+    omega (arith, c.open-view.ensures.counted, ap size_of c.open-view.ensures.shown, c.read_schema_ref.ensures.count)
 
-pub schema_ref-returns-in_default : goal.schema_ref-returns-in_default
-schema_ref-returns-in_default t c =
+pub read_schema_ref-returns-in_default : goal.read_schema_ref-returns-in_default
+read_schema_ref-returns-in_default t c =
     record {
       reads = not_object_fails c.new.result c.args.view.now c.in_default.not-Object c.new.ensures.place
           c.new.ensures.cause;
@@ -59,186 +60,224 @@ schema_ref-returns-in_default t c =
       count = omega (arith, size-positive (shown c.args.view.now));
     }
 
-pub schema_ref-returns-in-Some-clause-reads : goal.schema_ref-returns-in-Some-clause-reads
-schema_ref-returns-in-Some-clause-reads t c =
-    rw c.in-Object.is (reference_reads (members_of c.in-Object.members.now) schema_form a_schema c.in-Some.reference
-    (rw c.in-Some.is at c.in-Ok.ensures.reads))
+pub read_schema_ref-returns-in-Some-clause-reads : goal.read_schema_ref-returns-in-Some-clause-reads
+read_schema_ref-returns-in-Some-clause-reads t c =
+    reads_reference a_schema schema_form (shown c.args.view.now) (string_bytes c.in-Some.reference)
+    (sym (rw c.in-Some.is at c.in-Ok.ensures.reads))
 
-pub schema_ref-returns-in-Some-clause-count : goal.schema_ref-returns-in-Some-clause-count
-schema_ref-returns-in-Some-clause-count t c =
-    rw c.in-Object.is (omega (arith, c.reference_in.ensures.count))
+pub read_schema_ref-returns-in-Some-clause-count : goal.read_schema_ref-returns-in-Some-clause-count
+read_schema_ref-returns-in-Some-clause-count t c =
+    rw c.in-Object.is (omega (arith, c.read_reference.ensures.count))
 
-pub schema_ref-returns-in-Ok-schema-clause-reads : goal.schema_ref-returns-in-Ok-schema-clause-reads
-schema_ref-returns-in-Ok-schema-clause-reads t c =
-    rw c.in-Object.is (item_reads (members_of c.in-Object.members.now) a_schema (rw c.in-None.is at c.in-Ok.ensures.reads)
-    schema_form c.in-Ok-schema.schema c.in-Ok-schema.ensures.reads)
+pub read_schema_ref-returns-in-Ok-read_schema-clause-reads : goal.read_schema_ref-returns-in-Ok-read_schema-clause-reads
+read_schema_ref-returns-in-Ok-read_schema-clause-reads t c =
+    reads_item a_schema schema_form (shown c.args.view.now) c.in-Ok-read_schema.schema
+    (sym (rw c.in-None.is at c.in-Ok.ensures.reads)) (rw c.in-Object.is c.in-Ok-read_schema.ensures.reads)
 
-pub schema_ref-returns-in-Ok-schema-clause-count : goal.schema_ref-returns-in-Ok-schema-clause-count
-schema_ref-returns-in-Ok-schema-clause-count t c =
-    rw c.in-Object.is (omega (arith, c.reference_in.ensures.count, c.schema.ensures.count))
+pub read_schema_ref-returns-in-Ok-read_schema-clause-count : goal.read_schema_ref-returns-in-Ok-read_schema-clause-count
+read_schema_ref-returns-in-Ok-read_schema-clause-count t c =
+    rw c.in-Object.is (omega (arith, c.read_reference.ensures.count, c.read_schema.ensures.count))
 
-pub schema_ref-returns-in-Err-schema-clause-reads : goal.schema_ref-returns-in-Err-schema-clause-reads
-schema_ref-returns-in-Err-schema-clause-reads t c =
-    rw c.in-Object.is (item_fails (members_of c.in-Object.members.now) a_schema (rw c.in-None.is at c.in-Ok.ensures.reads)
-    c.in-Err-schema.fault c.in-Err-schema.ensures.reads)
+pub read_schema_ref-returns-in-Err-read_schema-clause-reads : goal.read_schema_ref-returns-in-Err-read_schema-clause-reads
+read_schema_ref-returns-in-Err-read_schema-clause-reads t c =
+    fails_item a_schema schema_form (shown c.args.view.now) c.in-Err-read_schema.fault
+    (sym (rw c.in-None.is at c.in-Ok.ensures.reads)) (rw c.in-Object.is c.in-Err-read_schema.ensures.reads)
 
-pub schema_ref-returns-in-Err-schema-clause-count : goal.schema_ref-returns-in-Err-schema-clause-count
-schema_ref-returns-in-Err-schema-clause-count t c =
-    rw c.in-Object.is (omega (arith, c.reference_in.ensures.count, c.schema.ensures.count))
+pub read_schema_ref-returns-in-Err-read_schema-clause-count : goal.read_schema_ref-returns-in-Err-read_schema-clause-count
+read_schema_ref-returns-in-Err-read_schema-clause-count t c =
+    rw c.in-Object.is (omega (arith, c.read_reference.ensures.count, c.read_schema.ensures.count))
 
-pub schema_ref-returns-in-Err-clause-reads : goal.schema_ref-returns-in-Err-clause-reads
-schema_ref-returns-in-Err-clause-reads t c =
+pub read_schema_ref-returns-in-Err-clause-reads : goal.read_schema_ref-returns-in-Err-clause-reads
+read_schema_ref-returns-in-Err-clause-reads t c =
     memory_fails c.in-Err.fault (ref_to a_schema) (shown c.args.view.now) c.in-Err.ensures.err
 
-pub schema_ref-returns-in-Err-clause-count : goal.schema_ref-returns-in-Err-clause-count
-schema_ref-returns-in-Err-clause-count t c =
-    rw c.in-Object.is (omega (arith, c.reference_in.ensures.count))
+pub read_schema_ref-returns-in-Err-clause-count : goal.read_schema_ref-returns-in-Err-clause-count
+read_schema_ref-returns-in-Err-clause-count t c =
+    rw c.in-Object.is (omega (arith, c.read_reference.ensures.count))
 
-pub boxed_schema_ref-returns-clause-reads : goal.boxed_schema_ref-returns-clause-reads
-boxed_schema_ref-returns-clause-reads t c =
-    c.in_inner_box.ensures (ref_to a_schema) (shown c.args.view.now) c.schema_ref.ensures.reads
+pub read_boxed_schema_ref-returns-clause-reads : goal.read_boxed_schema_ref-returns-clause-reads
+read_boxed_schema_ref-returns-clause-reads t c =
+    c.in_inner_box.ensures schema_form (ref_to a_schema) (shown c.args.view.now) c.read_schema_ref.ensures.reads
 
-pub boxed_ref-returns-clause-reads : goal.boxed_ref-returns-clause-reads
-boxed_ref-returns-clause-reads t c =
-    c.in_outer_box.ensures (ref_to a_schema) (shown c.args.view.now) c.schema_ref.ensures.reads
+pub read_boxed_ref-returns-clause-reads : goal.read_boxed_ref-returns-clause-reads
+read_boxed_ref-returns-clause-reads t c =
+    c.in_outer_box.ensures schema_form (ref_to a_schema) (shown c.args.view.now) c.read_schema_ref.ensures.reads
 
-pub schema-returns-in-Ok-kind-clause-reads : goal.schema-returns-in-Ok-kind-clause-reads
-schema-returns-in-Ok-kind-clause-reads t c =
-    schema_reads (record { schema_data = c.in-Ok.schema_data; schema_kind = c.in-Ok-kind.schema_kind })
-    (members_of c.args.members.now) c.in-Ok.ensures.reads c.in-Ok-kind.ensures.reads
+pub read_schema-returns-in-Ok-read_kind-clause-reads : goal.read_schema-returns-in-Ok-read_kind-clause-reads
+read_schema-returns-in-Ok-read_kind-clause-reads t c =
+    schema_reads (record { schema_data = c.in-Ok.schema_data; schema_kind = c.in-Ok-read_kind.schema_kind })
+    (members_of c.args.members.now) c.in-Ok.ensures.reads c.in-Ok-read_kind.ensures.reads
 
-pub schema-returns-in-Ok-kind-clause-count : goal.schema-returns-in-Ok-kind-clause-count
-schema-returns-in-Ok-kind-clause-count t c =
+pub read_schema-returns-in-Ok-read_kind-clause-count : goal.read_schema-returns-in-Ok-read_kind-clause-count
+read_schema-returns-in-Ok-read_kind-clause-count t c =
     let ms = members_of c.args.members.now in
     let w : rows_weight (rows_asked final_tables (by schema_data)) ms + rows_weight optional_rows ms ≤ members_size ms =
     schema_weight-le ms in
-    omega (arith, w, c.from_members.ensures.count, c.kind.ensures.count)
+    omega (arith, w, c.from_members.ensures.count, c.read_kind.ensures.count)
 
-pub schema-returns-in-Err-kind-clause-reads : goal.schema-returns-in-Err-kind-clause-reads
-schema-returns-in-Err-kind-clause-reads t c =
-    kind_fails c.in-Err-kind.fault (members_of c.args.members.now) c.in-Err-kind.ensures.reads
+pub read_schema-returns-in-Err-read_kind-clause-reads : goal.read_schema-returns-in-Err-read_kind-clause-reads
+read_schema-returns-in-Err-read_kind-clause-reads t c =
+    kind_fails c.in-Err-read_kind.fault (members_of c.args.members.now) c.in-Err-read_kind.ensures.reads
 
-pub schema-returns-in-Err-kind-clause-count : goal.schema-returns-in-Err-kind-clause-count
-schema-returns-in-Err-kind-clause-count t c =
+pub read_schema-returns-in-Err-read_kind-clause-count : goal.read_schema-returns-in-Err-read_kind-clause-count
+read_schema-returns-in-Err-read_kind-clause-count t c =
     let ms = members_of c.args.members.now in
     let w : rows_weight (rows_asked final_tables (by schema_data)) ms + rows_weight optional_rows ms ≤ members_size ms =
     schema_weight-le ms in
-    omega (arith, w, c.from_members.ensures.count, c.kind.ensures.count)
+    omega (arith, w, c.from_members.ensures.count, c.read_kind.ensures.count)
 
-pub schema-returns-in-Err-clause-reads : goal.schema-returns-in-Err-clause-reads
-schema-returns-in-Err-clause-reads t c =
+pub read_schema-returns-in-Err-clause-reads : goal.read_schema-returns-in-Err-clause-reads
+read_schema-returns-in-Err-clause-reads t c =
     data_fails c.in-Err.fault (members_of c.args.members.now) c.in-Err.ensures.reads
 
-pub schema-returns-in-Err-clause-count : goal.schema-returns-in-Err-clause-count
-schema-returns-in-Err-clause-count t c =
+pub read_schema-returns-in-Err-clause-count : goal.read_schema-returns-in-Err-clause-count
+read_schema-returns-in-Err-clause-count t c =
     let ms = members_of c.args.members.now in
     let w : rows_weight (rows_asked final_tables (by schema_data)) ms + rows_weight optional_rows ms ≤ members_size ms =
     schema_weight-le ms in
     omega (arith, w, c.from_members.ensures.count)
 
-pub kind-returns-in-Ok-last_names-clause-reads : goal.kind-returns-in-Ok-last_names-clause-reads
-kind-returns-in-Ok-last_names-clause-reads t c =
+pub read_kind-returns-in-Ok-read_last_names-clause-reads : goal.read_kind-returns-in-Ok-read_last_names-clause-reads
+read_kind-returns-in-Ok-read_last_names-clause-reads t c =
     let ms = members_of c.args.members.now in
     let a = c.in-Ok.first in
-    let b = c.in-Ok-last_names.last in
-    kind_read c.schema_kind.result a b ms (names_rows a b ms c.in-Ok.ensures.reads c.in-Ok-last_names.ensures.reads)
+    let b = c.in-Ok-read_last_names.last in
+    kind_read c.schema_kind.result a b ms (names_rows a b ms c.in-Ok.ensures.reads c.in-Ok-read_last_names.ensures.reads)
     c.schema_kind.ensures.reads c.schema_kind.ensures.err
 
-pub kind-returns-in-Ok-last_names-clause-count : goal.kind-returns-in-Ok-last_names-clause-count
-kind-returns-in-Ok-last_names-clause-count t c =
+pub read_kind-returns-in-Ok-read_last_names-clause-count : goal.read_kind-returns-in-Ok-read_last_names-clause-count
+read_kind-returns-in-Ok-read_last_names-clause-count t c =
     omega (
       arith,
       names_weight (members_of c.args.members.now),
-      c.first_names.ensures.count,
-      c.in-Ok-last_names.ensures.left,
+      c.read_first_names.ensures.count,
+      c.in-Ok-read_last_names.ensures.left,
       c.schema_kind.ensures.count,
     )
 
-pub kind-returns-in-Err-last_names-clause-count : goal.kind-returns-in-Err-last_names-clause-count
-kind-returns-in-Err-last_names-clause-count t c =
-    omega (arith, names_weight (members_of c.args.members.now), c.first_names.ensures.count, c.last_names.ensures.count)
+pub read_kind-returns-in-Err-read_last_names-clause-count : goal.read_kind-returns-in-Err-read_last_names-clause-count
+read_kind-returns-in-Err-read_last_names-clause-count t c =
+    omega (arith, names_weight (members_of c.args.members.now), c.read_first_names.ensures.count, c.read_last_names.ensures.count)
 
-pub kind-returns-in-Err-clause-count : goal.kind-returns-in-Err-clause-count
-kind-returns-in-Err-clause-count t c =
-    omega (arith, names_weight (members_of c.args.members.now), c.first_names.ensures.count)
+pub read_kind-returns-in-Err-clause-count : goal.read_kind-returns-in-Err-clause-count
+read_kind-returns-in-Err-clause-count t c =
+    omega (arith, names_weight (members_of c.args.members.now), c.read_first_names.ensures.count)
 
-pub first_names-returns-in_err-plain-clause-count : goal.first_names-returns-in_err-plain-clause-count
-first_names-returns-in_err-plain-clause-count t c =
-    omega (arith, first_weight (members_of c.args.members.now), c.in_err-plain.ensures.count)
-
-pub first_names-returns-in_err-properties-clause-count : goal.first_names-returns-in_err-properties-clause-count
-first_names-returns-in_err-properties-clause-count t c =
-    omega (arith, first_weight (members_of c.args.members.now), c.in_ok-plain.ensures.count, c.in_err-properties.ensures.count)
-
-pub first_names-returns-in_err-additional_properties-clause-count : goal.first_names-returns-in_err-additional_properties-clause-count
-first_names-returns-in_err-additional_properties-clause-count t c =
+pub read_first_names-returns-in_err-plain-clause-count : goal.read_first_names-returns-in_err-plain-clause-count
+read_first_names-returns-in_err-plain-clause-count t c =
     omega (
       arith,
       first_weight (members_of c.args.members.now),
-      c.in_ok-plain.ensures.count,
-      c.in_ok-properties.ensures.count,
-      c.in_err-additional_properties.ensures.count,
-    )
-
-pub first_names-returns-clause-reads : goal.first_names-returns-clause-reads
-first_names-returns-clause-reads t c =
-    first_whole c.in_ok-plain.plain c.in_ok-properties.properties
-    c.in_ok-additional_properties.additional_properties (members_of c.args.members.now) c.in_ok-plain.ensures.reads
-    c.in_ok-properties.ensures.reads c.in_ok-additional_properties.ensures.reads
-
-pub first_names-returns-clause-count : goal.first_names-returns-clause-count
-first_names-returns-clause-count t c =
-    omega (
-      arith,
-      first_weight (members_of c.args.members.now),
-      c.in_ok-plain.ensures.count,
-      c.in_ok-properties.ensures.count,
-      c.in_ok-additional_properties.ensures.count,
-    )
-
-pub last_names-returns-in_err-plain-clause-count : goal.last_names-returns-in_err-plain-clause-count
-last_names-returns-in_err-plain-clause-count t c =
-    omega (
-      arith,
-      last_weight (members_of c.args.members.now),
       c.in_err-plain.ensures.count,
     )
 
-pub last_names-returns-in_err-items-clause-count : goal.last_names-returns-in_err-items-clause-count
-last_names-returns-in_err-items-clause-count t c =
+pub read_first_names-returns-in_err-properties-clause-count : goal.read_first_names-returns-in_err-properties-clause-count
+read_first_names-returns-in_err-properties-clause-count t c =
+    omega (
+      arith,
+      first_weight (members_of c.args.members.now),
+      c.in_ok-plain.ensures.count,
+      c.in_err-properties.ensures.count,
+    )
+
+pub read_first_names-returns-in_err-required-clause-count : goal.read_first_names-returns-in_err-required-clause-count
+read_first_names-returns-in_err-required-clause-count t c =
+    omega (
+      arith,
+      first_weight (members_of c.args.members.now),
+      c.in_ok-plain.ensures.count,
+      c.in_ok-properties.ensures.count,
+      c.in_err-required.ensures.count,
+    )
+
+pub read_first_names-returns-in_err-additional_properties-clause-count : goal.read_first_names-returns-in_err-additional_properties-clause-count
+read_first_names-returns-in_err-additional_properties-clause-count t c =
+    omega (
+      arith,
+      first_weight (members_of c.args.members.now),
+      c.in_ok-plain.ensures.count,
+      c.in_ok-properties.ensures.count,
+      c.in_ok-required.ensures.count,
+      c.in_err-additional_properties.ensures.count,
+    )
+
+pub read_first_names-returns-clause-reads : goal.read_first_names-returns-clause-reads
+read_first_names-returns-clause-reads t c =
+    first_whole (record {
+      plain = c.in_ok-plain.plain;
+      properties = c.in_ok-properties.properties;
+      required = c.in_ok-required.required;
+      additional_properties = c.in_ok-additional_properties.additional_properties;
+    }) (members_of c.args.members.now) c.in_ok-plain.ensures.reads c.in_ok-properties.ensures.reads
+    c.in_ok-required.ensures.reads c.in_ok-additional_properties.ensures.reads
+
+pub read_first_names-returns-clause-count : goal.read_first_names-returns-clause-count
+read_first_names-returns-clause-count t c =
+    omega (
+      arith,
+      first_weight (members_of c.args.members.now),
+      c.in_ok-plain.ensures.count,
+      c.in_ok-properties.ensures.count,
+      c.in_ok-required.ensures.count,
+      c.in_ok-additional_properties.ensures.count,
+    )
+
+pub read_last_names-returns-in_err-enumeration-clause-count : goal.read_last_names-returns-in_err-enumeration-clause-count
+read_last_names-returns-in_err-enumeration-clause-count t c =
     omega (
       arith,
       last_weight (members_of c.args.members.now),
+      c.in_err-enumeration.ensures.count,
+    )
+
+pub read_last_names-returns-in_err-plain-clause-count : goal.read_last_names-returns-in_err-plain-clause-count
+read_last_names-returns-in_err-plain-clause-count t c =
+    omega (
+      arith,
+      last_weight (members_of c.args.members.now),
+      c.in_ok-enumeration.ensures.count,
+      c.in_err-plain.ensures.count,
+    )
+
+pub read_last_names-returns-in_err-items-clause-count : goal.read_last_names-returns-in_err-items-clause-count
+read_last_names-returns-in_err-items-clause-count t c =
+    omega (
+      arith,
+      last_weight (members_of c.args.members.now),
+      c.in_ok-enumeration.ensures.count,
       c.in_ok-plain.ensures.count,
       c.in_err-items.ensures.count,
     )
 
-pub last_names-returns-in_err-one_of-clause-count : goal.last_names-returns-in_err-one_of-clause-count
-last_names-returns-in_err-one_of-clause-count t c =
+pub read_last_names-returns-in_err-one_of-clause-count : goal.read_last_names-returns-in_err-one_of-clause-count
+read_last_names-returns-in_err-one_of-clause-count t c =
     omega (
       arith,
       last_weight (members_of c.args.members.now),
+      c.in_ok-enumeration.ensures.count,
       c.in_ok-plain.ensures.count,
       c.in_ok-items.ensures.count,
       c.in_err-one_of.ensures.count,
     )
 
-pub last_names-returns-in_err-all_of-clause-count : goal.last_names-returns-in_err-all_of-clause-count
-last_names-returns-in_err-all_of-clause-count t c =
+pub read_last_names-returns-in_err-all_of-clause-count : goal.read_last_names-returns-in_err-all_of-clause-count
+read_last_names-returns-in_err-all_of-clause-count t c =
     omega (
       arith,
       last_weight (members_of c.args.members.now),
+      c.in_ok-enumeration.ensures.count,
       c.in_ok-plain.ensures.count,
       c.in_ok-items.ensures.count,
       c.in_ok-one_of.ensures.count,
       c.in_err-all_of.ensures.count,
     )
 
-pub last_names-returns-in_err-any_of-clause-count : goal.last_names-returns-in_err-any_of-clause-count
-last_names-returns-in_err-any_of-clause-count t c =
+pub read_last_names-returns-in_err-any_of-clause-count : goal.read_last_names-returns-in_err-any_of-clause-count
+read_last_names-returns-in_err-any_of-clause-count t c =
     omega (
       arith,
       last_weight (members_of c.args.members.now),
+      c.in_ok-enumeration.ensures.count,
       c.in_ok-plain.ensures.count,
       c.in_ok-items.ensures.count,
       c.in_ok-one_of.ensures.count,
@@ -246,11 +285,12 @@ last_names-returns-in_err-any_of-clause-count t c =
       c.in_err-any_of.ensures.count,
     )
 
-pub last_names-returns-in_err-not-clause-count : goal.last_names-returns-in_err-not-clause-count
-last_names-returns-in_err-not-clause-count t c =
+pub read_last_names-returns-in_err-not-clause-count : goal.read_last_names-returns-in_err-not-clause-count
+read_last_names-returns-in_err-not-clause-count t c =
     omega (
       arith,
       last_weight (members_of c.args.members.now),
+      c.in_ok-enumeration.ensures.count,
       c.in_ok-plain.ensures.count,
       c.in_ok-items.ensures.count,
       c.in_ok-one_of.ensures.count,
@@ -259,17 +299,26 @@ last_names-returns-in_err-not-clause-count t c =
       c.in_err-not.ensures.count,
     )
 
-pub last_names-returns-clause-reads : goal.last_names-returns-clause-reads
-last_names-returns-clause-reads t c =
-    last_whole c.in_ok-plain.plain c.in_ok-items.items c.in_ok-one_of.one_of c.in_ok-all_of.all_of c.in_ok-any_of.any_of
-    c.in_ok-not.not (members_of c.args.members.now) c.in_ok-plain.ensures.reads c.in_ok-items.ensures.reads
-    c.in_ok-one_of.ensures.reads c.in_ok-all_of.ensures.reads c.in_ok-any_of.ensures.reads c.in_ok-not.ensures.reads
+pub read_last_names-returns-clause-reads : goal.read_last_names-returns-clause-reads
+read_last_names-returns-clause-reads t c =
+    last_whole (record {
+      plain = c.in_ok-plain.plain;
+      items = c.in_ok-items.items;
+      enumeration = c.in_ok-enumeration.enumeration;
+      one_of = c.in_ok-one_of.one_of;
+      all_of = c.in_ok-all_of.all_of;
+      any_of = c.in_ok-any_of.any_of;
+      not = c.in_ok-not.not;
+    }) (members_of c.args.members.now) c.in_ok-plain.ensures.reads c.in_ok-items.ensures.reads
+    c.in_ok-enumeration.ensures.reads c.in_ok-one_of.ensures.reads c.in_ok-all_of.ensures.reads
+    c.in_ok-any_of.ensures.reads c.in_ok-not.ensures.reads
 
-pub last_names-returns-clause-count : goal.last_names-returns-clause-count
-last_names-returns-clause-count t c =
+pub read_last_names-returns-clause-count : goal.read_last_names-returns-clause-count
+read_last_names-returns-clause-count t c =
     omega (
       arith,
       last_weight (members_of c.args.members.now),
+      c.in_ok-enumeration.ensures.count,
       c.in_ok-plain.ensures.count,
       c.in_ok-items.ensures.count,
       c.in_ok-one_of.ensures.count,
@@ -278,12 +327,13 @@ last_names-returns-clause-count t c =
       c.in_ok-not.ensures.count,
     )
 
-pub last_names-returns-clause-left : goal.last_names-returns-clause-left
-last_names-returns-clause-left t c =
+pub read_last_names-returns-clause-left : goal.read_last_names-returns-clause-left
+read_last_names-returns-clause-left t c =
     omega (
       arith,
       last_weight (members_of c.args.members.now),
-      c.in_ok-plain.ensures.left,
+      c.in_ok-enumeration.ensures.left,
+      c.in_ok-plain.ensures.count,
       c.in_ok-items.ensures.count,
       c.in_ok-one_of.ensures.count,
       c.in_ok-all_of.ensures.count,
@@ -291,187 +341,187 @@ last_names-returns-clause-left t c =
       c.in_ok-not.ensures.count,
     )
 
-pub optional_inner_box-returns-in-None-clause-reads : goal.optional_inner_box-returns-in-None-clause-reads
-optional_inner_box-returns-in-None-clause-reads t c =
+pub read_inner_box-returns-in-None-clause-reads : goal.read_inner_box-returns-in-None-clause-reads
+read_inner_box-returns-in-None-clause-reads t c =
     let at : row_where (is_named c.args.name.now) (rows_asked final_tables a_schema_kind) ≡ Some (row c.args.name.now optional (ref_to a_schema)) = search
     rules in
-    row_gone inner_box_form c.args.name.now (ref_to a_schema) (members_of c.args.members.now) at c.in-None.ensures.is
+    row_gone inner_box_form a_schema_kind c.args.name.now (ref_to a_schema) (members_of c.args.members.now) at c.in-None.ensures.is
 
-pub optional_inner_box-returns-in-None-clause-count : goal.optional_inner_box-returns-in-None-clause-count
-optional_inner_box-returns-in-None-clause-count t c =
+pub read_inner_box-returns-in-None-clause-count : goal.read_inner_box-returns-in-None-clause-count
+read_inner_box-returns-in-None-clause-count t c =
     omega (arith, c.in-None.ensures.counted, weight_of_name c.args.name.now optional optional (ref_to a_schema) any_tree (members_of c.args.members.now))
 
-pub optional_inner_box-returns-in-Some-clause-reads : goal.optional_inner_box-returns-in-Some-clause-reads
-optional_inner_box-returns-in-Some-clause-reads t c =
+pub read_inner_box-returns-in-Some-clause-reads : goal.read_inner_box-returns-in-Some-clause-reads
+read_inner_box-returns-in-Some-clause-reads t c =
     let at : row_where (is_named c.args.name.now) (rows_asked final_tables a_schema_kind) ≡ Some (row c.args.name.now optional (ref_to a_schema)) = search
     rules in
-    row_read inner_box_form c.args.name.now (ref_to a_schema) (members_of c.args.members.now) at (shown c.in-Some.view) c.boxed_schema_ref.result
-    c.as_member.result c.in-Some.ensures.is c.as_member.ensures c.boxed_schema_ref.ensures.reads
+    row_read inner_box_form a_schema_kind c.args.name.now (ref_to a_schema) (members_of c.args.members.now) at (shown c.in-Some.view) c.read_boxed_schema_ref.result
+    c.as_member.result c.in-Some.ensures.is c.as_member.ensures c.read_boxed_schema_ref.ensures.reads
 
-pub optional_inner_box-returns-in-Some-clause-rises : goal.optional_inner_box-returns-in-Some-clause-rises
-optional_inner_box-returns-in-Some-clause-rises t c =
-    omega (arith, c.in-Some.ensures.counted, c.boxed_schema_ref.ensures.rises)
+pub read_inner_box-returns-in-Some-clause-rises : goal.read_inner_box-returns-in-Some-clause-rises
+read_inner_box-returns-in-Some-clause-rises t c =
+    omega (arith, c.in-Some.ensures.counted, c.read_boxed_schema_ref.ensures.rises)
 
-pub optional_inner_box-returns-in-Some-clause-count : goal.optional_inner_box-returns-in-Some-clause-count
-optional_inner_box-returns-in-Some-clause-count t c =
+pub read_inner_box-returns-in-Some-clause-count : goal.read_inner_box-returns-in-Some-clause-count
+read_inner_box-returns-in-Some-clause-count t c =
     omega (
       arith,
       c.in-Some.ensures.counted,
       c.in-Some.ensures.weighs,
-      c.boxed_schema_ref.ensures.count,
+      c.read_boxed_schema_ref.ensures.count,
       weight_of_name c.args.name.now optional optional (ref_to a_schema) any_tree (members_of c.args.members.now),
     )
 
-pub optional_inner_box-boxed_schema_ref-requires : goal.optional_inner_box-boxed_schema_ref-requires
-optional_inner_box-boxed_schema_ref-requires t c =
+pub read_inner_box-read_boxed_schema_ref-requires : goal.read_inner_box-read_boxed_schema_ref-requires
+read_inner_box-read_boxed_schema_ref-requires t c =
     (omega (arith, c.in-Some.ensures.within, c.requires), tt)
 
-pub optional_outer_box-returns-in-None-clause-reads : goal.optional_outer_box-returns-in-None-clause-reads
-optional_outer_box-returns-in-None-clause-reads t c =
+pub read_outer_box-returns-in-None-clause-reads : goal.read_outer_box-returns-in-None-clause-reads
+read_outer_box-returns-in-None-clause-reads t c =
     let at : row_where (is_named c.args.name.now) (rows_asked final_tables a_schema_kind) ≡ Some (row c.args.name.now optional (ref_to a_schema)) = search
     rules in
-    row_gone outer_box_form c.args.name.now (ref_to a_schema) (members_of c.args.members.now) at c.in-None.ensures.is
+    row_gone outer_box_form a_schema_kind c.args.name.now (ref_to a_schema) (members_of c.args.members.now) at c.in-None.ensures.is
 
-pub optional_outer_box-returns-in-None-clause-count : goal.optional_outer_box-returns-in-None-clause-count
-optional_outer_box-returns-in-None-clause-count t c =
+pub read_outer_box-returns-in-None-clause-count : goal.read_outer_box-returns-in-None-clause-count
+read_outer_box-returns-in-None-clause-count t c =
     omega (arith, c.in-None.ensures.counted, weight_of_name c.args.name.now optional optional (ref_to a_schema) any_tree (members_of c.args.members.now))
 
-pub optional_outer_box-returns-in-Some-clause-reads : goal.optional_outer_box-returns-in-Some-clause-reads
-optional_outer_box-returns-in-Some-clause-reads t c =
+pub read_outer_box-returns-in-Some-clause-reads : goal.read_outer_box-returns-in-Some-clause-reads
+read_outer_box-returns-in-Some-clause-reads t c =
     let at : row_where (is_named c.args.name.now) (rows_asked final_tables a_schema_kind) ≡ Some (row c.args.name.now optional (ref_to a_schema)) = search
     rules in
-    row_read outer_box_form c.args.name.now (ref_to a_schema) (members_of c.args.members.now) at (shown c.in-Some.view) c.boxed_ref.result
-    c.as_member.result c.in-Some.ensures.is c.as_member.ensures c.boxed_ref.ensures.reads
+    row_read outer_box_form a_schema_kind c.args.name.now (ref_to a_schema) (members_of c.args.members.now) at (shown c.in-Some.view) c.read_boxed_ref.result
+    c.as_member.result c.in-Some.ensures.is c.as_member.ensures c.read_boxed_ref.ensures.reads
 
-pub optional_outer_box-returns-in-Some-clause-rises : goal.optional_outer_box-returns-in-Some-clause-rises
-optional_outer_box-returns-in-Some-clause-rises t c =
-    omega (arith, c.in-Some.ensures.counted, c.boxed_ref.ensures.rises)
+pub read_outer_box-returns-in-Some-clause-rises : goal.read_outer_box-returns-in-Some-clause-rises
+read_outer_box-returns-in-Some-clause-rises t c =
+    omega (arith, c.in-Some.ensures.counted, c.read_boxed_ref.ensures.rises)
 
-pub optional_outer_box-returns-in-Some-clause-count : goal.optional_outer_box-returns-in-Some-clause-count
-optional_outer_box-returns-in-Some-clause-count t c =
+pub read_outer_box-returns-in-Some-clause-count : goal.read_outer_box-returns-in-Some-clause-count
+read_outer_box-returns-in-Some-clause-count t c =
     omega (
       arith,
       c.in-Some.ensures.counted,
       c.in-Some.ensures.weighs,
-      c.boxed_ref.ensures.count,
+      c.read_boxed_ref.ensures.count,
       weight_of_name c.args.name.now optional optional (ref_to a_schema) any_tree (members_of c.args.members.now),
     )
 
-pub optional_outer_box-boxed_ref-requires : goal.optional_outer_box-boxed_ref-requires
-optional_outer_box-boxed_ref-requires t c =
+pub read_outer_box-read_boxed_ref-requires : goal.read_outer_box-read_boxed_ref-requires
+read_outer_box-read_boxed_ref-requires t c =
     (omega (arith, c.in-Some.ensures.within, c.requires), tt)
 
-pub optional_refs-returns-in-None-clause-reads : goal.optional_refs-returns-in-None-clause-reads
-optional_refs-returns-in-None-clause-reads t c =
+pub read_listed-returns-in-None-clause-reads : goal.read_listed-returns-in-None-clause-reads
+read_listed-returns-in-None-clause-reads t c =
     let at : row_where (is_named c.args.name.now) (rows_asked final_tables a_schema_kind) ≡ Some (row c.args.name.now optional (list_of (ref_to a_schema))) = search
     rules in
-    row_gone (list_form ref_form) c.args.name.now (list_of (ref_to a_schema)) (members_of c.args.members.now) at c.in-None.ensures.is
+    row_gone (list_form ref_form) a_schema_kind c.args.name.now (list_of (ref_to a_schema)) (members_of c.args.members.now) at c.in-None.ensures.is
 
-pub optional_refs-returns-in-None-clause-count : goal.optional_refs-returns-in-None-clause-count
-optional_refs-returns-in-None-clause-count t c =
+pub read_listed-returns-in-None-clause-count : goal.read_listed-returns-in-None-clause-count
+read_listed-returns-in-None-clause-count t c =
     omega (arith, c.in-None.ensures.counted, weight_of_name c.args.name.now optional optional (list_of (ref_to a_schema)) any_tree (members_of c.args.members.now))
 
-pub optional_refs-returns-in-Some-clause-reads : goal.optional_refs-returns-in-Some-clause-reads
-optional_refs-returns-in-Some-clause-reads t c =
+pub read_listed-returns-in-Some-clause-reads : goal.read_listed-returns-in-Some-clause-reads
+read_listed-returns-in-Some-clause-reads t c =
     let at : row_where (is_named c.args.name.now) (rows_asked final_tables a_schema_kind) ≡ Some (row c.args.name.now optional (list_of (ref_to a_schema))) = search
     rules in
-    row_read (list_form ref_form) c.args.name.now (list_of (ref_to a_schema)) (members_of c.args.members.now) at (shown c.in-Some.view) c.refs_in.result
-    c.as_member.result c.in-Some.ensures.is c.as_member.ensures c.refs_in.ensures.reads
+    row_read (list_form ref_form) a_schema_kind c.args.name.now (list_of (ref_to a_schema)) (members_of c.args.members.now) at (shown c.in-Some.view) c.read_refs_in.result
+    c.as_member.result c.in-Some.ensures.is c.as_member.ensures c.read_refs_in.ensures.reads
 
-pub optional_refs-returns-in-Some-clause-rises : goal.optional_refs-returns-in-Some-clause-rises
-optional_refs-returns-in-Some-clause-rises t c =
-    omega (arith, c.in-Some.ensures.counted, c.refs_in.ensures.rises)
+pub read_listed-returns-in-Some-clause-rises : goal.read_listed-returns-in-Some-clause-rises
+read_listed-returns-in-Some-clause-rises t c =
+    omega (arith, c.in-Some.ensures.counted, c.read_refs_in.ensures.rises)
 
-pub optional_refs-returns-in-Some-clause-count : goal.optional_refs-returns-in-Some-clause-count
-optional_refs-returns-in-Some-clause-count t c =
+pub read_listed-returns-in-Some-clause-count : goal.read_listed-returns-in-Some-clause-count
+read_listed-returns-in-Some-clause-count t c =
     omega (
       arith,
       c.in-Some.ensures.counted,
       c.in-Some.ensures.weighs,
-      c.refs_in.ensures.count,
+      c.read_refs_in.ensures.count,
       weight_of_name c.args.name.now optional optional (list_of (ref_to a_schema)) any_tree (members_of c.args.members.now),
     )
 
-pub optional_refs-refs_in-requires : goal.optional_refs-refs_in-requires
-optional_refs-refs_in-requires t c =
+pub read_listed-read_refs_in-requires : goal.read_listed-read_refs_in-requires
+read_listed-read_refs_in-requires t c =
     (omega (arith, c.in-Some.ensures.within, c.requires), tt)
 
-pub optional_properties-returns-in-None-clause-reads : goal.optional_properties-returns-in-None-clause-reads
+pub read_properties-returns-in-None-clause-reads : goal.read_properties-returns-in-None-clause-reads
 unfolding checked_rows any_rows
-optional_properties-returns-in-None-clause-reads t c =
-    row_gone (map_form inner_box_form) (codes "properties") (map_of (ref_to a_schema)) (members_of c.args.members.now) refl c.in-None.ensures.is
+read_properties-returns-in-None-clause-reads t c =
+    row_gone (map_form inner_box_form) a_schema_kind (codes "properties") (map_of (ref_to a_schema)) (members_of c.args.members.now) refl c.in-None.ensures.is
 
-pub optional_properties-returns-in-None-clause-count : goal.optional_properties-returns-in-None-clause-count
-optional_properties-returns-in-None-clause-count t c =
+pub read_properties-returns-in-None-clause-count : goal.read_properties-returns-in-None-clause-count
+read_properties-returns-in-None-clause-count t c =
     omega (arith, c.in-None.ensures.counted, weight_of_name (codes "properties") optional optional (map_of (ref_to a_schema)) any_tree (members_of c.args.members.now))
 
-pub optional_properties-returns-in-Some-clause-reads : goal.optional_properties-returns-in-Some-clause-reads
+pub read_properties-returns-in-Some-clause-reads : goal.read_properties-returns-in-Some-clause-reads
 unfolding checked_rows any_rows
-optional_properties-returns-in-Some-clause-reads t c =
-    row_read (map_form inner_box_form) (codes "properties") (map_of (ref_to a_schema)) (members_of c.args.members.now) refl (shown c.in-Some.view) c.properties_in.result
-    c.as_member.result c.in-Some.ensures.is c.as_member.ensures c.properties_in.ensures.reads
+read_properties-returns-in-Some-clause-reads t c =
+    row_read (map_form inner_box_form) a_schema_kind (codes "properties") (map_of (ref_to a_schema)) (members_of c.args.members.now) refl (shown c.in-Some.view) c.read_properties_in.result
+    c.as_member.result c.in-Some.ensures.is c.as_member.ensures c.read_properties_in.ensures.reads
 
-pub optional_properties-returns-in-Some-clause-rises : goal.optional_properties-returns-in-Some-clause-rises
-optional_properties-returns-in-Some-clause-rises t c =
-    omega (arith, c.in-Some.ensures.counted, c.properties_in.ensures.rises)
+pub read_properties-returns-in-Some-clause-rises : goal.read_properties-returns-in-Some-clause-rises
+read_properties-returns-in-Some-clause-rises t c =
+    omega (arith, c.in-Some.ensures.counted, c.read_properties_in.ensures.rises)
 
-pub optional_properties-returns-in-Some-clause-count : goal.optional_properties-returns-in-Some-clause-count
-optional_properties-returns-in-Some-clause-count t c =
+pub read_properties-returns-in-Some-clause-count : goal.read_properties-returns-in-Some-clause-count
+read_properties-returns-in-Some-clause-count t c =
     omega (
       arith,
       c.in-Some.ensures.counted,
       c.in-Some.ensures.weighs,
-      c.properties_in.ensures.count,
+      c.read_properties_in.ensures.count,
       weight_of_name (codes "properties") optional optional (map_of (ref_to a_schema)) any_tree (members_of c.args.members.now),
     )
 
-pub optional_properties-properties_in-requires : goal.optional_properties-properties_in-requires
-optional_properties-properties_in-requires t c =
+pub read_properties-read_properties_in-requires : goal.read_properties-read_properties_in-requires
+read_properties-read_properties_in-requires t c =
     (omega (arith, c.in-Some.ensures.within, c.decreases), tt)
 
-pub optional_additional-returns-in-None-clause-reads : goal.optional_additional-returns-in-None-clause-reads
+pub read_additional-returns-in-None-clause-reads : goal.read_additional-returns-in-None-clause-reads
 unfolding checked_rows any_rows
-optional_additional-returns-in-None-clause-reads t c =
-    row_gone additional_form (codes "additionalProperties") flag_or_schema (members_of c.args.members.now) refl c.in-None.ensures.is
+read_additional-returns-in-None-clause-reads t c =
+    row_gone additional_form a_schema_kind (codes "additionalProperties") flag_or_schema (members_of c.args.members.now) refl c.in-None.ensures.is
 
-pub optional_additional-returns-in-None-clause-count : goal.optional_additional-returns-in-None-clause-count
-optional_additional-returns-in-None-clause-count t c =
+pub read_additional-returns-in-None-clause-count : goal.read_additional-returns-in-None-clause-count
+read_additional-returns-in-None-clause-count t c =
     omega (arith, c.in-None.ensures.counted, weight_of_name (codes "additionalProperties") optional optional flag_or_schema any_tree (members_of c.args.members.now))
 
-pub optional_additional-returns-in-Some-clause-reads : goal.optional_additional-returns-in-Some-clause-reads
+pub read_additional-returns-in-Some-clause-reads : goal.read_additional-returns-in-Some-clause-reads
 unfolding checked_rows any_rows
-optional_additional-returns-in-Some-clause-reads t c =
-    row_read additional_form (codes "additionalProperties") flag_or_schema (members_of c.args.members.now) refl (shown c.in-Some.view) c.additional.result
-    c.as_member.result c.in-Some.ensures.is c.as_member.ensures c.additional.ensures.reads
+read_additional-returns-in-Some-clause-reads t c =
+    row_read additional_form a_schema_kind (codes "additionalProperties") flag_or_schema (members_of c.args.members.now) refl (shown c.in-Some.view) c.read_additional_in.result
+    c.as_member.result c.in-Some.ensures.is c.as_member.ensures c.read_additional_in.ensures.reads
 
-pub optional_additional-returns-in-Some-clause-rises : goal.optional_additional-returns-in-Some-clause-rises
-optional_additional-returns-in-Some-clause-rises t c =
-    omega (arith, c.in-Some.ensures.counted, c.additional.ensures.rises)
+pub read_additional-returns-in-Some-clause-rises : goal.read_additional-returns-in-Some-clause-rises
+read_additional-returns-in-Some-clause-rises t c =
+    omega (arith, c.in-Some.ensures.counted, c.read_additional_in.ensures.rises)
 
-pub optional_additional-returns-in-Some-clause-count : goal.optional_additional-returns-in-Some-clause-count
-optional_additional-returns-in-Some-clause-count t c =
+pub read_additional-returns-in-Some-clause-count : goal.read_additional-returns-in-Some-clause-count
+read_additional-returns-in-Some-clause-count t c =
     omega (
       arith,
       c.in-Some.ensures.counted,
       c.in-Some.ensures.weighs,
-      c.additional.ensures.count,
+      c.read_additional_in.ensures.count,
       weight_of_name (codes "additionalProperties") optional optional flag_or_schema any_tree (members_of c.args.members.now),
     )
 
-pub optional_additional-additional-requires : goal.optional_additional-additional-requires
-optional_additional-additional-requires t c =
+pub read_additional-read_additional_in-requires : goal.read_additional-read_additional_in-requires
+read_additional-read_additional_in-requires t c =
     (omega (arith, c.in-Some.ensures.within, c.decreases), tt)
 
-pub refs_in-returns-in-List-clause-reads : goal.refs_in-returns-in-List-clause-reads
-refs_in-returns-in-List-clause-reads t c =
-    rw c.in-List.is c.refs.ensures.reads
+pub read_refs_in-returns-in-List-clause-reads : goal.read_refs_in-returns-in-List-clause-reads
+read_refs_in-returns-in-List-clause-reads t c =
+    rw c.in-List.is c.read_refs.ensures.reads
 
-pub refs_in-returns-in-List-clause-count : goal.refs_in-returns-in-List-clause-count
-refs_in-returns-in-List-clause-count t c =
-    rw c.in-List.is (omega (arith, c.refs.ensures.count))
+pub read_refs_in-returns-in-List-clause-count : goal.read_refs_in-returns-in-List-clause-count
+read_refs_in-returns-in-List-clause-count t c =
+    rw c.in-List.is (omega (arith, c.read_refs.ensures.count))
 
-pub refs_in-returns-in_default : goal.refs_in-returns-in_default
-refs_in-returns-in_default t c =
+pub read_refs_in-returns-in_default : goal.read_refs_in-returns-in_default
+read_refs_in-returns-in_default t c =
     record {
       reads = wrong_here c.new.result words.List (list_of (ref_to a_schema)) (shown c.args.view.now) c.new.ensures.place
           c.new.ensures.cause (not_list (ref_to a_schema) c.args.view.now c.in_default.not-List);
@@ -479,18 +529,18 @@ refs_in-returns-in_default t c =
       count = omega (arith, size-positive (shown c.args.view.now));
     }
 
-pub properties_in-returns-in-Object-clause-reads : goal.properties_in-returns-in-Object-clause-reads
-properties_in-returns-in-Object-clause-reads t c =
-    rw c.in-Object.is (map_gives inner_box_form (ref_to a_schema) c.properties.result c.in-Object.members.now
-    c.properties.ensures.reads)
+pub read_properties_in-returns-in-Object-clause-reads : goal.read_properties_in-returns-in-Object-clause-reads
+read_properties_in-returns-in-Object-clause-reads t c =
+    rw c.in-Object.is (map_gives inner_box_form (ref_to a_schema) c.read_named.result c.in-Object.members.now
+    c.read_named.ensures.reads)
 
-pub properties_in-returns-in-Object-clause-count : goal.properties_in-returns-in-Object-clause-count
-properties_in-returns-in-Object-clause-count t c =
+pub read_properties_in-returns-in-Object-clause-count : goal.read_properties_in-returns-in-Object-clause-count
+read_properties_in-returns-in-Object-clause-count t c =
     let ms = c.in-Object.members.now in
-    rw c.in-Object.is (omega (arith, c.properties.ensures.count, ap entries_size (all_chosen ms), all_size ms))
+    rw c.in-Object.is (omega (arith, c.read_named.ensures.count, ap entries_size (all_chosen ms), all_size ms))
 
-pub properties_in-returns-in_default : goal.properties_in-returns-in_default
-properties_in-returns-in_default t c =
+pub read_properties_in-returns-in_default : goal.read_properties_in-returns-in_default
+read_properties_in-returns-in_default t c =
     record {
       reads = wrong_here c.new.result words.Object (map_of (ref_to a_schema)) (shown c.args.view.now) c.new.ensures.place
           c.new.ensures.cause (not_map (ref_to a_schema) c.args.view.now c.in_default.not-Object);
@@ -498,21 +548,21 @@ properties_in-returns-in_default t c =
       count = omega (arith, size-positive (shown c.args.view.now));
     }
 
-pub additional-returns-in-Flag-clause-reads : goal.additional-returns-in-Flag-clause-reads
-additional-returns-in-Flag-clause-reads t c =
+pub read_additional_in-returns-in-Flag-clause-reads : goal.read_additional_in-returns-in-Flag-clause-reads
+read_additional_in-returns-in-Flag-clause-reads t c =
     rw c.in-Flag.is (refl, sym (additional-any c.in-Flag.allowed))
 
-pub additional-returns-in-Flag-clause-count : goal.additional-returns-in-Flag-clause-count
-additional-returns-in-Flag-clause-count t c =
+pub read_additional_in-returns-in-Flag-clause-count : goal.read_additional_in-returns-in-Flag-clause-count
+read_additional_in-returns-in-Flag-clause-count t c =
     omega (arith, size-positive (shown c.args.view.now))
 
-pub additional-returns-in-Object-clause-reads : goal.additional-returns-in-Object-clause-reads
-additional-returns-in-Object-clause-reads t c =
+pub read_additional_in-returns-in-Object-clause-reads : goal.read_additional_in-returns-in-Object-clause-reads
+read_additional_in-returns-in-Object-clause-reads t c =
     rw c.in-Object.is (c.in_additional.ensures (members_of c.in-Object.field-0.now)
-    (rw c.in-Object.is at c.boxed_ref.ensures.reads))
+    (rw c.in-Object.is at c.read_boxed_ref.ensures.reads))
 
-pub additional-returns-in_default : goal.additional-returns-in_default
-additional-returns-in_default t c =
+pub read_additional_in-returns-in_default : goal.read_additional_in-returns-in_default
+read_additional_in-returns-in_default t c =
     record {
       reads = wrong_here c.new.result words.FlagOrObject flag_or_schema (shown c.args.view.now) c.new.ensures.place
           c.new.ensures.cause (not_flag_or_object c.args.view.now c.in_default.not-Flag c.in_default.not-Object);
@@ -520,23 +570,23 @@ additional-returns-in_default t c =
       count = omega (arith, size-positive (shown c.args.view.now));
     }
 
-pub refs-schema_ref_from_node-requires : goal.refs-schema_ref_from_node-requires
-refs-schema_ref_from_node-requires t c =
+pub read_refs-schema_ref_from_node-requires : goal.read_refs-schema_ref_from_node-requires
+read_refs-schema_ref_from_node-requires t c =
     let next = next_item c.args.nodes.now c.loop-i.i c.index-nodes-i.result c.loop-i-test.true c.index-nodes-i.is in
     (omega (arith, next.within, c.decreases), tt)
 
-pub refs-returns-in_err-push-in-Ok-schema_ref_from_node-clause-count : goal.refs-returns-in_err-push-in-Ok-schema_ref_from_node-clause-count
-refs-returns-in_err-push-in-Ok-schema_ref_from_node-clause-count t c =
+pub read_refs-returns-in_err-push-in-Ok-schema_ref_from_node-clause-count : goal.read_refs-returns-in_err-push-in-Ok-schema_ref_from_node-clause-count
+read_refs-returns-in_err-push-in-Ok-schema_ref_from_node-clause-count t c =
     let next = next_item c.args.nodes.now c.loop-i.i c.index-nodes-i.result c.loop-i-test.true c.index-nodes-i.is in
     omega (arith, next.within, c.schema_ref_from_node.ensures.count, c.loop-i.invariant.counted)
 
-pub refs-returns-in-Err-clause-count : goal.refs-returns-in-Err-clause-count
-refs-returns-in-Err-clause-count t c =
+pub read_refs-returns-in-Err-clause-count : goal.read_refs-returns-in-Err-clause-count
+read_refs-returns-in-Err-clause-count t c =
     let next = next_item c.args.nodes.now c.loop-i.i c.index-nodes-i.result c.loop-i-test.true c.index-nodes-i.is in
     omega (arith, next.within, c.schema_ref_from_node.ensures.count, c.loop-i.invariant.counted)
 
-pub refs-returns-in-Err-clause-reads : goal.refs-returns-in-Err-clause-reads
-refs-returns-in-Err-clause-reads t c =
+pub read_refs-returns-in-Err-clause-reads : goal.read_refs-returns-in-Err-clause-reads
+read_refs-returns-in-Err-clause-reads t c =
     let k = ref_to a_schema in
     let ts = c.args.nodes.now in
     let i = c.loop-i.i in
@@ -545,8 +595,8 @@ refs-returns-in-Err-clause-reads t c =
     (item_leads k ts i u c.loop-i-test.true c.index-nodes-i.is)
     (c.in-Err.fault, c.at_index.ensures, c.in-Err.ensures.reads)
 
-pub refs-loop-i-preserved : goal.refs-loop-i-preserved
-refs-loop-i-preserved t c =
+pub read_refs-loop-i-preserved : goal.read_refs-loop-i-preserved
+read_refs-loop-i-preserved t c =
     let k = ref_to a_schema in
     let ts = c.args.nodes.now in
     let i = c.loop-i.i in
@@ -566,8 +616,8 @@ refs-loop-i-preserved t c =
       counted = omega (arith, next.adds, c.schema_ref_from_node.ensures.count, c.loop-i.invariant.counted);
     }
 
-pub refs-returns-clause-reads : goal.refs-returns-clause-reads
-refs-returns-clause-reads t c =
+pub read_refs-returns-clause-reads : goal.read_refs-returns-clause-reads
+read_refs-returns-clause-reads t c =
     let ts = c.args.nodes.now in
     let k = ref_to a_schema in
     let whole = take_all c.loop-i.i ts (omega arith) in
@@ -575,14 +625,14 @@ refs-returns-clause-reads t c =
     (sym (ap (every (conforms final_tables k)) whole) ∙ c.loop-i.invariant.holds)
     (sym (ap (each (form final_tables k)) whole) ∙ c.loop-i.invariant.same)
 
-pub properties-schema_ref_from_node-requires : goal.properties-schema_ref_from_node-requires
-properties-schema_ref_from_node-requires t c =
+pub read_named-schema_ref_from_node-requires : goal.read_named-schema_ref_from_node-requires
+read_named-schema_ref_from_node-requires t c =
     let next = next_member c.args.members.now c.loop-i.i (c.entry_at.result.0.now, c.entry_at.result.1.now)
     c.entry_at.ensures in
     (omega (arith, next.within, c.decreases), tt)
 
-pub properties-returns-in-Err-clause-reads : goal.properties-returns-in-Err-clause-reads
-properties-returns-in-Err-clause-reads t c =
+pub read_named-returns-in-Err-clause-reads : goal.read_named-returns-in-Err-clause-reads
+read_named-returns-in-Err-clause-reads t c =
     let n = c.entry_at.result.0.now in
     let u = c.entry_at.result.1.now in
     let k = ref_to a_schema in
@@ -590,10 +640,10 @@ properties-returns-in-Err-clause-reads t c =
     let i = c.loop-i.i in
     inr (entry_fails any_name ms i n u k c.in-Err.fault c.entry_at.ensures refl
     (step_err inner_box_form (named n) k u c.in_inner_box.result c.in-Err.fault c.in-Err.ensures
-    (c.in_inner_box.ensures k u c.schema_ref_from_node.ensures.reads)))
+    (c.in_inner_box.ensures schema_form k u c.schema_ref_from_node.ensures.reads)))
 
-pub properties-returns-in-Err-clause-count : goal.properties-returns-in-Err-clause-count
-properties-returns-in-Err-clause-count t c =
+pub read_named-returns-in-Err-clause-count : goal.read_named-returns-in-Err-clause-count
+read_named-returns-in-Err-clause-count t c =
     let n = c.entry_at.result.0.now in
     let u = c.entry_at.result.1.now in
     let k = ref_to a_schema in
@@ -606,8 +656,8 @@ properties-returns-in-Err-clause-count t c =
       next_within any_name ms i n u c.entry_at.ensures refl,
     )
 
-pub properties-returns-in_err-put-in-Ok-at_name-clause-count : goal.properties-returns-in_err-put-in-Ok-at_name-clause-count
-properties-returns-in_err-put-in-Ok-at_name-clause-count t c =
+pub read_named-returns-in_err-put-in-Ok-at_name-clause-count : goal.read_named-returns-in_err-put-in-Ok-at_name-clause-count
+read_named-returns-in_err-put-in-Ok-at_name-clause-count t c =
     let n = c.entry_at.result.0.now in
     let u = c.entry_at.result.1.now in
     let k = ref_to a_schema in
@@ -620,8 +670,8 @@ properties-returns-in_err-put-in-Ok-at_name-clause-count t c =
       next_within any_name ms i n u c.entry_at.ensures refl,
     )
 
-pub properties-put-requires : goal.properties-put-requires
-properties-put-requires t c =
+pub read_named-put-requires : goal.read_named-put-requires
+read_named-put-requires t c =
     let n = c.entry_at.result.0.now in
     let u = c.entry_at.result.1.now in
     let k = ref_to a_schema in
@@ -630,15 +680,15 @@ properties-put-requires t c =
     next_new any_name ms i n u c.entry_at.ensures refl inner_box_form k c.loop-i.values c.len-i-end.ensures.distinct
     c.loop-i.invariant.same
 
-pub properties-loop-i-preserved : goal.properties-loop-i-preserved
-properties-loop-i-preserved t c =
+pub read_named-loop-i-preserved : goal.read_named-loop-i-preserved
+read_named-loop-i-preserved t c =
     let n = c.entry_at.result.0.now in
     let u = c.entry_at.result.1.now in
     let k = ref_to a_schema in
     let ms = c.args.members.now in
     let i = c.loop-i.i in
     let read = step_ok inner_box_form (named n) k u c.in_inner_box.result c.in-Ok-at_name.value c.in-Ok-at_name.ensures
-    (c.in_inner_box.ensures k u c.schema_ref_from_node.ensures.reads) in
+    (c.in_inner_box.ensures schema_form k u c.schema_ref_from_node.ensures.reads) in
     record {
       holds = next_holds any_name ms i n u c.entry_at.ensures refl k c.loop-i.invariant.holds read.0;
       same = next_same any_name ms i n u c.entry_at.ensures refl inner_box_form k c.loop-i.values c.put.new.out
@@ -652,8 +702,8 @@ properties-loop-i-preserved t c =
       );
     }
 
-pub properties-returns-clause-reads : goal.properties-returns-clause-reads
-properties-returns-clause-reads t c =
+pub read_named-returns-clause-reads : goal.read_named-returns-clause-reads
+read_named-returns-clause-reads t c =
     let ms = c.args.members.now in
     let k = ref_to a_schema in
     let whole = take_all c.loop-i.i ms (omega arith) in (

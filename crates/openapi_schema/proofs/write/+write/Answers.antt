@@ -16,11 +16,13 @@ use Rattle.openapi_rows.proofs.Losing.{none_listed, none_mapped, not_silent}
 use Rattle.openapi_rows.proofs.Mapped.{map_written, map_loses}
 use Rattle.openapi_rows.proofs.Written.{entry_loses, next_absent, next_whole, next_written}
 use Rattle.openapi_schema.specs.Present.{additional_there, ref_there}
-use Rattle.openapi_schema.specs.Reading.{any_name, ref_form, inner_box_form, outer_box_form}
+use Rattle.openapi_knots.specs.Reading.{any_name}
+use Rattle.openapi_schema.specs.Reading.{ref_form, inner_box_form, outer_box_form}
 use Rattle.openapi_schema.specs.SchemaForms.{Sorted, additional_form, schema_form, schema_kind_rows, schema_type_rows}
-use Rattle.openapi_schema.specs.Writing.{RowsWritten, kind_slots, sorted_slots, type_slots, untagged}
+use Rattle.openapi_knots.specs.Writing.{RowsWritten}
+use Rattle.openapi_schema.specs.Writing.{kind_slots, sorted_slots, type_slots, untagged}
 use Rattle.openapi_schema.proofs.CombinedForms.{one_of_rows-kind, all_of_rows-kind, any_of_rows-kind, not_rows-kind}
-use Rattle.openapi_schema.proofs.FormSizes.{element_smaller, rows_size, value_smaller}
+use Rattle.openapi_knots.proofs.FormSizes.{element_smaller, rows_size, value_smaller}
 use Rattle.openapi_schema.proofs.KindForms.{any_rows-kind}
 use Rattle.openapi_schema.proofs.OpenedForms.{any_rows-out, array_rows-out, object_rows-out}
 use Rattle.openapi_schema.proofs.OpenedForms.{array_rows-type, boolean_rows-type, integer_rows-type, number_rows-type, object_rows-type}

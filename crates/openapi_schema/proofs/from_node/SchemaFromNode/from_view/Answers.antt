@@ -3,14 +3,14 @@ use Rattle.openapi_node.specs.View.{shown}
 use Rattle.openapi_node.specs.declared.fault.Expected.TheVariants as words
 use Rattle.openapi_tables.specs.Kind.{a_schema}
 use Rattle.openapi_rows.proofs.Below.{wrong_here, size-positive}
-use Rattle.openapi_schema.proofs.References.{not_schema}
+use Rattle.openapi_schema.proofs.Refusals.{not_schema}
 use Rattle.openapi_schema.proofs.from_node.SchemaFromNode.from_view.Goals as goal
 
 pub returns-in-Object-clause-reads : goal.returns-in-Object-clause-reads
-returns-in-Object-clause-reads c = rw c.in-Object.is c.schema.ensures.reads
+returns-in-Object-clause-reads c = rw c.in-Object.is c.read_schema.ensures.reads
 
 pub returns-in-Object-clause-count : goal.returns-in-Object-clause-count
-returns-in-Object-clause-count c = rw c.in-Object.is (omega (arith, c.schema.ensures.count))
+returns-in-Object-clause-count c = rw c.in-Object.is (omega (arith, c.read_schema.ensures.count))
 
 pub returns-in_default-clause-reads : goal.returns-in_default-clause-reads
 returns-in_default-clause-reads c =

@@ -5,17 +5,17 @@ use Rattle.openapi_node.specs.Tree.{members_of}
 use Rattle.openapi_tables.specs.Kind.{a_schema_kind}
 use Rattle.openapi_rows.proofs.Below.{wrong_here, size-positive}
 use Rattle.openapi_schema.proofs.KindGives.{schema_weight-le}
-use Rattle.openapi_schema.proofs.References.{not_schema_kind}
+use Rattle.openapi_schema.proofs.Refusals.{not_schema_kind}
 use Rattle.openapi_schema.proofs.SchemaReads.{kind_given}
 use Rattle.openapi_schema.proofs.from_node.SchemaKindFromNode.from_view.Goals as goal
 
 pub returns-in-Object-clause-reads : goal.returns-in-Object-clause-reads
 returns-in-Object-clause-reads c =
-    rw c.in-Object.is (kind_given c.kind.result (members_of c.in-Object.members.now) c.kind.ensures.reads)
+    rw c.in-Object.is (kind_given c.read_kind.result (members_of c.in-Object.members.now) c.read_kind.ensures.reads)
 
 pub returns-in-Object-clause-count : goal.returns-in-Object-clause-count
 returns-in-Object-clause-count c =
-    rw c.in-Object.is (omega (arith, c.kind.ensures.count, schema_weight-le (members_of c.in-Object.members.now)))
+    rw c.in-Object.is (omega (arith, c.read_kind.ensures.count, schema_weight-le (members_of c.in-Object.members.now)))
 
 pub returns-in_default-clause-reads : goal.returns-in_default-clause-reads
 returns-in_default-clause-reads c =

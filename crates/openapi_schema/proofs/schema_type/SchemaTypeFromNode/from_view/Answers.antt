@@ -8,10 +8,11 @@ use Rattle.openapi_tables.specs.ByRow.{row_weight, rows_weight}
 use Rattle.openapi_tables.specs.Tables.{final_tables, schema_type}
 use Rattle.openapi_rows.proofs.Below.{wrong_here, size-positive}
 use Rattle.openapi_rows.proofs.Tagging.{tagged_gives, tagged_weight, tag_weight, not_tagged}
-use Rattle.openapi_schema.specs.TypeForms.{table_of, type_cases, type_words, type_name_word}
+use Rattle.openapi_parts.specs.TypeNames.{type_words, type_name_word}
+use Rattle.openapi_parts.specs.declared.type_name.TypeName.{TypeName}
+use Rattle.openapi_parts.specs.declared.type_name.TypeName.TheVariants as names
+use Rattle.openapi_schema.specs.TypeForms.{table_of, type_cases}
 use Rattle.openapi_schema.specs.TypeForms.{schema_type_fields, schema_type_sound, schema_type_word}
-use Rattle.openapi_schema.specs.declared.schema_type.TypeName.{TypeName}
-use Rattle.openapi_schema.specs.declared.schema_type.TypeName.TheVariants as names
 use Rattle.openapi_schema.proofs.schema_type.SchemaTypeFromNode.from_view.Goals as goal
 
 -- the word of a type is one of the cases

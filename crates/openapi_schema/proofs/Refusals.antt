@@ -1,0 +1,99 @@
+-- What is refused of an object as a schema, the kind of one, a reference to one, or a flag in the place of either.
+use Rattle.std.proofs.Common.{◌≡◌, Bool, [], refl, sym, ap, ◌∙◌, subst, inl, inr}
+use Rattle.std.specs.Borrow.{Bor}
+use Rattle.openapi_map.specs.declared.OrderedMap.{OrderedMap}
+use Rattle.openapi_node.specs.Place.{Place}
+use Rattle.openapi_node.specs.Tree.{object, Members}
+use Rattle.openapi_node.specs.View.{shown}
+use Rattle.openapi_node.specs.declared.fault.Cause.TheVariants.{WrongKind}
+use Rattle.openapi_node.specs.declared.fault.Expected.TheVariants as words
+use Rattle.openapi_node.specs.declared.fault.Fault.{Fault}
+use Rattle.openapi_node.specs.declared.node.Node.{Node}
+use Rattle.openapi_node.specs.declared.node.View.{View}
+use Rattle.openapi_node.specs.declared.node.View.TheVariants as v
+use Rattle.openapi_tables.specs.Kind.{by, ref_to, flag_or_schema, a_schema, a_schema_kind, schema_data}
+use Rattle.openapi_tables.specs.Tables.{final_tables, tables_with, any_rows}
+use Rattle.openapi_tables.specs.Tree.{of_members, an_object}
+use Rattle.openapi_tables.specs.Lists.{each}
+use Rattle.openapi_tables.specs.Members.{checked_rows, made_optional}
+use Rattle.openapi_tables.specs.Read.{tree_of_root}
+use Rattle.openapi_tables.specs.Faults.{Asking, Cause, asked, causes, root_asks, asks_rows, wrong_kind}
+use Rattle.openapi_tables.specs.Laws.{Among}
+use Rattle.openapi_tables.specs.ByRow.{asking, Broken}
+use Rattle.openapi_tables.proofs.ByRowLaws.{among_left}
+use Rattle.openapi_tables.proofs.TreeLaws.{tree_of_root-seen}
+use Rattle.openapi_rows.specs.Gives.{Fails}
+use Rattle.openapi_rows.proofs.Below.{wrong_here}
+use Rattle.openapi_rows.proofs.Referring.{fails_item, fails_moved, fails_wider, no_reference}
+use Rattle.openapi_knots.proofs.JoinedRows.{asks_join}
+use Rattle.openapi_schema.specs.SchemaForms.{schema_form}
+
+-- where a reference or a schema is refused, it is refused where a flag might stand too
+pub other_fails : (f : Fault) (ms : Members) → Fails f (ref_to a_schema) (object ms) → Fails f flag_or_schema (object ms)
+other_fails f ms h = fails_wider f (ref_to a_schema) flag_or_schema (object ms) (λ a x. inr x) h
+
+-- what is broken of the rows that every schema has is broken of the schema
+nothing_missing : (c : Cause) (a : Asking) (ms : Members) → a ≡ asking [] (by schema_data) (object ms)
+    → Among c (causes final_tables a.kind a.tree) → ⊥
+unfolding final_tables tables_with checked_rows
+nothing_missing c a ms e b =
+    let P : Asking → Type 0 = λ x. Among c (causes final_tables x.kind x.tree) in
+    let h : Among c (causes final_tables (by schema_data) (object ms)) = subst P e b in
+    h
+
+data_broken : (ms : Members) (p : Place) (c : Cause) → Broken final_tables (by schema_data) (object ms) p c
+    → Broken final_tables a_schema (object ms) p c
+unfolding checked_rows
+data_broken ms p c b = record { kind = b.kind; tree = b.tree; is_asked = go b.is_asked; breaks = b.breaks }
+  where
+    go : Among (asking p b.kind b.tree) (asked final_tables (by schema_data) (object ms))
+        → Among (asking p b.kind b.tree) (asked final_tables a_schema (object ms))
+    go (inl e) =
+        let same : tree_of_root (an_object (of_members (root_asks final_tables) ms)) ≡ object ms =
+        tree_of_root-seen (root_asks final_tables) (object ms) in
+        absurd (nothing_missing c (asking p b.kind b.tree) ms (e ∙ ap (asking [] (by schema_data)) same) b.breaks)
+    go (inr h) =
+        inr (subst (λ l. Among (asking p b.kind b.tree) l) (sym (asks_join (of_members (root_asks final_tables) ms)
+        (final_tables schema_data) (each made_optional any_rows)))
+        (among_left (asking p b.kind b.tree) (asks_rows (of_members (root_asks final_tables) ms)
+        (final_tables schema_data)) _ h))
+
+pub data_fails : (f : Fault) (ms : Members) → Fails f (by schema_data) (object ms) → Fails f a_schema (object ms)
+data_fails f ms h = fails_moved f (by schema_data) a_schema (object ms) (object ms) (data_broken ms) h
+
+-- a look that shows neither a flag nor an object
+pub not_flag_or_object : (w : View) → ((b : Bool) → w ≡ v.Flag b → ⊥)
+    → ((m : Bor (OrderedMap Node)) → w ≡ v.Object m → ⊥)
+    → Among (wrong_kind words.FlagOrObject) (causes final_tables flag_or_schema (shown w))
+not_flag_or_object v.Null g h = inl refl
+not_flag_or_object (v.Flag b) g h = absurd (g b refl)
+not_flag_or_object (v.Whole z) g h = inl refl
+not_flag_or_object (v.Text s) g h = inl refl
+not_flag_or_object (v.List ts) g h = inl refl
+not_flag_or_object (v.Object m) g h = absurd (h m refl)
+
+-- a look that shows no object, where a schema or the kind of one is asked
+pub not_schema : (w : View) → ((m : Bor (OrderedMap Node)) → w ≡ v.Object m → ⊥)
+    → Among (wrong_kind words.Object) (causes final_tables a_schema (shown w))
+not_schema v.Null h = inl refl
+not_schema (v.Flag b) h = inl refl
+not_schema (v.Whole z) h = inl refl
+not_schema (v.Text s) h = inl refl
+not_schema (v.List ts) h = inl refl
+not_schema (v.Object m) h = absurd (h m refl)
+
+pub not_schema_kind : (w : View) → ((m : Bor (OrderedMap Node)) → w ≡ v.Object m → ⊥)
+    → Among (wrong_kind words.Object) (causes final_tables a_schema_kind (shown w))
+not_schema_kind v.Null h = inl refl
+not_schema_kind (v.Flag b) h = inl refl
+not_schema_kind (v.Whole z) h = inl refl
+not_schema_kind (v.Text s) h = inl refl
+not_schema_kind (v.List ts) h = inl refl
+not_schema_kind (v.Object m) h = absurd (h m refl)
+
+-- and where a reference to a schema may stand too
+pub not_object_fails : (f : Fault) (w : View) → ((m : Bor (OrderedMap Node)) → w ≡ v.Object m → ⊥)
+    → f.place.items ≡ [] → f.cause ≡ WrongKind words.Object → Fails f (ref_to a_schema) (shown w)
+not_object_fails f w h p e =
+    fails_item a_schema schema_form (shown w) f (no_reference w h)
+    (wrong_here f words.Object a_schema (shown w) p e (not_schema w h))

@@ -1,0 +1,25 @@
+use Rattle.std.proofs.Common.{[], ◌∷◌, ap, ◌∙◌}
+use Rattle.openapi_tables.specs.Form.{absent}
+use Rattle.openapi_tables.specs.Members.{number_sort, kind_names, sort_rows}
+use Rattle.openapi_tables.specs.Tables.{any_rows, number_formats}
+use Rattle.openapi_rows.specs.Forms.{optional_form}
+use Rattle.openapi_values.specs.Words.{number_format_word}
+use Rattle.openapi_schema.specs.RawSlots.{sort_slots}
+use Rattle.openapi_schema.specs.SchemaForms.{flag_form, number_form}
+use Rattle.openapi_schema.proofs.FormatSlots.{format_slot, flag_slot}
+use Rattle.openapi_schema.proofs.KindForms.{number_rows-kind}
+use Rattle.openapi_schema.proofs.kinds.WholeTypedEntry.kind.Goals as goal
+
+pub returns : goal.returns
+unfolding sort_slots kind_names any_rows sort_rows
+returns c =
+    let a = c.args.first in
+    number_rows-kind _
+    ∙ ap (λ rows. (number_sort, absent ∷ rows)) (λ i.
+    format_slot _ number_format_word number_formats c.args.last.plain.format _ c.into.ensures i
+    ∷ optional_form number_form a.plain.multiple_of
+    ∷ (ap flag_form c.unwrap_or.ensures ∙ flag_slot a.plain.exclusive_minimum) i
+    ∷ (ap flag_form c.unwrap_or-2.ensures ∙ flag_slot a.plain.exclusive_maximum) i
+    ∷ optional_form number_form a.plain.minimum
+    ∷ optional_form number_form a.plain.maximum
+    ∷ c.requires i ∷ [])

@@ -1,12 +1,20 @@
 #!/usr/bin/env bash
 # Runs the built program with its Nth request for memory refused, for N from 1 until a run meets no refusal. Each run
 # that met one must write nothing, say `out of memory` and end with status 3; the last must write what a run with ample
-# memory does.
+# memory does. The last line is `N passed, M failed`, in which each command on a file counts once.
 #
-# usage: tests/refusals.sh COMMAND FILE [COMMAND FILE ..]      (with none: tag examples/tag.json)
+# usage: tests/refusals.sh [COMMAND FILE ..]      (with none: the examples of the repository)
+#
+# The program is the one that `./check` or `./openapi_clean --build` made.
 set -eu
 top=$(cd "$(dirname "${BASH_SOURCE[0]}")/.." && pwd)
-[ $# -gt 0 ] || set -- tag "$top/examples/tag.json"
+[ $# -gt 0 ] || set -- tag "$top/examples/tag.json" schema "$top/examples/schema.json"
+program=$top/crates/openapi_clean/out/openapi_clean
+if [ ! -x "$program" ]; then
+  printf 'FAILED: %s is not built\n0 passed, 1 failed\n' "$program"
+  exit 1
+fi
+passed=0 failed=0
 work=$(mktemp -d)
 trap 'rm -rf "$work"' EXIT
 
@@ -40,12 +48,10 @@ int posix_memalign(void **p, size_t a, size_t size) { REAL(posix_memalign); retu
 C
 cc -shared -fPIC -O1 -o "$work/refuse.so" "$work/refuse.c" -ldl
 
-while [ $# -gt 1 ]; do
-  command=$1 input=$2
-  shift 2
-  want=$("$top/openapi_clean" "$command" < "$input")
-  program=$top/crates/openapi_clean/out/openapi_clean
-  met=0
+# Tells of one command on one input what came of refusing each request in turn; ends with 1 at the first that is not told.
+refuse_each() {
+  local command=$1 input=$2 want met=0 n status said
+  want=$("$program" "$command" < "$input")
   for ((n = 1; ; n++)); do
     status=0
     REFUSE=$n LD_PRELOAD=$work/refuse.so "$program" "$command" \
@@ -54,13 +60,20 @@ while [ $# -gt 1 ]; do
     met=$((met + 1))
     said=$(cat "$work/err")
     if [ $status -ne 3 ] || [ -s "$work/out" ] || [ "$said" != 'out of memory' ]; then
-      echo "request $n of $command on $input refused: status $status, said '$said'"
-      exit 1
+      echo "FAILED: request $n of $command on $input refused: status $status, said '$said'"
+      return 1
     fi
   done
-  if [ $status -ne 0 ] || [ "$(cat "$work/out")" != "$want" ]; then
-    echo "$command on $input: with none refused, status $status"
-    exit 1
+  if [ $status -ne 0 ] || [ "$(cat "$work/out")" != "$want" ] || [ $met -eq 0 ]; then
+    echo "FAILED: $command on $input: with none refused, status $status, after $met refusals"
+    return 1
   fi
   echo "$command on $input: each of $met requests for memory was refused in turn and told as out of memory"
+}
+
+while [ $# -gt 1 ]; do
+  if refuse_each "$1" "$2"; then passed=$((passed + 1)); else failed=$((failed + 1)); fi
+  shift 2
 done
+echo "$passed passed, $failed failed"
+[ $failed -eq 0 ]

@@ -1,0 +1,102 @@
+#!/usr/bin/env python3
+"""Runs the built program as a person does, and compares its exit status, standard output and standard error.
+
+usage: tests/program.py [PROGRAM]      (with none: the program that `./check` or `./openapi_clean --build` made)
+
+The contracts say what is written for which bytes. What they can't say stands here: what the arguments mean, the exit
+statuses of the whole program, what is said on standard error, and what comes of streams that fail. The last line is
+`N passed, M failed`.
+"""
+import os
+import subprocess
+import sys
+
+TOP = os.path.dirname(os.path.dirname(os.path.realpath(__file__)))
+BUILT = f"{TOP}/crates/openapi_clean/out/openapi_clean"
+USAGE = b"usage: openapi_clean tag|schema|document|settle|operations\n"
+TAG = b'{"name":"a","wat":1,"x-q":[]}'
+CLEAN_TAG = b'{"name":"a","x-q":[]}\n'
+
+
+def example(name):
+    with open(f"{TOP}/examples/{name}.json", "rb") as it:
+        return it.read()
+
+
+# What is asked, the arguments, the input; the status, the output, and what is said on standard error.
+ROWS = [
+    ("a tag is cleaned", ["tag"], TAG, 0, CLEAN_TAG, b""),
+    (
+        "the example of a tag",
+        ["tag"],
+        example("tag"),
+        0,
+        b'{"description":"Everything about pets","externalDocs":{"url":"https://example.com/pets","x-reviewed":true},'
+        b'"name":"pets","x-order":[3,1,2]}\n',
+        b"",
+    ),
+    (
+        "the example of a schema",
+        ["schema"],
+        example("schema"),
+        0,
+        b'{"properties":{"age":{"format":"int32","minimum":0,"type":"integer"},"name":{"minLength":1,"type":"string"},'
+        b'"owner":{"$ref":"#/components/schemas/Owner"}},"required":["name"],"type":"object","x-table":"pets"}\n',
+        b"",
+    ),
+    ("a tag with no name", ["tag"], b"{}", 1, b"", b"missing field `name` at #\n"),
+    ("a fault further in", ["tag"], b'{"name":"t","externalDocs":{}}', 1, b"", b"missing field `url` at #/externalDocs\n"),
+    ("a number that is not whole", ["tag"], b'{"name":"t","x-n":[1,0.5]}', 1, b"", b"number not whole at #/x-n/1\n"),
+    ("a schema of another kind", ["schema"], b"[]", 1, b"", b"invalid type, expected object at #\n"),
+    ("no JSON", ["tag"], b'{"name":', 2, b"", b"not JSON\n"),
+    ("no UTF-8", ["tag"], b'{"name":"\xff"}', 2, b"", b"not JSON\n"),
+    ("nothing at all", ["schema"], b"", 2, b"", b"not JSON\n"),
+    ("no argument", [], TAG, 2, b"", USAGE),
+    ("one argument too many", ["tag", "tag"], TAG, 2, b"", USAGE),
+    ("an empty argument too many", ["tag", ""], TAG, 2, b"", USAGE),
+    ("an empty argument", [""], TAG, 2, b"", USAGE),
+    ("another word", ["tags"], TAG, 2, b"", USAGE),
+    ("a word in capitals", ["Tag"], TAG, 2, b"", USAGE),
+    ("a word that is no UTF-8", [b"\xff"], TAG, 2, b"", USAGE),
+]
+
+
+def outcome(program, arguments, **streams):
+    ran = subprocess.run([program, *arguments], stderr=subprocess.PIPE, timeout=60, **streams)
+    return ran.returncode, ran.stdout, ran.stderr
+
+
+def main():
+    program = os.path.realpath(sys.argv[1] if len(sys.argv) > 1 else BUILT)
+    if not os.access(program, os.X_OK):
+        print(f"FAILED: {program} is not built\n0 passed, 1 failed")
+        return 1
+    passed = failed = 0
+
+    def compare(what, came, wanted):
+        nonlocal passed, failed
+        if came == wanted:
+            passed += 1
+        else:
+            failed += 1
+            print(f"FAILED: {what}: status, output and error are {came}, and not {wanted}")
+
+    for what, arguments, given, *wanted in ROWS:
+        compare(what, outcome(program, arguments, input=given, stdout=subprocess.PIPE), tuple(wanted))
+    # a folder can be opened and not read, and a full disk takes no byte
+    folder = os.open(TOP, os.O_RDONLY)
+    compare("an input that fails", outcome(program, ["tag"], stdin=folder, stdout=subprocess.PIPE), (3, b"", b"read failed\n"))
+    os.close(folder)
+    with open("/dev/full", "wb") as full, open(f"{TOP}/examples/tag.json", "rb") as given:
+        compare("an output that fails", outcome(program, ["tag"], stdin=given, stdout=full), (3, None, b"write failed\n"))
+    # the arguments are looked at before anything is read
+    reads, writes = os.pipe()
+    compare("wrong arguments are told at once", outcome(program, ["wat"], stdin=reads, stdout=subprocess.PIPE), (2, b"", USAGE))
+    os.close(reads)
+    os.close(writes)
+    print(f"{passed} passed, {failed} failed")
+    return 1 if failed else 0
+
+
+if __name__ == "__main__":
+    sys.exit(main())

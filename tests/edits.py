@@ -121,10 +121,43 @@ def compare():
     return 1 if failed else 0
 
 
+def owner_in(head):
+    """Returns what the prover calls an impl by its head: the type, and the trait where there is one; or nothing."""
+    found = re.match(r"impl(?:<[^>]*>)? (?:(?:\w+::)*(\w+)(?:<.*>)? for )?(?:\w+::)*(\w+)", head)
+    return f"{found[2]}{found[1] or ''}" if found else ""
+
+
+class Function:
+    """A function whose body an edit changes: its file, its impl and name, its circle, and the lines that it has."""
+
+    def __init__(self, file, owner, name, circle, lines):
+        self.file, self.owner, self.name, self.circle, self.lines = file, owner, name, circle, lines
+        inside = file.removeprefix("src/").removesuffix(".rt").replace("/", "::")
+        self.module = "" if inside in ("lib", "main") else inside
+        self.key = file, owner, name
+
+    def is_told_of(self, line):
+        """Returns whether a line of a check tells what is not proved of this function: it names a place in its body, in its
+        proof, or in that of its circle at a goal of its own."""
+        at = re.match(r"(?:note: )?(?:\./)?(\S+?):(\d+):\d+: (.*)", line)
+        if not at:
+            return False
+        if at[1] == self.file:
+            return int(at[2]) in self.lines and (": error" in line or "it is not proved" in at[3])
+        proofs = "/".join(filter(None, ["proofs", *self.module.split("::")])) + "/"
+        if self.circle:
+            own = rf"`{self.name}-"
+            return at[1].startswith(f"{proofs}+{self.circle}/") and bool(re.search(own, at[3])) and "error" in at[3]
+        return at[1].startswith(f"{proofs}{self.owner + '/' if self.owner else ''}{self.name}/") and "error" in at[3]
+
+
+# A line on a proof that names what an edit took away, or that cites such a proof: it says little of a contract.
+NAMES = re.compile(r"(\./)?proofs/.*(has no field|is not in scope|has no `|was not admitted)")
+
+
 def function_of(edit, folder):
-    """Returns the file and the name of the one function in whose body the edit changes something; or None. A function of a
-    circle counts as none, since its proof is that of the whole circle."""
-    found = set()
+    """Returns the one function in whose body the edit changes something; or None."""
+    found = {}
     with open(edit, encoding="utf-8") as it:
         lines = it.read().split("\n")
     file = lines[0].removeprefix("file: ").strip()
@@ -139,30 +172,34 @@ def function_of(edit, folder):
             return None
         before = text[: text.index(old)]
         heads = [*re.finditer(r"(?m)^((?:#\[.*\]\n)*)( *)(?:pub(?:\(crate\))? )?fn (\w+)", before)]
-        if not heads or "#[cycle" in before[heads[-1].start() :]:
+        if not heads:
             return None
-        ended = re.search(rf"(?m)^{heads[-1][2]}}}$", before[heads[-1].end() :])
-        opened = re.search(rf"(?m)^{heads[-1][2]}{{$", before[heads[-1].end() :]) or "{\n" in before[heads[-1].end() :]
-        if ended or not opened:
+        head, indent = heads[-1], heads[-1][2]
+        rest = before[head.end() :]
+        if re.search(rf"(?m)^{indent}}}$", rest) or not (re.search(rf"(?m)^{indent}{{$", rest) or "{\n" in rest):
             return None
-        found.add((file, heads[-1][3]))
+        impls = [*re.finditer(r"(?m)^impl\b[^{]*\{", before[: head.start()])] if indent else []
+        owner = owner_in(re.sub(r"\s+", " ", impls[-1][0])) if impls else ""
+        circle = re.search(r"#\[cycle\((\w+)\)\]", re.split(r"\n\n", before[: head.end()])[-1])
+        first = before[: head.start()].count("\n") + 1
+        ended = re.search(rf"(?m)^{indent}}}$", text[head.end() :])
+        last = text[: head.end() + ended.end()].count("\n") + 1
+        it = Function(file, owner, head[3], circle[1] if circle else "", range(first, last + 1))
+        found[it.key] = it
         text = text.replace(old, new)
-    return found.pop() if len(found) == 1 else None
+    return next(iter(found.values())) if len(found) == 1 else None
 
 
-def refusals(said, crate):
-    """Returns what a check said of each function that is not proved for itself, by its file and name."""
-    files = [os.path.relpath(it, crate.folder) for it in text_of(crate.name) if it.endswith(".rt")]
-    modules = {it.removeprefix("src/").removesuffix(".rt").replace("/", "::"): it for it in files}
-    found = {}
-    for line in re.findall(rf"(?m)^fn {crate.name}::(\S+: (?:not proved|no proof: .*))$", said):
-        path, _, why = line.partition(": ")
-        # (what only calls a function that is not proved says nothing of its own)
-        if why.startswith(("no proof: it calls", "no proof: it waits")):
-            continue
-        parts = path.split("::")
-        inside = next((it for at in range(len(parts), 0, -1) if (it := "::".join(parts[:at])) in modules), "lib")
-        found[modules.get(inside, "src/main.rt"), parts[-1]] = f"{path}: {why}"
+def refusals(said, functions, crate):
+    """Returns for each of these functions that is refused for itself what a check said of it. A function outside a circle
+    has a line of its own too, and what only calls a function that is not proved says nothing of its own."""
+    lines, found = said.split("\n"), {}
+    unproved = re.findall(rf"(?m)^fn {crate.name}::(\S+): (?:not proved|no proof: (?!it calls|it waits).*)$", said)
+    for function in functions:
+        path = "::".join(filter(None, [function.module, function.owner, function.name]))
+        told = [it for it in lines if function.is_told_of(it) and not NAMES.match(it)]
+        if told and (function.circle or path in unproved):
+            found[function.key] = told[0]
     return found
 
 
@@ -212,15 +249,16 @@ class Trial:
         return not ran.returncode
 
     def groups(self, edits):
-        """Returns the edits in groups, in each of which no two change the same function."""
+        """Returns the edits in groups, in each of which no two change the same function: each group by its functions."""
         found = []
         for edit in edits:
             function = function_of(edit, self.crate.folder)
-            room = next((it for it in found if function and None not in it and function not in it and len(it) < TOGETHER), None)
+            key = function.key if function else None
+            room = next((it for it in found if key and None not in it and key not in it and len(it) < TOGETHER), None)
             if room is None:
                 room = {}
                 found.append(room)
-            room[function] = edit
+            room[key] = function, edit
         return found
 
     def try_group(self, group):
@@ -230,7 +268,7 @@ class Trial:
             kept = f"{room}/kept"
             shutil.copytree(f"{self.crate.folder}/out/incremental", kept)
             came, took = self.together(group, kept) if len(group) > 1 else {}, {}
-            for edit in group.values():
+            for _, edit in group.values():
                 if edit not in came:
                     at = time.time()
                     came[edit] = self.alone(edit, kept)
@@ -253,7 +291,7 @@ class Trial:
             for part in self.kit.rtlib.PARTS:
                 if os.path.isdir(f"{self.crate.folder}/{part}"):
                     shutil.copytree(f"{self.crate.folder}/{part}", f"{room}/{part}")
-            for edit in group.values():
+            for _, edit in group.values():
                 changed, why = self.kit.read_edit(edit, room)
                 if why:
                     return {}
@@ -266,8 +304,8 @@ class Trial:
         reached = ran.returncode == 1 and lines[-1].startswith("logic=not-proved")
         if not reached or any(self.kit.unread(it, texts) for it in lines) or self.kit.rtlib.STALE.search(ran.stdout):
             return {}
-        found = refusals(ran.stdout, self.crate)
-        return {edit: (True, f"refused: {found[it][:160]}") for it, edit in group.items() if it in found}
+        found = refusals(ran.stdout, [it for it, _ in group.values()], self.crate)
+        return {edit: (True, f"refused: {found[it][:160]}") for it, (_, edit) in group.items() if it in found}
 
 
 def try_all(names, jobs):

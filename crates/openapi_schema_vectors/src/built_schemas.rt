@@ -1,12 +1,13 @@
 //! Schemas that are built, and not read.
 
-use crate::schema_references::unwritable;
+use crate::schema_references::unwritable_box;
 use openapi_checks::trees::{check_same, check_tree, tree, write_refusal};
 use openapiv3::{
     AdditionalProperties, AnySchema, BooleanType, FromNode, IntegerType, Node, NumberType,
-    ObjectType, ReferenceOr, Schema, SchemaData, SchemaKind, SchemaType, Steps, StringFormat,
-    StringType, ToNode, Type, VariantOrUnknownOrEmpty, Xml,
+    ObjectType, OrderedMap, ReferenceOr, Schema, SchemaData, SchemaKind, SchemaType, Steps,
+    StringFormat, StringType, ToNode, Type, VariantOrUnknownOrEmpty, Xml,
 };
+use std::alloc::Global;
 use std::fmt::Debug;
 use std::test::Fail;
 
@@ -111,38 +112,54 @@ fn unknown_formats_that_are_known_are_read_as_known(rt: HostRuntime) -> Result<(
     Ok(())
 }
 
+/// That a value is not written, by a fault that prints as a text.
+fn check_refused<T: ToNode + Drop>(rt: &HostRuntime, value: T, wanted: &str) -> Result<(), Fail> {
+    check_same(rt, write_refusal(rt, &value)?.as_str(), wanted)
+}
+
+/// A schema of no sort in particular that is told of in XML.
+fn with_xml(alloc: Global, xml: Xml) -> Schema {
+    let mut schema_data = SchemaData::new(alloc);
+    schema_data.xml = Some(xml);
+    Schema {
+        schema_data,
+        schema_kind: SchemaKind::Any(AnySchema::new(alloc)),
+    }
+}
+
 #[test]
 fn extensions_of_schemas_need_their_prefix(rt: HostRuntime) -> Result<(), Fail> {
     let mut xml = Xml::new(rt.alloc());
-    xml.extensions
-        .insert("foo".to_string(rt.alloc())?, Node::null())?;
-    let mut schema_data = SchemaData::new(rt.alloc());
-    schema_data.xml = Some(xml);
-    let schema = Schema {
-        schema_data,
-        schema_kind: SchemaKind::Any(AnySchema::new(rt.alloc())),
-    };
-    assert_eq!(rt;
-        write_refusal(&rt, &schema)?.as_str(),
-        "name not writable at #/xml/foo"
-    );
-    Ok(())
+    xml.extensions = one_member(&rt, "foo", Node::null())?;
+    let schema = with_xml(rt.alloc(), xml);
+    check_refused(&rt, schema, "name not writable at #/xml/foo")
+}
+
+/// A map of one name.
+fn one_member<T: Drop>(rt: &HostRuntime, name: &str, value: T) -> Result<OrderedMap<T>, Fail> {
+    let mut members = OrderedMap::new(rt.alloc());
+    members.insert(name.to_string(rt.alloc())?, value)?;
+    Ok(members)
+}
+
+/// A schema of an object with these properties.
+fn with_properties(alloc: Global, properties: OrderedMap<ReferenceOr<Box<Schema>>>) -> Schema {
+    let mut object = ObjectType::new(alloc);
+    object.properties = properties;
+    Schema {
+        schema_data: SchemaData::new(alloc),
+        schema_kind: SchemaKind::Typed(SchemaType::Object(object)),
+    }
 }
 
 #[test]
 fn extensions_of_members_need_their_prefix(rt: HostRuntime) -> Result<(), Fail> {
-    let member = ReferenceOr::boxed_item(rt.alloc(), unwritable(&rt)?)?;
-    let mut object = ObjectType::new(rt.alloc());
-    object
-        .properties
-        .insert("p".to_string(rt.alloc())?, member)?;
-    let schema = Schema {
-        schema_data: SchemaData::new(rt.alloc()),
-        schema_kind: SchemaKind::Typed(SchemaType::Object(object)),
-    };
-    assert_eq!(rt;
-        write_refusal(&rt, &schema)?.as_str(),
-        "name not writable at #/properties/p/foo"
-    );
-    Ok(())
+    let properties = one_member(&rt, "p", unwritable_box(&rt)?)?;
+    let schema = with_properties(rt.alloc(), properties);
+    let found = write_refusal(&rt, &schema)?;
+    check_same(
+        &rt,
+        found.as_str(),
+        "name not writable at #/properties/p/foo",
+    )
 }

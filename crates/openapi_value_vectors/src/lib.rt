@@ -1,10 +1,6 @@
-//! Tests of maps, nodes and values: printed texts, worked examples, and each call once with ample memory.
+//! Tests of values: codes, sets of words, formats and references.
 #![tactic(auto)]
 
-#[cfg(test)]
-mod maps;
-#[cfg(test)]
-mod nodes;
 #[cfg(test)]
 mod recursion;
 #[cfg(test)]

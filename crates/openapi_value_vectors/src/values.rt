@@ -82,8 +82,13 @@ fn reads_status_codes(rt: HostRuntime) -> Result<(), Fail> {
         ("200", Ok(StatusCode::Code(200))),
     ];
     for (text, want) in texts {
-        assert_eq!(rt; StatusCode::from_str(text), want, "of {text}");
+        assert_eq!(rt; StatusCode::from_str(text), want);
     }
+    Ok(())
+}
+
+#[test]
+fn reads_numbers_as_status_codes(rt: HostRuntime) -> Result<(), Fail> {
     let numbers = [
         (-200, Err(())),
         (99, Err(())),
@@ -94,37 +99,43 @@ fn reads_status_codes(rt: HostRuntime) -> Result<(), Fail> {
     ];
     for (number, want) in numbers {
         let whole = Whole::new(number).ok_or("a whole number")?;
-        assert_eq!(rt; StatusCode::try_from(whole), want, "of {number}");
+        assert_eq!(rt; StatusCode::try_from(whole), want);
     }
     Ok(())
 }
 
+/// Status codes in their order, each with its text and whether it may be written.
+const CODES: [(StatusCode, &str, bool); 9] = [
+    (StatusCode::Code(99), "99", false),
+    (StatusCode::Code(100), "100", true),
+    (StatusCode::Code(404), "404", true),
+    (StatusCode::Code(999), "999", true),
+    (StatusCode::Code(1000), "1000", false),
+    (StatusCode::Range(0), "0XX", true),
+    (StatusCode::Range(4), "4XX", true),
+    (StatusCode::Range(9), "9XX", true),
+    (StatusCode::Range(10), "10XX", false),
+];
+
 #[test]
-fn orders_and_prints_status_codes(rt: HostRuntime) -> Result<(), Fail> {
-    let rising = [
-        (StatusCode::Code(99), "99", false),
-        (StatusCode::Code(100), "100", true),
-        (StatusCode::Code(404), "404", true),
-        (StatusCode::Code(999), "999", true),
-        (StatusCode::Code(1000), "1000", false),
-        (StatusCode::Range(0), "0XX", true),
-        (StatusCode::Range(4), "4XX", true),
-        (StatusCode::Range(9), "9XX", true),
-        (StatusCode::Range(10), "10XX", false),
-    ];
-    for (place, (code, text, writable)) in rising.iter().enumerate() {
-        assert_eq!(rt; code.to_string(rt.alloc())?.as_str(), *text);
-        assert_eq!(rt; code.is_writable(), *writable, "of {text}");
-        for (later, (other, ..)) in rising.iter().enumerate() {
-            assert_eq!(rt; code.cmp(other), place.cmp(&later), "of {text}");
-            assert_eq!(rt; code == other, place == later, "of {text}");
+fn prints_status_codes(rt: HostRuntime) -> Result<(), Fail> {
+    for (code, text, writable) in CODES {
+        assert_eq!(rt; code.to_string(rt.alloc())?.as_str(), text);
+        assert_eq!(rt; code.is_writable(), writable);
+    }
+    let debug = debug_text(rt.alloc(), &StatusCode::Range(4))?;
+    assert_eq!(rt; debug.as_str(), "Range(4)");
+    Ok(())
+}
+
+#[test]
+fn orders_status_codes(rt: HostRuntime) {
+    for (place, (code, ..)) in CODES.iter().enumerate() {
+        for (later, (other, ..)) in CODES.iter().enumerate() {
+            assert_eq!(rt; code.cmp(other), place.cmp(&later));
+            assert_eq!(rt; code == other, place == later);
         }
     }
-    assert_eq!(rt;
-        debug_text(rt.alloc(), &StatusCode::Range(4))?.as_str(),
-        "Range(4)"
-    );
-    Ok(())
 }
 
 #[test]
@@ -221,7 +232,23 @@ fn gives_defaults(rt: HostRuntime) {
     assert!(rt; is_false(&false) && !is_false(&true));
 }
 
-/// That a text, or none, is kept as a value that prints as another for programmers.
+/// That a format is a value, has a text or none, and prints as another for programmers.
+fn check_format(
+    rt: &impl Abort,
+    alloc: Global,
+    made: &VariantOrUnknownOrEmpty<StringFormat>,
+    text: Option<&str>,
+    want: &VariantOrUnknownOrEmpty<StringFormat>,
+    debug: &str,
+) -> Result<(), Fail> {
+    assert_eq!(rt; made, want);
+    assert_eq!(rt; made.as_str(), text);
+    assert_eq!(rt; made.is_empty(), text.is_none());
+    assert_eq!(rt; debug_text(alloc, made)?.as_str(), debug);
+    Ok(())
+}
+
+/// That a text, or none, is kept as a value that prints as another for programmers, and so is its clone.
 fn check_kept(
     rt: &impl Abort,
     alloc: Global,
@@ -229,16 +256,13 @@ fn check_kept(
     want: &VariantOrUnknownOrEmpty<StringFormat>,
     debug: &str,
 ) -> Result<(), Fail> {
-    let made = match text {
-        Some(text) => VariantOrUnknownOrEmpty::from(Some(String::from_str(alloc, text)?)),
-        None => VariantOrUnknownOrEmpty::from(None),
+    let given = match text {
+        Some(text) => Some(String::from_str(alloc, text)?),
+        None => None,
     };
-    assert_eq!(rt; &made, want);
-    assert_eq!(rt; &made.clone()?, want);
-    assert_eq!(rt; made.as_str(), text);
-    assert_eq!(rt; made.is_empty(), text.is_none());
-    assert_eq!(rt; debug_text(alloc, &made)?.as_str(), debug);
-    Ok(())
+    let made = VariantOrUnknownOrEmpty::from(given);
+    check_format(rt, alloc, &made, text, want, debug)?;
+    check_format(rt, alloc, &made.clone()?, text, want, debug)
 }
 
 /// That a text is read as a format.
@@ -279,18 +303,28 @@ fn keeps_a_text_that_is_no_known_word(rt: HostRuntime) -> Result<(), Fail> {
 }
 
 #[test]
-fn converts_texts_of_formats(rt: HostRuntime) -> Result<(), Fail> {
+fn converts_the_text_of_a_known_format(rt: HostRuntime) -> Result<(), Fail> {
     let known = number_format(String::from_str(rt.alloc(), "double")?);
     assert_eq!(rt; known.as_str(), "double");
     assert_eq!(rt; known, VariantOrUnknown::Item(NumberFormat::Double));
+    Ok(())
+}
+
+#[test]
+fn converts_a_text_that_is_no_format(rt: HostRuntime) -> Result<(), Fail> {
     let other = number_format(String::from_str(rt.alloc(), "int32")?);
     assert_eq!(rt; other.as_str(), "int32");
-    let read = VariantOrUnknown::from_text(rt.alloc(), "int32")?;
-    assert_eq!(rt; &other.clone()?, &read);
-    assert_eq!(rt;
-        debug_text(rt.alloc(), &other)?.as_str(),
-        "Unknown(\"int32\")"
-    );
+    let debug = debug_text(rt.alloc(), &other)?;
+    assert_eq!(rt; debug.as_str(), "Unknown(\"int32\")");
+    Ok(())
+}
+
+#[test]
+fn clones_of_formats_equal_them(rt: HostRuntime) -> Result<(), Fail> {
+    let read: VariantOrUnknown<NumberFormat> = VariantOrUnknown::from_text(rt.alloc(), "int32")?;
+    assert_eq!(rt; &read.clone()?, &read);
+    let other = number_format(String::from_str(rt.alloc(), "int32")?);
+    assert_eq!(rt; &other, &read);
     Ok(())
 }
 

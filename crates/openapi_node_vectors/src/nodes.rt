@@ -7,6 +7,7 @@ use serde_json::Value;
 use std::alloc::{AllocError, Global};
 use std::cmp::Ordering;
 use std::hash::{DefaultHasher, Hash, Hasher};
+use std::process::Abort;
 use std::test::Fail;
 
 fn read(alloc: Global, text: &str) -> Result<Node, Fail> {
@@ -206,21 +207,22 @@ fn values_there_and_back(rt: HostRuntime) -> Result<(), Fail> {
     Ok(())
 }
 
+/// That a node prints as a text for programmers.
+fn check_debug(rt: &impl Abort, alloc: Global, node: &Node, wanted: &str) -> Result<(), Fail> {
+    assert_eq!(rt; debug(alloc, node)?.as_str(), wanted);
+    Ok(())
+}
+
 #[test]
 fn copies(rt: HostRuntime) -> Result<(), Fail> {
     let alloc = rt.alloc();
     let mut steps = Steps::new(&rt);
+    let wanted = "Object {\"z\": Number(1), \"a\": Number(2)}";
     let node = object(alloc, &[("z", 1), ("a", 2)])?;
-    let clone = node.clone()?;
-    let copy = node.copy(alloc, &mut steps)?;
-    let shown = copy_shown(alloc, &copy.open(&mut steps), &mut steps)?;
-    let text = format!(in alloc; "{clone:?} {copy:?} {shown:?}")?;
-    assert_eq!(rt;
-        text.as_str(),
-        "Object {\"z\": Number(1), \"a\": Number(2)} Object {\"z\": Number(1), \"a\": Number(2)} \
-        Object {\"z\": Number(1), \"a\": Number(2)}"
-    );
-    Ok(())
+    check_debug(&rt, alloc, &node.clone()?, wanted)?;
+    check_debug(&rt, alloc, &node.copy(alloc, &mut steps)?, wanted)?;
+    let shown = copy_shown(alloc, &node.open(&mut steps), &mut steps)?;
+    check_debug(&rt, alloc, &shown, wanted)
 }
 
 #[test]

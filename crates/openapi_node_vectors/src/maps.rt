@@ -3,6 +3,7 @@ ghost use Rattle.std.specs.Prelude.{◌≡◌, IfOk};
 
 use openapi_map::OrderedMap;
 use std::alloc::{AllocError, Global};
+use std::process::Abort;
 use std::test::Fail;
 
 /// A map of each number below `count` by its digits.
@@ -34,6 +35,34 @@ fn copied(alloc: Global, map: &OrderedMap<u8>) -> Result<OrderedMap<u8>, AllocEr
     Ok(copy)
 }
 
+/// That a map has its number at the digits of a place, which is raised by 1000.
+fn check_raised(
+    rt: &impl Abort,
+    alloc: Global,
+    numbers: &mut OrderedMap<usize>,
+    number: usize,
+) -> Result<(), AllocError> {
+    let name = format!(in alloc; "{number}")?;
+    assert!(rt; numbers.contains_key(name.as_str()), "{number}");
+    assert_eq!(rt; numbers.get(name.as_str()), Some(&number));
+    let old = numbers.insert(name, number.wrapping_add(1000))?;
+    assert_eq!(rt; old, Some(number));
+    Ok(())
+}
+
+/// That a map has at a place the digits of that place, and the number raised by 1000.
+fn check_place(
+    rt: &impl Abort,
+    alloc: Global,
+    numbers: &OrderedMap<usize>,
+    place: usize,
+) -> Result<(), AllocError> {
+    let name = format!(in alloc; "{place}")?;
+    let value = place.wrapping_add(1000);
+    assert_eq!(rt; numbers.get_index(place), Some((name.as_str(), &value)));
+    Ok(())
+}
+
 #[test]
 fn keeps_few_and_many(rt: HostRuntime) -> Result<(), Fail> {
     // an index appears at the 17th entry
@@ -42,21 +71,11 @@ fn keeps_few_and_many(rt: HostRuntime) -> Result<(), Fail> {
         assert_eq!(rt; numbers.len(), count);
         assert_eq!(rt; numbers.is_empty(), count == 0);
         for number in 0..count {
-            let name = format!(in rt.alloc(); "{number}")?;
-            assert!(rt; numbers.contains_key(name.as_str()), "{name} of {count}");
-            assert_eq!(rt; numbers.get(name.as_str()), Some(&number));
-            let old = numbers.insert(name, number.wrapping_add(1000))?;
-            assert_eq!(rt; old, Some(number), "of {count}");
+            check_raised(&rt, rt.alloc(), &mut numbers, number)?;
         }
         assert!(rt; numbers.get("1000").is_none() && !numbers.contains_key(""));
         for place in 0..count {
-            let name = format!(in rt.alloc(); "{place}")?;
-            let value = place.wrapping_add(1000);
-            assert_eq!(rt;
-                numbers.get_index(place),
-                Some((name.as_str(), &value)),
-                "of {count}"
-            );
+            check_place(&rt, rt.alloc(), &numbers, place)?;
         }
         assert!(rt; numbers.get_index(count).is_none());
     }

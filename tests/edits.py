@@ -11,7 +11,8 @@ so they are tried when their crate has changed. `edits/verdicts` has a line for 
 that were refused, the line of `rt version`, and a hash of the crate's sources, specs, proofs and edits.
 
 Edits of different functions are tried together: no body is seen by the proof of another function, so each of these
-functions has to be refused for itself. One that is not refused so is tried alone, and at last from nothing. Checks go
+functions has to be refused for itself, at a place in its body or in its own proof (in that of its circle, at a goal of its
+own). One that is not refused so is tried alone, and at last from nothing. Checks go
 over a copy of what a check of the crate left, as many side by side as there are processors. Which edits were refused is
 kept in the crate's out/edits, so that a run that was ended goes on where it stopped. The last line is
 `N passed, M failed`.
@@ -190,15 +191,13 @@ def function_of(edit, folder):
     return next(iter(found.values())) if len(found) == 1 else None
 
 
-def refusals(said, functions, crate):
-    """Returns for each of these functions that is refused for itself what a check said of it. A function outside a circle
-    has a line of its own too, and what only calls a function that is not proved says nothing of its own."""
+def refusals(said, functions):
+    """Returns for each of these functions that is refused for itself what a check said of it. That it calls one that is not
+    proved is told of the function too, but by no place of its own."""
     lines, found = said.split("\n"), {}
-    unproved = re.findall(rf"(?m)^fn {crate.name}::(\S+): (?:not proved|no proof: (?!it calls|it waits).*)$", said)
     for function in functions:
-        path = "::".join(filter(None, [function.module, function.owner, function.name]))
         told = [it for it in lines if function.is_told_of(it) and not NAMES.match(it)]
-        if told and (function.circle or path in unproved):
+        if told:
             found[function.key] = told[0]
     return found
 
@@ -304,7 +303,7 @@ class Trial:
         reached = ran.returncode == 1 and lines[-1].startswith("logic=not-proved")
         if not reached or any(self.kit.unread(it, texts) for it in lines) or self.kit.rtlib.STALE.search(ran.stdout):
             return {}
-        found = refusals(ran.stdout, [it for it, _ in group.values()], self.crate)
+        found = refusals(ran.stdout, [it for it, _ in group.values()])
         return {edit: (True, f"refused: {found[it][:160]}") for it, (_, edit) in group.items() if it in found}
 
 

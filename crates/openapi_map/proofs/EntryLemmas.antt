@@ -41,7 +41,7 @@ module _ {V : Type 0} where
   name-names_of (e ∷ es) zero d h = refl
   name-names_of (e ∷ es) (suc i) d h = name-names_of es i d (omega arith)
 
-  value-entries_of : (es : List (Entry V)) (i : ℕ) (d : Entry V) → i < length es
+  pub value-entries_of : (es : List (Entry V)) (i : ℕ) (d : Entry V) → i < length es
       → slice_get (values_of (entries_of es)) i ≡ Some (get_or es i d).value
   value-entries_of [] i d h = absurd (omega arith)
   value-entries_of (e ∷ es) zero d h = refl

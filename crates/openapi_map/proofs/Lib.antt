@@ -3,3 +3,4 @@ pub mod EntryLemmas
 mod EqualityLemmas
 mod IndexLemmas
 mod IterLemmas
+mod RemoveLemmas

@@ -2,6 +2,7 @@
 use Rattle.std.specs.Prelude.{◌≡◌, ℕ, List, [], ◌∷◌, Option, String, string_bytes}
 use Rattle.std.specs.List.{IsDistinct, AllZip}
 use Rattle.std.specs.Map.{keys_of, lookup}
+use Rattle.std.specs.Map as map
 use Rattle.std.specs.Str.{bytes_eq}
 use Rattle.std.specs.declared.alloc.Global.{Global}
 use Rattle.indexmap.specs.IndexMap as index_map
@@ -32,6 +33,10 @@ module _ {V : Type 0} where
   -- the entries after an insert: a name that is there keeps its place and takes the value, and a new name goes last
   abbrev pub insert_entry : Entries V → List ℕ → V → Entries V
   insert_entry = index_map.insert_entry bytes_eq
+
+  -- the entries without that of a name: the others keep their order, and all stay where the name is absent
+  abbrev pub remove_entry : List ℕ → Entries V → Entries V
+  remove_entry name es = map.remove_entry (bytes_eq name) es
 
   -- no name stands twice
   abbrev pub HasDistinctNames : Entries V → Type 0

@@ -9,12 +9,15 @@
 //! name.
 ghost use Rattle.std.specs.Prelude.{◌≡◌, ◌-◌, ◌<◌, ◌^◌, ◌↔◌, [], ◌++◌, ◌∷◌, length, slice_get, is_some};
 ghost use Rattle.std.specs.Prelude.{IsTrue, IfOk, OnOk, OnErr, Some, None, string_bytes};
-ghost use Rattle.std.specs.Option.{option_copied, option_map};
+ghost use Rattle.std.specs.Borrow.{sem};
+ghost use Rattle.std.specs.Option.{option_copied, option_copied_mut, option_map};
+ghost use Rattle.std.specs.Map.{values_of};
 ghost use Rattle.std.specs.Map.Iter.{deref_pair};
-ghost use Rattle.openapi_map.specs.Entries.{get, insert_entry, HasDistinctNames};
+ghost use Rattle.openapi_map.specs.Entries.{get, insert_entry, remove_entry, HasDistinctNames};
+ghost use Rattle.openapi_map.specs.Lends.{lends_name, lends_place};
 
 pub use crate::iter::{IntoIter, Iter, Keys, Values};
-use crate::lookup::{add_name, place_of};
+use crate::lookup::{add_name, drop_name, place_of};
 use indexmap::IndexSet;
 use std::alloc::{AllocError, Global};
 use std::marker::Model;
@@ -179,5 +182,40 @@ impl<V> OrderedMap<V> {
         add_name(&self.entries, &mut self.index, name.as_str())?;
         self.entries.push_reserved(Entry { name, value });
         Ok(())
+    }
+
+    /// The value at the name, which can be written, or `None` where the map lacks it. Once the borrow is over, the map
+    /// is as it was but for what was written.
+    pub fn get_mut(&mut self, name: &str) -> Option<&mut V>
+        ensures* writes_back { sem 𝓛 (lends_name V.row self.entry name.now result) }
+        ensures value { option_copied_mut result ≡ get name.now self.old }
+    {
+        match place_of(&self.entries, &self.index, name) {
+            Some(place) => Some(self.value_at(place)),
+            None => None,
+        }
+    }
+
+    /// The value at a place, counted from 0, which can be written.
+    fn value_at(&mut self, place: usize) -> &mut V
+        requires { place < length self.old }
+        ensures* writes_back { sem 𝓛 (lends_place V.row self.entry place result) }
+        ensures value { slice_get (values_of self.old) place ≡ Some result.now }
+    {
+        let entry = &mut self.entries[place];
+        &mut entry.value
+    }
+
+    /// Takes the name out, and gives back the value that was there, or `None` where the map lacks it. The entries
+    /// behind it move up and keep their order, which takes time in proportion to the map's length.
+    pub fn shift_remove(&mut self, name: &str) -> Option<V>
+        ensures old { result ≡ get name.now self.old }
+        ensures entries { self.new ≡ remove_entry name.now self.old }
+    {
+        let place = place_of(&self.entries, &self.index, name)?;
+        drop_name(&mut self.index, name);
+        let Entry { name: gone, value } = self.entries.remove(place);
+        drop(gone);
+        Some(value)
     }
 }

@@ -1,6 +1,7 @@
 //! The place of a name among the entries, and the index that finds it in a long map.
-ghost use Rattle.std.specs.Prelude.{◌≡◌, [], ◌++◌, ◌∷◌, position, string_bytes, IfOk, OnOk, OnErr};
+ghost use Rattle.std.specs.Prelude.{◌≡◌, [], ◌++◌, ◌∷◌, ℕ, List, position, string_bytes, IfOk, OnOk, OnErr};
 ghost use Rattle.std.specs.List.{IsDistinct};
+ghost use Rattle.std.specs.Set.{remove_key};
 ghost use Rattle.std.specs.Str.{bytes_eq};
 ghost use Rattle.openapi_map.specs.Entries.{names_of};
 ghost use Rattle.openapi_map.specs.Index.{IsIndex, IsIndexAt};
@@ -78,4 +79,14 @@ fn index_with<V>(entries: &Vec<Entry<V>>, name: &str) -> Result<IndexSet<String>
     }
     index.insert(String::from_str(*entries.allocator(), name)?)?;
     Ok(index)
+}
+
+/// Tells the index that a name is gone. An index that is there stays, however few the names become.
+pub(crate) fn drop_name(index: &mut Option<Box<IndexSet<String>>>, name: &str)
+    ensures { (names : List (List ℕ)) → IsIndexAt names index.old
+        → IsIndexAt (remove_key (bytes_eq name.now) names) index.new }
+{
+    if let Some(index) = index {
+        index.shift_remove(name);
+    }
 }

@@ -1,13 +1,15 @@
-//! `Clone`, `Debug` and `PartialEq` of an `OrderedMap`.
+//! `Clone`, `Debug`, `Index` and `PartialEq` of an `OrderedMap`.
+ghost use Rattle.std.specs.Prelude.{◌≡◌, IsSome, Some};
 ghost use Rattle.std.specs.Cmp.Lexicographic.{nat_list_eq_equiv};
 ghost use Rattle.std.specs.HashMap.Eq.{hash_map_eq_symm, hash_map_eq_trans};
 ghost use Rattle.std.specs.Str.{bytes_eq};
-ghost use Rattle.openapi_map.specs.Entries.{IsCloneOf};
+ghost use Rattle.openapi_map.specs.Entries.{IsCloneOf, get};
 ghost use Rattle.openapi_map.specs.Equality.{entries_eq, as_map};
 
 use crate::OrderedMap;
 use std::alloc::AllocError;
 use std::fmt;
+use std::ops::Index;
 
 impl<V: Clone> Clone for OrderedMap<V> {
     ghost is_clone = { IsCloneOf V.is_clone };
@@ -28,6 +30,19 @@ impl<V: fmt::Debug> fmt::Debug for OrderedMap<V> {
             out.entry(&name, value);
         }
         out.finish()
+    }
+}
+
+// `map[name]` is the value at a name that the map is known to have: that it has it is proved by who writes it.
+impl<'q, V> Index<&'q str> for OrderedMap<V> {
+    type Output = V;
+
+    ghost can_index = { λ m name. IsSome (get name.now m) };
+
+    ghost index_gives = { λ m name v. get name.now m ≡ Some v };
+
+    fn index(&self, name: &'q str) -> &V {
+        self.get(name).unwrap()
     }
 }
 

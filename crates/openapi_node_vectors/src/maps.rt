@@ -1,5 +1,6 @@
 //! Maps of few and of many names.
-ghost use Rattle.std.specs.Prelude.{◌≡◌, IfOk};
+ghost use Rattle.std.specs.Prelude.{◌≡◌, IfOk, OnTrue, OnFalse, is_some, unwrap_or};
+ghost use Rattle.openapi_map.specs.Entries.{get, insert_entry};
 
 use openapi_map::OrderedMap;
 use std::alloc::{AllocError, Global};
@@ -63,6 +64,37 @@ fn check_place(
     Ok(())
 }
 
+/// Writes a value at a name, where the map has it. It shows what a caller proves of a write through `get_mut`.
+fn overwritten(map: &mut OrderedMap<u8>, name: &str, value: u8) -> bool
+    ensures found { result ≡ is_some (get name.now map.old) }
+    ensures there { OnTrue result (map.new ≡ insert_entry map.old name.now value) }
+    ensures absent { OnFalse result (map.new ≡ map.old) }
+{
+    match map.get_mut(name) {
+        Some(there) => {
+            *there = value;
+            true
+        }
+        None => false,
+    }
+}
+
+/// The value at a name, or 0 where the map lacks it.
+fn value_or_zero(map: &OrderedMap<u8>, name: &str) -> u8
+    ensures { result ≡ unwrap_or (get name.now map.now) 0 }
+{
+    if map.contains_key(name) { map[name] } else { 0 }
+}
+
+/// The entries of a map in their order, as `name=value` with a blank behind each.
+fn told(alloc: Global, map: &OrderedMap<u8>) -> Result<String, Fail> {
+    let mut text = String::new(alloc);
+    for (name, value) in map {
+        write!(text, "{name}={value} ")?;
+    }
+    Ok(text)
+}
+
 #[test]
 fn keeps_few_and_many(rt: HostRuntime) -> Result<(), Fail> {
     // an index appears at the 17th entry
@@ -88,10 +120,12 @@ fn sample(alloc: Global) -> Result<OrderedMap<u8>, AllocError> {
 }
 
 #[test]
-fn gives_the_first_and_the_last_entry(rt: HostRuntime) -> Result<(), Fail> {
+fn gives_single_entries(rt: HostRuntime) -> Result<(), Fail> {
     let map = sample(rt.alloc())?;
     assert_eq!(rt; map.first(), Some(("b", &1)));
     assert_eq!(rt; map.last(), Some(("c", &3)));
+    assert_eq!(rt; value_or_zero(&map, "a"), 4);
+    assert_eq!(rt; value_or_zero(&map, "d"), 0);
     let empty = OrderedMap::<u8>::new(rt.alloc());
     assert_eq!(rt; empty.first(), None);
     assert_eq!(rt; empty.last(), None);
@@ -167,6 +201,81 @@ fn clones_change_alone(rt: HostRuntime) -> Result<(), Fail> {
         assert!(rt; numbers != cloned, "of {count}");
         assert_eq!(rt; numbers.get("7").copied(), cloned.get("7").copied());
         assert_eq!(rt; numbers.len(), count);
+    }
+    Ok(())
+}
+
+#[test]
+fn writes_through_a_borrow(rt: HostRuntime) -> Result<(), Fail> {
+    let alloc = rt.alloc();
+    let mut map = sample(alloc)?;
+    assert!(rt; overwritten(&mut map, "a", 9));
+    assert!(rt; !overwritten(&mut map, "", 9));
+    assert_eq!(rt; told(alloc, &map)?.as_str(), "b=1 a=9 c=3 ");
+    for count in [1, 16, 17, 40] {
+        let mut numbers = numbered(alloc, count)?;
+        let last = count.wrapping_sub(1);
+        let name = format!(in alloc; "{last}")?;
+        match numbers.get_mut(name.as_str()) {
+            Some(value) => *value = 1000,
+            None => return Err(Fail::from("the last name is missing")),
+        }
+        assert_eq!(rt; numbers.last(), Some((name.as_str(), &1000)), "of {count}");
+        assert!(rt; numbers.get_mut("1000").is_none(), "of {count}");
+    }
+    Ok(())
+}
+
+#[test]
+fn takes_names_out_in_place(rt: HostRuntime) -> Result<(), Fail> {
+    let alloc = rt.alloc();
+    let mut map = map_of(alloc, &[("b", 1), ("a", 2), ("c", 3), ("d", 4)])?;
+    assert_eq!(rt; map.shift_remove("a"), Some(2));
+    assert_eq!(rt; told(alloc, &map)?.as_str(), "b=1 c=3 d=4 ");
+    assert_eq!(rt; map.shift_remove("a"), None);
+    assert_eq!(rt; map.shift_remove(""), None);
+    assert_eq!(rt; told(alloc, &map)?.as_str(), "b=1 c=3 d=4 ");
+    assert_eq!(rt; map.insert(String::from_str(alloc, "a")?, 5)?, None);
+    assert_eq!(rt; map.shift_remove("b"), Some(1));
+    assert_eq!(rt; told(alloc, &map)?.as_str(), "c=3 d=4 a=5 ");
+    assert_eq!(rt; map.shift_remove("a"), Some(5));
+    assert_eq!(rt; map.shift_remove("c"), Some(3));
+    assert_eq!(rt; map.shift_remove("d"), Some(4));
+    assert_eq!(rt; map.shift_remove("d"), None);
+    assert!(rt; map.is_empty());
+    Ok(())
+}
+
+#[test]
+fn finds_names_after_others_are_gone(rt: HostRuntime) -> Result<(), Fail> {
+    let alloc = rt.alloc();
+    // every even number goes, so a map that had an index falls below 17 entries; then 1 goes and comes last
+    for count in [16, 17, 18, 30, 40] {
+        let mut numbers = numbered(alloc, count)?;
+        for half in 0..count / 2 {
+            let even = half * 2;
+            let name = format!(in alloc; "{even}")?;
+            assert_eq!(rt;
+                numbers.shift_remove(name.as_str()),
+                Some(even),
+                "of {count}"
+            );
+            assert!(rt; !numbers.contains_key(name.as_str()), "{name} of {count}");
+        }
+        let odd = numbers.shift_remove("1");
+        assert_eq!(rt; odd, Some(1));
+        numbers.insert(String::from_str(alloc, "1")?, 1)?;
+        for number in 3..count {
+            let name = format!(in alloc; "{number}")?;
+            let there = number % 2 == 1 || number == count.wrapping_sub(1) && count % 2 == 1;
+            assert_eq!(rt;
+                numbers.get(name.as_str()).is_some(),
+                there,
+                "{name} of {count}"
+            );
+        }
+        assert_eq!(rt; numbers.first(), Some(("3", &3)));
+        assert_eq!(rt; numbers.last(), Some(("1", &1)));
     }
     Ok(())
 }

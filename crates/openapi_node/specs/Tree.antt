@@ -38,6 +38,27 @@ abbrev pub find : List ℕ → Members → Option Tree
 find name no_members = None
 find name (member k t ms) = if bytes_eq name k then Some t else find name ms
 
+-- what a tree holds, where it is of that sort
+abbrev pub flag_in : Tree → Option Bool
+flag_in (flag b) = Some b
+flag_in _ = None
+
+abbrev pub whole_in : Tree → Option ℤ
+whole_in (whole z) = Some z
+whole_in _ = None
+
+abbrev pub text_in : Tree → Option (List ℕ)
+text_in (text s) = Some s
+text_in _ = None
+
+abbrev pub items_in : Tree → Option Items
+items_in (list ts) = Some ts
+items_in _ = None
+
+abbrev pub members_in : Tree → Option Members
+members_in (object ms) = Some ms
+members_in _ = None
+
 -- the number of values in a tree, itself counted
 abbrev mutual
   pub size_of : Tree → ℕ

@@ -1,6 +1,8 @@
 //! Nodes: JSON values that are opened by counted looks.
-ghost use Rattle.std.specs.Prelude.{◌≡◌, ◌+◌, string_bytes};
+ghost use Rattle.std.specs.Prelude.{◌≡◌, ◌+◌, ◌↔◌, IsTrue, string_bytes};
+ghost use Rattle.std.specs.Option.{option_copied, option_map};
 ghost use Rattle.openapi_node.specs.Tree.{null, flag, whole, text, list, object, items_of, members_of};
+ghost use Rattle.openapi_node.specs.Tree.{flag_in, whole_in, text_in, items_in, members_in};
 ghost use Rattle.openapi_node.specs.View.{shown};
 
 use crate::steps::Steps;
@@ -132,6 +134,65 @@ impl Node {
             Shape::Text(value) => View::Text(value.as_str()),
             Shape::List(items) => View::List(items.as_slice()),
             Shape::Object(members) => View::Object(members),
+        }
+    }
+}
+
+impl<'a> View<'a> {
+    /// Whether the value is the literal `null`.
+    pub fn is_null(&self) -> bool
+        ensures { IsTrue result ↔ (shown self.now ≡ null) }
+    {
+        matches!(self, View::Null)
+    }
+
+    /// The flag, where the value is `true` or `false`.
+    pub fn as_flag(&self) -> Option<bool>
+        ensures { result ≡ flag_in (shown self.now) }
+    {
+        match self {
+            View::Flag(value) => Some(*value),
+            _ => None,
+        }
+    }
+
+    /// The number, where the value is one.
+    pub fn as_whole(&self) -> Option<Whole>
+        ensures { result ≡ whole_in (shown self.now) }
+    {
+        match self {
+            View::Whole(value) => Some(*value),
+            _ => None,
+        }
+    }
+
+    /// The text, where the value is a string.
+    pub fn as_text(&self) -> Option<&'a str>
+        ensures { option_copied result ≡ text_in (shown self.now) }
+    {
+        match self {
+            View::Text(value) => Some(*value),
+            _ => None,
+        }
+    }
+
+    /// The values of an array in their order, where the value is one.
+    pub fn as_list(&self) -> Option<&'a [Node]>
+        ensures { option_map (λ ts. items_of ts.now) result ≡ items_in (shown self.now) }
+    {
+        match self {
+            View::List(items) => Some(*items),
+            _ => None,
+        }
+    }
+
+    /// The members of an object in their order, where the value is one.
+    pub fn as_object(&self) -> Option<&'a OrderedMap<Node>>
+        ensures { option_map (λ ms. members_of ms.now) result ≡ members_in (shown self.now) }
+    {
+        match self {
+            View::Object(members) => Some(*members),
+            _ => None,
         }
     }
 }

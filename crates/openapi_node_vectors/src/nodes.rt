@@ -6,6 +6,7 @@ use openapi_node::{
 use serde_json::Value;
 use std::alloc::{AllocError, Global};
 use std::cmp::Ordering;
+use std::error::Error;
 use std::hash::{DefaultHasher, Hash, Hasher};
 use std::process::Abort;
 use std::test::Fail;
@@ -175,6 +176,19 @@ fn places(rt: HostRuntime) -> Result<(), Fail> {
         shown.as_str(),
         "number not whole at #/x-a~0~1b/0 Fault { place: [Name(\"x-a~/b\"), Index(0)], cause: NotWhole }"
     );
+    Ok(())
+}
+
+/// What any error prints.
+fn said<E: Error>(alloc: Global, error: &E) -> Result<String, AllocError> {
+    format!(in alloc; "{error}")
+}
+
+#[test]
+fn faults_are_errors(rt: HostRuntime) -> Result<(), Fail> {
+    let fault = Fault::new(rt.alloc(), Cause::Missing("url")).at_name(rt.alloc(), "docs");
+    let text = said(rt.alloc(), &fault)?;
+    assert_eq!(rt; text.as_str(), "missing field `url` at #/docs");
     Ok(())
 }
 
@@ -358,5 +372,65 @@ fn looks_at_a_list(rt: HostRuntime) -> Result<(), Fail> {
     assert!(rt; matches!(first.open(&mut steps), View::Null));
     assert!(rt; matches!(second.open(&mut steps), View::Flag(true)));
     assert!(rt; matches!(third.open(&mut steps), View::Text("q")));
+    Ok(())
+}
+
+/// The words of the kinds of value that a view says it shows, with what is shown.
+fn shown_as(alloc: Global, view: View<'_>) -> Result<String, Fail> {
+    let mut text = String::new(alloc);
+    if view.is_null() {
+        write!(text, "null ")?;
+    }
+    if let Some(flag) = view.as_flag() {
+        write!(text, "flag {flag} ")?;
+    }
+    if let Some(whole) = view.as_whole() {
+        write!(text, "whole {whole} ")?;
+    }
+    if let Some(words) = view.as_text() {
+        write!(text, "text {words} ")?;
+    }
+    if let Some(items) = view.as_list() {
+        let len = items.len();
+        write!(text, "list of {len} ")?;
+    }
+    if let Some(members) = view.as_object() {
+        write!(text, "object")?;
+        for name in members.keys() {
+            write!(text, " {name}")?;
+        }
+    }
+    Ok(text)
+}
+
+#[test]
+fn views_are_of_one_kind(rt: HostRuntime) -> Result<(), Fail> {
+    let mut steps = Steps::new(&rt);
+    let rows = [
+        ("null", "null "),
+        ("true", "flag true "),
+        ("false", "flag false "),
+        ("-7", "whole -7 "),
+        ("\"\"", "text  "),
+        ("\"pets\"", "text pets "),
+        ("[]", "list of 0 "),
+        ("[null,1]", "list of 2 "),
+        ("{}", "object"),
+        ("{\"b\":null,\"a\":1}", "object a b"),
+    ];
+    for (given, told) in rows {
+        let node = read(rt.alloc(), given)?;
+        let text = shown_as(rt.alloc(), node.open(&mut steps))?;
+        assert_eq!(rt; text.as_str(), told);
+    }
+    Ok(())
+}
+
+#[test]
+fn texts_outlive_their_views(rt: HostRuntime) -> Result<(), Fail> {
+    let mut steps = Steps::new(&rt);
+    let node = read(rt.alloc(), "\"pets\"")?;
+    let text = node.open(&mut steps).as_text();
+    assert_eq!(rt; text, Some("pets"));
     Ok(())
 }

@@ -29,6 +29,7 @@ pub mod RowWrites
 pub mod SortHolds
 pub mod KindsHold
 pub mod Writes
+pub mod ReadAlike
 pub mod Alike
 pub mod Calm
 pub mod CalmAll

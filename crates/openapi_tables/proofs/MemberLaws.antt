@@ -8,21 +8,19 @@ use Rattle.openapi_node.specs.Tree.{Tree, null, flag, whole, text, list, object}
 use Rattle.openapi_tables.specs.Tree.{members_of, Entry}
 use Rattle.openapi_tables.specs.Kind.{Kind, any_text, any_flag, number, any_tree, one_of, format, null_or, list_of}
 use Rattle.openapi_tables.specs.Kind.{map_of, by, tagged, ref_to, flag_or_schema, a_schema, a_schema_kind, status_code}
-use Rattle.openapi_tables.specs.Kind.{Row, takes, Tables}
+use Rattle.openapi_tables.specs.Kind.{Row, Tables}
 use Rattle.openapi_tables.specs.Tables.{any_rows}
-use Rattle.openapi_tables.specs.Members.{is_null, own, first_tree, held, Sort, string_sort, number_sort, integer_sort}
+use Rattle.openapi_tables.specs.Members.{is_null, own, held, Sort, string_sort, number_sort, integer_sort}
 use Rattle.openapi_tables.specs.Members.{boolean_sort, object_sort, array_sort, one_of_sort, all_of_sort, any_of_sort}
 use Rattle.openapi_tables.specs.Members.{not_sort, any_sort, sort, kind_names, allowed, entries_pass, is_null_or_text}
 use Rattle.openapi_tables.specs.Members.{is_null_or_whole, is_null_or_flag, is_null_or_signed, further, possible_sort}
 use Rattle.openapi_tables.specs.Members.{meets, sort_of, Choice, tag_choice, choice, rows_of}
 use Rattle.openapi_tables.specs.Form.{fields, forms_of}
 use Rattle.openapi_tables.specs.Read.{slot_of_own, form}
-use Rattle.openapi_tables.specs.Laws.{steers, Every, Ignored, Order, References}
+use Rattle.openapi_tables.specs.Laws.{steers}
 use Rattle.openapi_tables.proofs.ListLaws.{Each, every_each, same_text-refl, each_under, same_text_eq}
 use Rattle.openapi_tables.proofs.RowLaws.{not_both}
-use Rattle.openapi_tables.proofs.ReadLaws.{reads, slot_in, form-fields, form-reference}
-use Rattle.openapi_tables.proofs.TreeLaws.{members_list-of}
-use Rattle.openapi_tables.specs.Conforms.{text_in}
+use Rattle.openapi_tables.proofs.ReadLaws.{reads, slot_in, form-fields}
 
 -- two lists of members hold the same under each kind name
 abbrev SameKinds : List (Entry Tree) → List (Entry Tree) → Type 0
@@ -98,7 +96,7 @@ sort_same es ds h =
     (meets_same (possible_sort (held (codes "type") ds) ds) es ds h)
 
 -- which rows an object is read by depends on the names that have a say in it
-choice_same : (k : Kind) (es ds : List (Entry Tree)) → ((n : List ℕ) → steers k n ≡ true → held n es ≡ held n ds)
+pub choice_same : (k : Kind) (es ds : List (Entry Tree)) → ((n : List ℕ) → steers k n ≡ true → held n es ≡ held n ds)
     → choice k es ≡ choice k ds
 choice_same (tagged n cs) es ds h = ap (tag_choice cs) (h n (same_text-refl n))
 choice_same a_schema es ds h = ap (λ s. Some (sort s)) (sort_same es ds h)
@@ -124,7 +122,7 @@ slots_same T (w ∷ ws) es ds h =
     ap (λ l. slot_of_own w (reads T l) ∷ each (slot_in T es) ws) h.0
     ∙ ap (λ l. slot_in T ds w ∷ l) (slots_same T ws es ds h.1)
 
-form_same : (T : Tables) (k : Kind) (c : Choice) (es ds : List (Entry Tree)) → choice k ds ≡ Some c
+pub form_same : (T : Tables) (k : Kind) (c : Choice) (es ds : List (Entry Tree)) → choice k ds ≡ Some c
     → ((n : List ℕ) → steers k n ≡ true → held n es ≡ held n ds)
     → Each (λ w. own w es ≡ own w ds) (rows_of T k c)
     → form T k (object (members_of es)) ≡ form T k (object (members_of ds))
@@ -133,7 +131,7 @@ form_same T k c es ds h g o =
     ∙ ap (λ l. fields c (forms_of l)) (slots_same T (rows_of T k c) es ds o) ∙ sym (form-fields T k c ds h)
 
 -- a member that does not pass
-only_skips : {A : Type 0} → (p : A → Bool) (xs ys : List A) (x : A) → p x ≡ false
+pub only_skips : {A : Type 0} → (p : A → Bool) (xs ys : List A) (x : A) → p x ≡ false
     → only p (join xs (x ∷ ys)) ≡ only p (join xs ys)
 only_skips p [] ys x h = ap (λ b. cond b (x ∷ only p ys) (only p ys)) h
 only_skips p (z ∷ xs) ys x h = ap (λ l. cond (p z) (z ∷ l) l) (only_skips p xs ys x h)
@@ -145,44 +143,18 @@ swapped true false x y l h = refl
 swapped false true x y l h = refl
 swapped false false x y l h = refl
 
-only_swaps : {A : Type 0} → (p : A → Bool) (xs ys : List A) (x y : A) → (p x && p y) ≡ false
+pub only_swaps : {A : Type 0} → (p : A → Bool) (xs ys : List A) (x y : A) → (p x && p y) ≡ false
     → only p (join xs (y ∷ x ∷ ys)) ≡ only p (join xs (x ∷ y ∷ ys))
 only_swaps p [] ys x y h = swapped (p x) (p y) x y (only p ys) h
 only_swaps p (z ∷ xs) ys x y h = ap (λ l. cond (p z) (z ∷ l) l) (only_swaps p xs ys x y h)
 
-other_name : (k : Kind) (n m : List ℕ) → steers k n ≡ true → steers k m ≡ false → same_text n m ≡ false
+pub other_name : (k : Kind) (n m : List ℕ) → steers k n ≡ true → steers k m ≡ false → same_text n m ≡ false
 other_name k n m h g = not_both (same_text n m)
     (λ e. both_ways (steers k m) g (subst (λ u. steers k u ≡ true) (same_text_eq n m e) h))
 
-to_each : {A : Type 0} → (P Q : A → Type 0) (xs : List A) → ((x : A) → P x → Q x) → Every P xs → Each Q xs
-to_each P Q [] f h = tt
-to_each P Q (x ∷ xs) f h = (f x h.0, to_each P Q xs f h.1)
-
-pub ignored : Ignored
-ignored T k c before after e h s g =
-    form_same T k c (join before (e ∷ after)) (join before after) h
-    (λ n x. ap first_tree
-    (only_skips (λ (d : Entry Tree). same_text n d.name) before after e (other_name k n e.name x s)))
-    (to_each (λ w. takes w e.name ≡ false) (λ w. own w (join before (e ∷ after)) ≡ own w (join before after))
-    (rows_of T k c)
-    (λ w x. only_skips (λ (d : Entry Tree). takes w d.name) before after e x) g)
-
-not_two : (n d e : List ℕ) → same_text d e ≡ false → (same_text n d && same_text n e) ≡ false
+pub not_two : (n d e : List ℕ) → same_text d e ≡ false → (same_text n d && same_text n e) ≡ false
 not_two n d e h =
     not_both (same_text n d && same_text n e) (λ x.
     let p = and_parts (same_text n d) (same_text n e) x in
     both_ways (same_text d e) h
     (subst (λ u. same_text d u ≡ true) (sym (same_text_eq n d p.0) ∙ same_text_eq n e p.1) (same_text-refl d)))
-
-pub order : Order
-order T k c before after d e h s g =
-    form_same T k c (join before (e ∷ d ∷ after)) (join before (d ∷ e ∷ after)) h
-    (λ n x. ap first_tree
-    (only_swaps (λ (m : Entry Tree). same_text n m.name) before after d e (not_two n d.name e.name s)))
-    (to_each (λ w. (takes w d.name && takes w e.name) ≡ false)
-    (λ w. own w (join before (e ∷ d ∷ after)) ≡ own w (join before (d ∷ e ∷ after))) (rows_of T k c)
-    (λ w x. only_swaps (λ (m : Entry Tree). takes w m.name) before after d e x) g)
-
-pub references : References
-references T k es u h = form-reference T k (object (members_of es)) u
-    (ap text_in (ap (held (codes "$ref")) (members_list-of es) ∙ h))

@@ -3,6 +3,7 @@ use Rattle.std.specs.Prelude.{ℕ, pos, Bool, true, false, ◌&&◌, ◌||◌, c
 use Rattle.std.specs.Prelude.{codes}
 use Rattle.openapi_tables.specs.Lists.{every, same_text, has}
 use Rattle.openapi_node.specs.Tree.{Tree, text}
+pub use Rattle.openapi_node.specs.Tree.{text_in}
 use Rattle.openapi_tables.specs.Tree.{Entry, Seen, Shape, a_null, a_flag, a_whole, a_text, a_list, an_object, of_tree}
 use Rattle.openapi_tables.specs.Kind.{Kind, any_text, any_flag, number, any_tree, one_of, format, null_or, list_of}
 use Rattle.openapi_tables.specs.Kind.{map_of, by, tagged, ref_to, flag_or_schema, a_schema, a_schema_kind, status_code}
@@ -60,11 +61,6 @@ chosen_holds T k es (Some c) = every (row_holds es) (checked_rows T k c)
 -- whether an object's members hold under an object kind
 abbrev pub object_holds : (T : Tables) → Kind → Judged → Bool
 object_holds T k es = chosen_holds T k es (choice k (trees es))
-
--- the text under `$ref`
-abbrev pub text_in : Tree → Option (List ℕ)
-text_in (text s) = Some s
-text_in _ = None
 
 -- the text of a reference, where an object is one
 abbrev pub is_reference : {X : Type 0} → Shape (Seen X) → Option (List ℕ)

@@ -1,9 +1,10 @@
 -- The laws that the functions of `laws` carry.
-use Rattle.std.specs.Prelude.{not, ◌≤◌, ◌*◌, ℕ, Bool, true, false, ◌&&◌, List, [], ◌∷◌, Some, ◌≡◌, ◌↔◌, ◌⊎◌, codes}
+use Rattle.std.specs.Prelude.{not, ◌≤◌, ◌*◌, ℕ, Bool, true, false, ◌&&◌, ◌||◌, List, [], ◌∷◌, Some, ◌≡◌, ◌↔◌, ◌⊎◌, codes}
 use Rattle.openapi_tables.specs.Lists.{every, join, same_text, has}
 use Rattle.openapi_node.specs.Tree.{Tree, text, object, size_of}
 use Rattle.openapi_tables.specs.Tree.{members_of, Entry}
-use Rattle.openapi_tables.specs.Kind.{Kind, by, xml_object, tagged, a_schema, a_schema_kind, ref_to, Tables, Code}
+use Rattle.openapi_tables.specs.Kind.{Kind, by, xml_object, tagged, a_schema, a_schema_kind, ref_to, flag_or_schema}
+use Rattle.openapi_tables.specs.Kind.{Tables, Code}
 use Rattle.openapi_tables.specs.Kind.{code_of, text_of, writable_code, takes, extensions, callback_names, path_names}
 use Rattle.openapi_tables.specs.Kind.{status_names, begins}
 use Rattle.openapi_tables.specs.Members.{Choice, choice, rows_of, held, kind_names}
@@ -34,16 +35,31 @@ abbrev pub Codes : Type 0
 Codes = ((c : Code) → writable_code c ≡ true → code_of (text_of c) ≡ Some c)
     × ((c d : Code) → writable_code c ≡ true → writable_code d ≡ true → text_of c ≡ text_of d → c ≡ d)
 
--- an object with a text under `$ref` is a reference, whatever else it holds
-abbrev pub References : Type 0
-References = (T : Tables) (k : Kind) (es : List (Entry Tree)) (s : List ℕ) → held (codes "$ref") es ≡ text s
-    → form T (ref_to k) (object (members_of es)) ≡ reference s
+-- whether a reference may stand for what a kind says
+abbrev pub may_refer : Kind → Bool
+may_refer (ref_to k) = true
+may_refer flag_or_schema = true
+may_refer _ = false
 
--- whether a name has a say in which rows an object is read by
+-- an object with a text under `$ref` is a reference, whatever else it holds: it conforms, and is read as one
+abbrev pub References : Type 0
+References = (T : Tables) (k : Kind) (es : List (Entry Tree)) (s : List ℕ) → may_refer k ≡ true
+    → held (codes "$ref") es ≡ text s
+    → (form T k (object (members_of es)) ≡ reference s) × (conforms T k (object (members_of es)) ≡ true)
+
+-- the kind that an object has which is no reference
+abbrev pub item_kind : Kind → Kind
+item_kind (ref_to k) = item_kind k
+item_kind flag_or_schema = a_schema
+item_kind k = k
+
+-- whether a name has a say in which rows an object is read by, or in whether it is a reference
 abbrev pub steers : Kind → List ℕ → Bool
 steers (tagged n cs) m = same_text n m
 steers a_schema m = has kind_names m
 steers a_schema_kind m = has kind_names m
+steers (ref_to k) m = same_text (codes "$ref") m || steers k m
+steers flag_or_schema m = same_text (codes "$ref") m || has kind_names m
 steers _ m = false
 
 -- P holds of each element
@@ -51,23 +67,29 @@ abbrev pub Every : {A : Type 0} → (A → Type 0) → List A → Type 0
 Every P [] = Unit {0}
 Every P (x ∷ xs) = P x × Every P xs
 
--- an object under an object kind, of the rows that a choice gives
+-- an object under a kind, whose rows a choice gives where it is no reference
 abbrev pub ReadBy : Kind → Choice → List (Entry Tree) → Type 0
-ReadBy k c es = choice k es ≡ Some c
+ReadBy k c es = choice (item_kind k) es ≡ Some c
 
--- a member that no row takes, and that is not the tag, may be added or taken away without a change of the form
+-- of two objects the same is read, and both conform or none
+abbrev pub ReadAlike : (T : Tables) → Kind → List (Entry Tree) → List (Entry Tree) → Type 0
+ReadAlike T k es ds = (form T k (object (members_of es)) ≡ form T k (object (members_of ds)))
+    × (conforms T k (object (members_of es)) ≡ conforms T k (object (members_of ds)))
+
+-- a member may be added or taken away that no row takes, and that is not the tag, nor of the names that tell the
+-- sorts of schemas apart, nor `$ref` where a reference may stand
 abbrev pub Ignored : Type 0
 Ignored = (T : Tables) (k : Kind) (c : Choice) (before after : List (Entry Tree)) (e : Entry Tree)
-    → ReadBy k c (join before after) → steers k e.name ≡ false → Every (λ w. takes w e.name ≡ false) (rows_of T k c)
-    → form T k (object (members_of (join before (e ∷ after)))) ≡ form T k (object (members_of (join before after)))
+    → ReadBy k c (join before after) → steers k e.name ≡ false
+    → Every (λ w. takes w e.name ≡ false) (rows_of T (item_kind k) c)
+    → ReadAlike T k (join before (e ∷ after)) (join before after)
 
--- two neighbours of different names that no row takes both may change places without a change of the form
+-- two neighbours of different names that no row takes both may change places
 abbrev pub Order : Type 0
 Order = (T : Tables) (k : Kind) (c : Choice) (before after : List (Entry Tree)) (d e : Entry Tree)
     → ReadBy k c (join before (d ∷ e ∷ after)) → same_text d.name e.name ≡ false
-    → Every (λ w. (takes w d.name && takes w e.name) ≡ false) (rows_of T k c)
-    → form T k (object (members_of (join before (e ∷ d ∷ after))))
-    ≡ form T k (object (members_of (join before (d ∷ e ∷ after))))
+    → Every (λ w. (takes w d.name && takes w e.name) ≡ false) (rows_of T (item_kind k) c)
+    → ReadAlike T k (join before (e ∷ d ∷ after)) (join before (d ∷ e ∷ after))
 
 -- what was read is read again from what it is written as, exactly when it stays
 abbrev pub FirstValue : Type 0

@@ -25,21 +25,23 @@ pub fn codes()
     ensures { Codes }
 {}
 
-/// Where a reference may stand, an object with a text under `$ref` is a reference with that text, whatever else it
-/// holds.
+/// Where a reference may stand, an object with a text under `$ref` conforms, and is a reference with that text,
+/// whatever else it holds.
 pub fn references()
     ensures { References }
 {}
 
-/// A member that no row takes, and that has no say in which rows an object is read by, may be added or taken away
-/// without changing what is read.
+/// A member that no row takes, and that has no say in which rows an object is read by, may be added or taken away:
+/// the object conforms if it did, and the same is read of it. The tag of an object has such a say, and of a schema
+/// each of the names by which the sorts of schemas are told apart. The law also speaks of objects in whose place a
+/// reference may stand; there `$ref` has a say, too.
 pub fn ignored()
     ensures { Ignored }
 {}
 
-/// Two members side by side that no row takes both may change places without changing what is read. So the order of
-/// members counts only among extensions, among paths, among status codes, and between two names of which the first
-/// decides.
+/// Two members side by side that no row takes both may change places: the object conforms if it did, and the same is
+/// read of it, also where a reference may stand in its place. So the order of members counts only among extensions,
+/// among paths, among status codes, and between two names of which the first decides.
 pub fn order()
     ensures { Order }
 {}

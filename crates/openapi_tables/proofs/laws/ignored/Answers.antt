@@ -1,4 +1,4 @@
-use Rattle.openapi_tables.proofs.MemberLaws.{ignored}
+use Rattle.openapi_tables.proofs.ReadAlike.{ignored}
 use Rattle.openapi_tables.proofs.laws.ignored.Goals as goal
 
 pub returns : goal.returns

@@ -1,4 +1,4 @@
-use Rattle.openapi_tables.proofs.MemberLaws.{order}
+use Rattle.openapi_tables.proofs.ReadAlike.{order}
 use Rattle.openapi_tables.proofs.laws.order.Goals as goal
 
 pub returns : goal.returns

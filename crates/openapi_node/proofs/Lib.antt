@@ -1,6 +1,7 @@
 pub mod DataOrder
 pub mod EqualLemmas
 pub mod JsonLemmas
+mod NamedLemmas
 pub mod SameValue
 pub mod TreeLemmas
 pub mod Walks

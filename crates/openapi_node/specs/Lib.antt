@@ -2,6 +2,7 @@ pub mod Equal
 pub mod Falls
 pub mod Fault
 pub mod Json
+pub mod Named
 pub mod Place
 pub mod Shape
 pub mod Tree

@@ -1,8 +1,9 @@
 //! Nodes: JSON values that are opened by counted looks.
-ghost use Rattle.std.specs.Prelude.{◌≡◌, ◌+◌, ◌↔◌, IsTrue, string_bytes};
+ghost use Rattle.std.specs.Prelude.{◌≡◌, ◌+◌, ◌↔◌, true, IsTrue, string_bytes};
 ghost use Rattle.std.specs.Option.{option_copied, option_map};
 ghost use Rattle.openapi_node.specs.Tree.{null, flag, whole, text, list, object, items_of, members_of};
 ghost use Rattle.openapi_node.specs.Tree.{flag_in, whole_in, text_in, items_in, members_in};
+ghost use Rattle.openapi_node.specs.Named.{well_named};
 ghost use Rattle.openapi_node.specs.View.{shown};
 
 use crate::steps::Steps;
@@ -11,7 +12,8 @@ use openapi_map::OrderedMap;
 use std::marker::Model;
 
 /// A JSON value (RFC 8259) whose numbers are whole: null, a flag, a whole number, a text, a list of nodes, or an
-/// object whose members stand in an order and have distinct names. Contracts see it as its tree.
+/// object whose members stand in an order and have distinct names. Contracts see it as its tree; that no object in it
+/// has a name twice, at any depth, is its invariant.
 ///
 /// Two nodes are equal where they are the same JSON value, whatever the order of the members of their objects.
 /// `{:?}` prints a node as `serde_json` does its `Value`. Neither is counted, nor is letting a node go.
@@ -60,6 +62,11 @@ impl Model for Node {
 
     ghost view = { λ n. tree_of n.shape };
 
+    ghost use Rattle.std.specs.Prelude.{◌≡◌, true};
+    ghost use Rattle.openapi_node.specs.Named.{well_named};
+
+    ghost invariant = { λ n. well_named (tree_of n.shape) ≡ true };
+
     ghost size = { size_of };
 
     ghost use Rattle.std.proofs.Common.{arith};
@@ -107,6 +114,10 @@ impl Node {
     pub fn list(items: Vec<Node>) -> Node
         ensures { result ≡ list (items_of items.items) }
     {
+        // it does nothing: each value tells the proof that its names differ
+        for item in &items {
+            item.names_differ();
+        }
         Node {
             shape: Shape::List(items),
         }
@@ -116,9 +127,21 @@ impl Node {
     pub fn object(members: OrderedMap<Node>) -> Node
         ensures { result ≡ object (members_of members) }
     {
+        // it does nothing, as for a list
+        for i in 0..members.len() {
+            members.entry_at(i).1.names_differ();
+        }
         Node {
             shape: Shape::Object(members),
         }
+    }
+
+    /// Tells a proof that no object in the value, at any depth, has two members of one name. The call does nothing, and
+    /// nothing else is learnt of the value.
+    pub fn names_differ(&self)
+        ensures { well_named self.now ≡ true }
+    {
+        let _ = &self.shape;
     }
 
     /// A look inside. It raises the count by one, and copies nothing.

@@ -1,8 +1,9 @@
 -- What a row reads, asks and may look at, by the member of its name.
+pub use Rattle.openapi_tables.proofs.ListLaws.{same_bytes}
 pub use Rattle.openapi_tables.proofs.KindsHold.{any_conforms}
 pub use Rattle.openapi_tables.proofs.WeightLaws.{rows_weight-le, table_weight-le}
 use Rattle.openapi_tables.proofs.ListLaws.{every_behind}
-use Rattle.std.proofs.Common.{ℕ, ◌≤◌, ◌==◌, Bool, true, false, cond, ◌&&◌, ◌||◌, List, [], ◌∷◌}
+use Rattle.std.proofs.Common.{ℕ, ◌≤◌, Bool, true, false, cond, ◌&&◌, ◌||◌, List, [], ◌∷◌}
 use Rattle.std.proofs.Common.{Some, None, ◌≡◌, refl, sym, ap, ◌∙◌, subst, arith, inl, inr, bytes_eq, true≢false}
 use Rattle.std.proofs.lemmas.Bool.{and_parts}
 use Rattle.openapi_node.specs.Place.{Step, Place, named}
@@ -31,12 +32,6 @@ use Rattle.openapi_tables.proofs.ListLaws.{Each, every_each, only-each, same_tex
 use Rattle.openapi_tables.proofs.TreeLaws.{see, seen_root, of_tree_lem, of_members_lem, tree_of_root-seen}
 use Rattle.openapi_tables.proofs.ObjectBack.{checked, table_sound}
 use Rattle.openapi_tables.proofs.FaultFound.{faults}
-
-pub same_bytes : (a b : List ℕ) → same_text a b ≡ bytes_eq a b
-same_bytes [] [] = refl
-same_bytes [] (y ∷ b) = refl
-same_bytes (x ∷ a) [] = refl
-same_bytes (x ∷ a) (y ∷ b) = ap (λ t. (x == y) && t) (same_bytes a b)
 
 -- a name with what stands under it
 abbrev pub entry : {X : Type 0} → List ℕ → X → Entry X

@@ -1,9 +1,9 @@
 -- Distinct names and keys, as facts on each pair of entries.
-use Rattle.std.proofs.Common.{Bool, true, false, not, List, [], ◌∷◌, ◌≡◌, refl, ap, ◌∙◌, subst, cond, sym}
+use Rattle.std.proofs.Common.{ℕ, Bool, true, false, not, ◌&&◌, List, [], ◌∷◌, ◌≡◌, refl, ap, ◌∙◌, subst, cond, sym}
 use Rattle.std.proofs.lemmas.Bool.{and_parts, and_from, not-true, both_ways}
 use Rattle.openapi_tables.specs.Lists.{each, only, every, same_text}
 use Rattle.openapi_node.specs.Tree.{Tree, list, object, Items, no_items, item, items_of}
-use Rattle.openapi_tables.specs.Tree.{Entry, on_entry, Seen, items_list, members_of, an_object}
+use Rattle.openapi_tables.specs.Tree.{Entry, items_list, members_of}
 use Rattle.openapi_tables.specs.Kind.{Class}
 use Rattle.openapi_tables.specs.Form.{no_forms, Form, sequence, named, fields, forms_of, named_of, Key, name, coded}
 use Rattle.openapi_tables.specs.Form.{Pair, Shown, Forms, Named, f_named, named_list, of_forms, forms_list, more}
@@ -11,10 +11,12 @@ use Rattle.openapi_tables.specs.Members.{Choice}
 use Rattle.openapi_tables.specs.Read.{same_key, key_in}
 use Rattle.openapi_tables.specs.Print.{text_of_key}
 use Rattle.openapi_tables.specs.Proper.{is_written}
-use Rattle.openapi_tables.specs.Distinct.{names_differ, root_well_named, well_named, keys_differ, face_distinct}
+use Rattle.openapi_node.specs.Named.{lacks, well_named}
+use Rattle.openapi_tables.specs.Distinct.{keys_differ, face_distinct}
 use Rattle.openapi_tables.specs.Distinct.{distinct}
 use Rattle.openapi_tables.proofs.ListLaws.{Each, every_each, every_from, Each_within-only, same_text_eq, each_under}
-use Rattle.openapi_tables.proofs.TreeLaws.{see, of_members-of}
+use Rattle.openapi_tables.proofs.ListLaws.{same_bytes}
+use Rattle.std.specs.Str.{bytes_eq}
 use Rattle.openapi_tables.proofs.FormLaws.{show, on_pair, of_forms-of, of_named-of, of_named_lem}
 use Rattle.openapi_tables.proofs.KeyLaws.{Distinct}
 use Rattle.openapi_tables.proofs.RowLaws.{not_both}
@@ -34,17 +36,6 @@ every_not p xs h = each_under (λ x (e : not (p x) ≡ true). not-true (p x) e) 
 
 not_every : {A : Type 0} → (p : A → Bool) (xs : List A) → Each (λ x. p x ≡ false) xs → every (λ x. not (p x)) xs ≡ true
 not_every p xs h = every_from (λ x. not (p x)) xs (each_under (λ x (e : p x ≡ false). not_false (p x) e) xs h)
-
-pub of_names_differ : {X : Type 0} → (es : List (Entry X)) → names_differ es ≡ true → Differ es
-of_names_differ [] h = tt
-of_names_differ {X} (e ∷ es) h =
-    let p = and_parts _ (names_differ es) h in
-    (every_not (λ (d : Entry X). same_text e.name d.name) es p.0, of_names_differ es p.1)
-
-pub to_names_differ : {X : Type 0} → (es : List (Entry X)) → Differ es → names_differ es ≡ true
-to_names_differ [] h = refl
-to_names_differ {X} (e ∷ es) h =
-    and_from _ (names_differ es) (not_every (λ (d : Entry X). same_text e.name d.name) es h.0) (to_names_differ es h.1)
 
 pub of_keys_differ : {X : Type 0} → (es : List (Pair X)) → keys_differ es ≡ true → Distinct es
 of_keys_differ [] h = tt
@@ -68,53 +59,40 @@ pub Differ-only : {X : Type 0} → (p : Entry X → Bool) (es : List (Entry X)) 
 Differ-only p [] h = tt
 Differ-only p (e ∷ es) h = only_differ p (p e) e es h.0 (Differ-only p es h.1)
 
--- names and values side by side
-on_entry_differ : {X Y : Type 0} → (f : X → Y) (es : List (Entry X)) → Differ es → Differ (each (on_entry f) es)
-on_entry_differ f [] h = tt
-on_entry_differ {X} {Y} f (e ∷ es) h = (apart es h.0, on_entry_differ f es h.1)
-  where
-    apart : (ds : List (Entry X)) → Each (λ (d : Entry X). same_text e.name d.name ≡ false) ds
-        → Each (λ (d : Entry Y). same_text e.name d.name ≡ false) (each (on_entry f) ds)
-    apart [] g = tt
-    apart (d ∷ ds) g = (g.0, apart ds g.1)
+-- a name that members lack is apart from theirs
+lacks_apart : (n : List ℕ) (es : List (Entry Tree)) → lacks n (members_of es) ≡ true
+    → Each (λ (d : Entry Tree). same_text n d.name ≡ false) es
+lacks_apart n [] h = tt
+lacks_apart n (e ∷ es) h =
+    let p = and_parts (not (bytes_eq n e.name)) (lacks n (members_of es)) h in
+    (same_bytes n e.name ∙ not-true (bytes_eq n e.name) p.0, lacks_apart n es p.1)
 
-off_entry_differ : {X Y : Type 0} → (f : X → Y) (es : List (Entry X)) → Differ (each (on_entry f) es) → Differ es
-off_entry_differ f [] h = tt
-off_entry_differ {X} {Y} f (e ∷ es) h = (apart es h.0, off_entry_differ f es h.1)
-  where
-    apart : (ds : List (Entry X)) → Each (λ (d : Entry Y). same_text e.name d.name ≡ false) (each (on_entry f) ds)
-        → Each (λ (d : Entry X). same_text e.name d.name ≡ false) ds
-    apart [] g = tt
-    apart (d ∷ ds) g = (g.0, apart ds g.1)
+apart_lacks : (n : List ℕ) (es : List (Entry Tree)) → Each (λ (d : Entry Tree). same_text n d.name ≡ false) es
+    → lacks n (members_of es) ≡ true
+apart_lacks n [] h = refl
+apart_lacks n (e ∷ es) h =
+    and_from (not (bytes_eq n e.name)) (lacks n (members_of es))
+    (not_false (bytes_eq n e.name) (sym (same_bytes n e.name) ∙ h.0)) (apart_lacks n es h.1)
 
 -- an object whose members have distinct names, and are well named
 abbrev pub WellNamed : List (Entry Tree) → Type 0
 WellNamed es = Differ es × Each (λ (e : Entry Tree). well_named e.value ≡ true) es
 
-values_named : (es : List (Entry Tree))
-    → every (λ (e : Entry (Seen Bool)). e.value.answer) (each (on_entry (see root_well_named)) es) ≡ true
-    → Each (λ (e : Entry Tree). well_named e.value ≡ true) es
-values_named [] h = tt
-values_named (e ∷ es) h = let p = and_parts (well_named e.value) _ h in (p.0, values_named es p.1)
-
-named_values : (es : List (Entry Tree)) → Each (λ (e : Entry Tree). well_named e.value ≡ true) es
-    → every (λ (e : Entry (Seen Bool)). e.value.answer) (each (on_entry (see root_well_named)) es) ≡ true
-named_values [] h = refl
-named_values (e ∷ es) h = and_from (well_named e.value) _ h.0 (named_values es h.1)
-
 pub of_object : (es : List (Entry Tree)) → well_named (object (members_of es)) ≡ true → WellNamed es
-of_object es h =
-    let p = and_parts _ _ (subst (λ l. root_well_named (an_object l) ≡ true) (of_members-of root_well_named es) h) in (
-      off_entry_differ (see root_well_named) es (of_names_differ (each (on_entry (see root_well_named)) es) p.0),
-      values_named es p.1,
-    )
+of_object [] h = (tt, tt)
+of_object (e ∷ es) h =
+    let rest = well_named (object (members_of es)) in
+    let p = and_parts (lacks e.name (members_of es)) (well_named e.value && rest) h in
+    let q = and_parts (well_named e.value) rest p.1 in
+    let w = of_object es q.1 in
+    ((lacks_apart e.name es p.0, w.0), (q.0, w.1))
 
 pub to_object : (es : List (Entry Tree)) → WellNamed es → well_named (object (members_of es)) ≡ true
-to_object es h =
-    subst (λ l. root_well_named (an_object l) ≡ true) (sym (of_members-of root_well_named es))
-    (and_from _ _
-    (to_names_differ (each (on_entry (see root_well_named)) es) (on_entry_differ (see root_well_named) es h.0))
-    (named_values es h.1))
+to_object [] h = refl
+to_object (e ∷ es) h =
+    let rest = well_named (object (members_of es)) in
+    and_from (lacks e.name (members_of es)) (well_named e.value && rest) (apart_lacks e.name es h.0.0)
+    (and_from (well_named e.value) rest h.1.0 (to_object es (h.0.1, h.1.1)))
 
 pub of_list_named : (ts : Items) → well_named (list ts) ≡ true → Each (λ t. well_named t ≡ true) (items_list ts)
 of_list_named no_items h = tt

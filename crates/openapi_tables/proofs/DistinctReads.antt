@@ -9,7 +9,8 @@ use Rattle.openapi_tables.specs.Kind.{path_names, status_names, Tables, takes, r
 use Rattle.openapi_tables.specs.Members.{is_null, own, rows_of}
 use Rattle.openapi_tables.specs.Form.{Form, forms_of, fields, Key, name, Pair}
 use Rattle.openapi_tables.specs.Read.{default_of, slot_of_own, slot, key_in, root_form, form, same_key, map_form}
-use Rattle.openapi_tables.specs.Distinct.{well_named, distinct}
+use Rattle.openapi_node.specs.Named.{well_named}
+use Rattle.openapi_tables.specs.Distinct.{distinct}
 use Rattle.openapi_tables.proofs.ListLaws.{Each, Each_within-only, each_under}
 use Rattle.openapi_tables.proofs.TreeLaws.{Inside, by_trees, of_members_lem}
 use Rattle.openapi_tables.proofs.KeyLaws.{Distinct, Distinct-put_all, Both-gather}

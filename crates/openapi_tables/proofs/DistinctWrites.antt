@@ -17,7 +17,8 @@ use Rattle.openapi_tables.specs.Print.{is_silent, one, row_print, print, text_of
 use Rattle.openapi_tables.specs.Proper.{Held, is_name, is_written, may_be_absent, of_kind, row_proper, rows_proper}
 use Rattle.openapi_tables.specs.Proper.{face_proper, choice_proper, proper}
 use Rattle.openapi_tables.specs.Sound.{sound, row_sound, rows_apart, mode_fits, under_ref, apart, tables_sound}
-use Rattle.openapi_tables.specs.Distinct.{well_named, distinct}
+use Rattle.openapi_node.specs.Named.{well_named}
+use Rattle.openapi_tables.specs.Distinct.{distinct}
 use Rattle.openapi_tables.proofs.ListLaws.{Each, every_each, each_under, Each-join, same_text_eq}
 use Rattle.openapi_tables.proofs.SoundLaws.{sound_pick}
 use Rattle.openapi_tables.proofs.FormLaws.{show, on_pair, Within, Deep, by_deep, of_forms_lem, of_named_lem}

@@ -2,6 +2,7 @@
 use Rattle.std.proofs.Common.{ℕ, Bool, true, false, cond, ◌&&◌, ◌==◌, List, [], ◌∷◌, ◌≡◌, refl, sym, ap, ◌∙◌, eqb-true}
 use Rattle.std.proofs.Common.{eq-eqb}
 use Rattle.std.proofs.lemmas.Bool.{and_parts, and_from}
+use Rattle.std.specs.Str.{bytes_eq}
 use Rattle.openapi_tables.specs.Lists.{same_text, each, join, only, every}
 
 -- P holds of each element
@@ -121,3 +122,10 @@ every_same p q (x ∷ xs) h = ap (λ b. b && every p xs) h.0 ∙ ap (λ b. q x &
 pub every_behind : {A : Type 0} → (p : A → Bool) (vs ws : List A) → every p (join vs ws) ≡ true → every p ws ≡ true
 every_behind p [] ws h = h
 every_behind p (v ∷ vs) ws h = every_behind p vs ws (and_parts (p v) (every p (join vs ws)) h).1
+
+-- two texts are the same where their bytes are
+pub same_bytes : (a b : List ℕ) → same_text a b ≡ bytes_eq a b
+same_bytes [] [] = refl
+same_bytes [] (y ∷ b) = refl
+same_bytes (x ∷ a) [] = refl
+same_bytes (x ∷ a) (y ∷ b) = ap (λ t. (x == y) && t) (same_bytes a b)

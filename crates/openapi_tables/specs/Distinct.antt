@@ -1,26 +1,10 @@
--- Trees whose objects name no member twice, and forms whose maps hold no key twice.
+-- Forms whose maps hold no key twice.
 use Rattle.std.specs.Prelude.{Bool, true, not, ◌&&◌, List, [], ◌∷◌}
-use Rattle.openapi_tables.specs.Lists.{every, same_text}
-use Rattle.openapi_node.specs.Tree.{Tree}
-use Rattle.openapi_tables.specs.Tree.{Entry, Seen, Shape, a_list, an_object, of_tree}
+use Rattle.openapi_tables.specs.Lists.{every}
+use Rattle.openapi_node.specs.Named.{well_named}
 use Rattle.openapi_tables.specs.Form.{Form, Pair, Face, f_leaf, f_item, f_sequence, f_named, f_deciding, f_fields}
 use Rattle.openapi_tables.specs.Form.{Shown, of_form}
 use Rattle.openapi_tables.specs.Read.{same_key}
-
--- whether no two members have the same name
-abbrev pub names_differ : {X : Type 0} → List (Entry X) → Bool
-names_differ [] = true
-names_differ (e ∷ es) = every (λ d. not (same_text e.name d.name)) es && names_differ es
-
--- whether the members of a root have distinct names, and all inside are well named
-abbrev pub root_well_named : Shape (Seen Bool) → Bool
-root_well_named (a_list xs) = every (λ x. x.answer) xs
-root_well_named (an_object es) = names_differ es && every (λ e. e.value.answer) es
-root_well_named _ = true
-
--- whether each object of a tree, at every depth, has members of distinct names
-abbrev pub well_named : Tree → Bool
-well_named t = of_tree root_well_named t
 
 -- whether no two entries have the same key
 abbrev pub keys_differ : {X : Type 0} → List (Pair X) → Bool

@@ -16,7 +16,8 @@ use Rattle.openapi_tables.specs.Sound.{sound, tables_sound, type_kinds, tables_s
 use Rattle.openapi_tables.specs.Stays.{stays}
 use Rattle.openapi_tables.specs.Proper.{is_written, proper, shaped}
 use Rattle.openapi_tables.specs.Unwritable.{unwritable}
-use Rattle.openapi_tables.specs.Distinct.{well_named, distinct}
+use Rattle.openapi_node.specs.Named.{well_named}
+use Rattle.openapi_tables.specs.Distinct.{distinct}
 use Rattle.openapi_tables.specs.Conforms.{conforms}
 use Rattle.openapi_tables.specs.Faults.{Asking, Cause, asked, causes}
 

@@ -2,6 +2,8 @@
 #![tactic(auto)]
 
 #[cfg(test)]
+mod looks;
+#[cfg(test)]
 mod maps;
 #[cfg(test)]
 mod nodes;

@@ -1,5 +1,6 @@
 //! Maps of few and of many names.
-ghost use Rattle.std.specs.Prelude.{◌≡◌, IfOk, OnTrue, OnFalse, is_some, unwrap_or};
+ghost use Rattle.std.specs.Prelude.{◌≡◌, IfOk, is_some, unwrap_or};
+ghost use Rattle.std.specs.Bool.{OnTrue, OnFalse};
 ghost use Rattle.openapi_map.specs.Entries.{get, insert_entry};
 
 use openapi_map::OrderedMap;

@@ -1,9 +1,7 @@
-//! Tests of maps and nodes: printed texts, worked examples, and each call once with ample memory.
+//! Tests of nodes: printed texts, worked examples, and each call once with ample memory.
 #![tactic(auto)]
 
 #[cfg(test)]
 mod looks;
-#[cfg(test)]
-mod maps;
 #[cfg(test)]
 mod nodes;

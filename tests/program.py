@@ -3,9 +3,9 @@
 
 usage: tests/program.py [PROGRAM]      (with none: the program that `./check` or `./openapi_clean --build` made)
 
-The contracts say what is written for which bytes. What they can't say stands here: what the arguments mean, the exit
-statuses of the whole program, what is said on standard error, and what comes of streams that fail. The last line is
-`N passed, M failed`.
+The contracts say what is written for which bytes, which words are a command, and which status each end of a run has.
+What they can't say stands here: that `main` hands the real arguments and streams on and ends with that status, what is
+said on standard error, and what comes of streams that fail. The last line is `N passed, M failed`.
 """
 import os
 import subprocess

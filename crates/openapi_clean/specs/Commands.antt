@@ -1,5 +1,5 @@
 -- What the words of the command line mean.
-use Rattle.std.specs.Prelude.{◌≡◌, ◌≢◌, ℕ, List, Result, Ok, Err, codes}
+use Rattle.std.specs.Prelude.{◌≡◌, ◌≢◌, ℕ, List, [], ◌∷◌, Option, Some, None, Result, Ok, Err, codes}
 use Rattle.openapi_tables.specs.Kind.{Kind, a_schema, by, tag}
 use Rattle.openapi_clean.specs.declared.command.Command.{Command}
 use Rattle.openapi_clean.specs.declared.command.Command.TheVariants.{Tag, Schema}
@@ -18,6 +18,12 @@ kind_of Schema = a_schema
 abbrev pub IsCommandOf : List ℕ → Result Command (Unit {0}) → Type 0
 IsCommandOf word (Ok c) = word ≡ word_of c
 IsCommandOf word (Err e) = (c : Command) → word ≢ word_of c
+
+-- the words of a command line, of which the first is the name of the program: behind it stands the word of the command
+-- and no other word; or they are the words of no command
+abbrev pub AreWordsOf : List (List ℕ) → Option Command → Type 0
+AreWordsOf words (Some c) = (program : List ℕ) × (words ≡ program ∷ word_of c ∷ [])
+AreWordsOf words None = (c : Command) (program : List ℕ) → words ≢ program ∷ word_of c ∷ []
 
 -- the line for wrong arguments
 abbrev pub usage_line : List ℕ

@@ -1,6 +1,6 @@
 //! The commands of the program.
-ghost use Rattle.std.specs.Prelude.{◌≡◌};
-ghost use Rattle.openapi_clean.specs.Commands.{usage_line};
+ghost use Rattle.std.specs.Prelude.{◌≡◌, map, string_bytes};
+ghost use Rattle.openapi_clean.specs.Commands.{usage_line, AreWordsOf};
 
 use std::str::FromStr;
 
@@ -14,6 +14,17 @@ pub enum Command {
 }
 
 impl Command {
+    /// The command that a command line names, of which the first word is the name of the program: there is one word
+    /// behind that name, and it is the command's. `None` for any other words.
+    pub fn of_words(words: &[String]) -> Option<Command>
+        ensures { AreWordsOf (map string_bytes words.now) result }
+    {
+        match words {
+            [_program, word] => word.as_str().parse::<Command>().ok(),
+            _ => None,
+        }
+    }
+
     /// The line that is shown on standard error for any other arguments, without its end.
     pub fn usage() -> &'static str
         ensures { result.now ≡ usage_line }

@@ -7,6 +7,7 @@
 mod answer;
 mod command;
 mod fault;
+mod outcome;
 mod run;
 #[cfg(test)]
 mod tests;
@@ -14,53 +15,48 @@ mod tests;
 use command::Command;
 use fault::RunFault;
 use openapi_node::Steps;
+use outcome::Outcome;
 use run::run;
 use std::process::ExitCode;
 use std::{env, io};
 
-/// The exit status for wrong arguments.
-const USAGE: u8 = 2;
-
-/// The command that the arguments name: exactly one word, of the commands. `Err` says that memory ran out.
-fn command_of(rt: &HostRuntime) -> Result<Option<Command>, RunFault> {
-    let mut args = match env::args(rt) {
-        Ok(args) => args,
-        Err(error) => {
-            return match error.kind() {
-                io::ErrorKind::OutOfMemory => Err(RunFault::Memory),
-                _ => Ok(None),
-            };
-        }
-    };
-    let _program = args.next();
-    let (Some(word), None) = (args.next(), args.next()) else {
-        return Ok(None);
-    };
-    Ok(word.as_str().parse::<Command>().ok())
+/// The words of the command line, the name of the program first. A word that is not UTF-8 is in no command, and leaves
+/// no words.
+fn words_of(rt: &HostRuntime) -> Result<Vec<String>, RunFault> {
+    let alloc = rt.alloc();
+    match env::args(rt) {
+        Ok(words) => words.collect(alloc).map_err(|_| RunFault::Memory),
+        Err(error) => match error.kind() {
+            io::ErrorKind::OutOfMemory => Err(RunFault::Memory),
+            _ => Ok(Vec::new(alloc)),
+        },
+    }
 }
 
-/// Runs the command on standard input and standard output.
-fn run_on_streams(rt: &HostRuntime, command: Command) -> Result<(), RunFault> {
+/// Runs the command of the words on standard input and standard output.
+fn outcome_of(rt: &HostRuntime) -> Outcome {
+    let words = match words_of(rt) {
+        Ok(words) => words,
+        Err(fault) => return Outcome::Failed(fault),
+    };
+    let Some(command) = Command::of_words(words.as_slice()) else {
+        return Outcome::WrongArguments;
+    };
     let mut steps = Steps::new(rt);
     let mut reader = rt.reader();
     let mut writer = io::writer(rt);
-    run(rt.alloc(), command, &mut reader, &mut writer, &mut steps)
+    match run(rt.alloc(), command, &mut reader, &mut writer, &mut steps) {
+        Ok(()) => Outcome::Written,
+        Err(fault) => Outcome::Failed(fault),
+    }
 }
 
 fn main(rt: HostRuntime) -> io::Result<ExitCode> {
-    let outcome = match command_of(&rt) {
-        Ok(Some(command)) => run_on_streams(&rt, command),
-        Ok(None) => {
-            rt.eprintln(Command::usage())?;
-            return Ok(ExitCode::from(USAGE));
-        }
-        Err(fault) => Err(fault),
-    };
-    match outcome {
-        Ok(()) => Ok(ExitCode::SUCCESS),
-        Err(fault) => {
-            eprintln!(rt; "{fault}")?;
-            Ok(ExitCode::from(fault.status()))
-        }
+    let outcome = outcome_of(&rt);
+    match &outcome {
+        Outcome::Written => {}
+        Outcome::WrongArguments => rt.eprintln(Command::usage())?,
+        Outcome::Failed(fault) => eprintln!(rt; "{fault}")?,
     }
+    Ok(outcome.exit_code())
 }

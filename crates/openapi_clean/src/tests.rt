@@ -1,8 +1,10 @@
 use crate::command::Command;
 use crate::fault::RunFault;
+use crate::outcome::Outcome;
 use crate::run::run;
 use openapi_node::Steps;
 use std::io::{self, Read, Write};
+use std::process::ExitCode;
 use std::test::Fail;
 
 /// A tag with an unknown name, and what it is cleaned to.
@@ -350,4 +352,40 @@ fn words_are_commands(rt: HostRuntime) {
         Command::usage(),
         "usage: openapi_clean tag|schema|document|settle|operations"
     );
+}
+
+// One word behind the name of the program is a command, whatever that name is.
+#[test]
+fn one_word_is_a_command(rt: HostRuntime) -> Result<(), Fail> {
+    let rows: [(&[&str], Option<Command>); 7] = [
+        (&["openapi_clean", "tag"], Some(Command::Tag)),
+        (&["schema", "schema"], Some(Command::Schema)),
+        (&["openapi_clean", "tags"], None),
+        (&["openapi_clean", "tag", "tag"], None),
+        (&["openapi_clean", "tag", ""], None),
+        (&["tag"], None),
+        (&[], None),
+    ];
+    for (words, command) in rows {
+        let mut owned = Vec::new(rt.alloc());
+        for word in words {
+            owned.push(String::from_str(rt.alloc(), word)?)?;
+        }
+        assert_eq!(rt; Command::of_words(owned.as_slice()), command);
+    }
+    Ok(())
+}
+
+#[test]
+fn ends_have_a_status(rt: HostRuntime) -> Result<(), Fail> {
+    let rows = [
+        (Outcome::Written, 0),
+        (Outcome::WrongArguments, 2),
+        (Outcome::Failed(RunFault::NotJson), 2),
+        (Outcome::Failed(RunFault::Read), 3),
+    ];
+    for (outcome, status) in Vec::from_array(rt.alloc(), rows)? {
+        assert!(rt; outcome.exit_code() == ExitCode::from(status));
+    }
+    Ok(())
 }

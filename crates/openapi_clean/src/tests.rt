@@ -14,12 +14,12 @@ const CLEAN_TAG: &[u8] = b"{\"name\":\"a\",\"x-q\":[]}\n";
 
 /// What a run wrote, and its failure: its status and its text.
 #[derive(Drop)]
-struct Outcome {
+struct Ran {
     written: Vec<u8>,
     fault: Option<(u8, String)>,
 }
 
-fn outcome_of(rt: &HostRuntime, command: Command, input: &[u8]) -> Result<Outcome, Fail> {
+fn ran_on(rt: &HostRuntime, command: Command, input: &[u8]) -> Result<Ran, Fail> {
     let mut reader = input;
     let mut written = Vec::new(rt.alloc());
     let mut steps = Steps::new(rt);
@@ -27,7 +27,7 @@ fn outcome_of(rt: &HostRuntime, command: Command, input: &[u8]) -> Result<Outcom
         Ok(()) => None,
         Err(fault) => Some((fault.status(), format!(in rt.alloc(); "{fault}")?)),
     };
-    Ok(Outcome { written, fault })
+    Ok(Ran { written, fault })
 }
 
 #[test]
@@ -53,9 +53,9 @@ fn tags_are_cleaned(rt: HostRuntime) -> Result<(), Fail> {
         ),
     ];
     for (input, line) in rows {
-        let outcome = outcome_of(&rt, Command::Tag, input)?;
-        assert_eq!(rt; outcome.written.as_slice(), line);
-        assert!(rt; outcome.fault.is_none());
+        let ran = ran_on(&rt, Command::Tag, input)?;
+        assert_eq!(rt; ran.written.as_slice(), line);
+        assert!(rt; ran.fault.is_none());
     }
     Ok(())
 }
@@ -173,9 +173,9 @@ fn schemas_are_cleaned(rt: HostRuntime) -> Result<(), Fail> {
 #[test]
 fn beginnings_are_not_json(rt: HostRuntime) -> Result<(), Fail> {
     for end in 0..TAG.len() {
-        let outcome = outcome_of(&rt, Command::Tag, &TAG[..end])?;
-        assert_eq!(rt; outcome.written.len(), 0);
-        let Some((status, _)) = outcome.fault else {
+        let ran = ran_on(&rt, Command::Tag, &TAG[..end])?;
+        assert_eq!(rt; ran.written.len(), 0);
+        let Some((status, _)) = ran.fault else {
             panic!(rt; "read {end} bytes");
         };
         assert_eq!(rt; status, 2);
@@ -201,19 +201,19 @@ fn nested(rt: &HostRuntime, depth: usize) -> Result<Vec<u8>, Fail> {
 #[test]
 fn depth_is_limited(rt: HostRuntime) -> Result<(), Fail> {
     let deepest = nested(&rt, 126)?;
-    let outcome = outcome_of(&rt, Command::Tag, deepest.as_slice())?;
-    assert!(rt; outcome.fault.is_none());
-    assert_eq!(rt; outcome.written.len(), deepest.len() + 1);
-    assert_eq!(rt; &outcome.written[..deepest.len()], deepest.as_slice());
+    let ran = ran_on(&rt, Command::Tag, deepest.as_slice())?;
+    assert!(rt; ran.fault.is_none());
+    assert_eq!(rt; ran.written.len(), deepest.len() + 1);
+    assert_eq!(rt; &ran.written[..deepest.len()], deepest.as_slice());
     Ok(())
 }
 
 #[test]
 fn deeper_text_is_not_json(rt: HostRuntime) -> Result<(), Fail> {
     let deeper = nested(&rt, 127)?;
-    let outcome = outcome_of(&rt, Command::Tag, deeper.as_slice())?;
-    assert_eq!(rt; outcome.written.len(), 0);
-    let Some((status, _)) = outcome.fault else {
+    let ran = ran_on(&rt, Command::Tag, deeper.as_slice())?;
+    assert_eq!(rt; ran.written.len(), 0);
+    let Some((status, _)) = ran.fault else {
         panic!(rt; "read 128 levels");
     };
     assert_eq!(rt; status, 2);

@@ -23,14 +23,20 @@ use std::{env, io};
 /// The words of the command line, the name of the program first. A word that is not UTF-8 is in no command, and leaves
 /// no words.
 fn words_of(rt: &HostRuntime) -> Result<Vec<String>, RunFault> {
-    let alloc = rt.alloc();
+    let mut words = Vec::new(rt.alloc());
     match env::args(rt) {
-        Ok(words) => words.collect(alloc).map_err(|_| RunFault::Memory),
-        Err(error) => match error.kind() {
-            io::ErrorKind::OutOfMemory => Err(RunFault::Memory),
-            _ => Ok(Vec::new(alloc)),
-        },
+        Ok(args) => {
+            for word in args {
+                words.push(word).map_err(|_| RunFault::Memory)?;
+            }
+        }
+        Err(error) => {
+            if error.kind() == io::ErrorKind::OutOfMemory {
+                return Err(RunFault::Memory);
+            }
+        }
     }
+    Ok(words)
 }
 
 /// Runs the command of the words on standard input and standard output.

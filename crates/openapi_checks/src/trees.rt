@@ -97,12 +97,17 @@ fn halves(member: &[u8]) -> Result<(&str, &[u8]), Fail> {
 }
 
 /// An object with these members in this order, each value as JSON text.
-pub fn object(rt: &HostRuntime, members: &[(&str, &str)]) -> Result<Node, Fail> {
+pub fn object(rt: &HostRuntime, given: &[(&str, &str)]) -> Result<Node, Fail> {
+    Ok(Node::object(members(rt, given)?))
+}
+
+/// Members in this order, each value as JSON text.
+pub fn members(rt: &HostRuntime, given: &[(&str, &str)]) -> Result<OrderedMap<Node>, Fail> {
     let mut out = OrderedMap::new(rt.alloc());
-    for (name, value) in members {
+    for (name, value) in given {
         out.insert(name.to_string(rt.alloc())?, tree(rt, value)?)?;
     }
-    Ok(Node::object(out))
+    Ok(out)
 }
 
 /// A tree as text, with the members of each object as they stand. Equality of nodes does not see their order.
@@ -147,6 +152,33 @@ pub fn check_same(rt: &HostRuntime, found: &str, wanted: &str) -> Result<(), Fai
 pub fn check_tree(rt: &HostRuntime, found: &Node, text: &str) -> Result<(), Fail> {
     let wanted = shown(rt, &tree(rt, text)?)?;
     check_same(rt, shown(rt, found)?.as_str(), wanted.as_str())
+}
+
+/// That what was written is the tree of a JSON text, member order included, or was refused with a text.
+pub fn check_written(
+    rt: &HostRuntime,
+    written: Result<Node, Fault>,
+    wanted: Result<&str, &str>,
+) -> Result<(), Fail> {
+    match (written, wanted) {
+        (Ok(node), Ok(text)) => check_tree(rt, &node, text),
+        (Ok(node), Err(fault)) => check_same(rt, shown(rt, &node)?.as_str(), fault),
+        (Err(fault), Ok(text) | Err(text)) => {
+            check_same(rt, fault_text(rt, &fault)?.as_str(), text)
+        }
+    }
+}
+
+/// That what was read is written as a JSON text, member order included, or was refused with a text.
+pub fn check_read<T: ToNode + Drop>(
+    rt: &HostRuntime,
+    read: Result<T, Fault>,
+    wanted: Result<&str, &str>,
+) -> Result<(), Fail> {
+    match read {
+        Ok(value) => check_written(rt, value.to_node(rt.alloc()), wanted),
+        Err(fault) => check_written(rt, Err(fault), wanted),
+    }
 }
 
 /// That a tree is cleaned to another, member order included, or is refused with the text.

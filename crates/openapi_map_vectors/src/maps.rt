@@ -144,6 +144,18 @@ fn gives_names_and_values_in_order(rt: HostRuntime) -> Result<(), Fail> {
 }
 
 #[test]
+fn gives_entries_by_their_place(rt: HostRuntime) -> Result<(), Fail> {
+    let map = sample(rt.alloc())?;
+    let mut text = String::new(*map.allocator());
+    for place in 0..map.len() {
+        let (name, value) = map.entry_at(place);
+        write!(text, "{place}:{name}={value} ")?;
+    }
+    assert_eq!(rt; text.as_str(), "0:b=1 1:a=4 2:c=3 ");
+    Ok(())
+}
+
+#[test]
 fn gives_entries_in_order(rt: HostRuntime) -> Result<(), Fail> {
     let map = sample(rt.alloc())?;
     let mut text = String::new(rt.alloc());

@@ -2,7 +2,7 @@
 
 use openapi_checks::tables::Mode::{Optional, Required};
 use openapi_checks::tables::{EXTENSIONS, Row, check_table};
-use openapi_checks::trees::check_texts;
+use openapi_checks::trees::{check_read, check_texts};
 use openapiv3::{
     AuthorizationCodeOAuth2Flow, ClientCredentialsOAuth2Flow, ImplicitOAuth2Flow, OAuth2Flows,
     PasswordOAuth2Flow,
@@ -104,4 +104,9 @@ fn flows_are_refused_at_their_places(rt: HostRuntime) -> Result<(), Fail> {
         ),
     ];
     check_texts::<OAuth2Flows>(&rt, &rows)
+}
+
+#[test]
+fn new_flows_are_none(rt: HostRuntime) -> Result<(), Fail> {
+    check_read(&rt, Ok(OAuth2Flows::new(rt.alloc())), Ok("{}"))
 }

@@ -2,7 +2,7 @@
 
 use openapi_checks::tables::Mode::{Listed, Nullable, Optional, Required};
 use openapi_checks::tables::{EXTENSIONS, Row, check_table};
-use openapi_checks::trees::check_texts;
+use openapi_checks::trees::{check_read, check_texts};
 use openapiv3::{Discriminator, Server, ServerVariable};
 use std::test::Fail;
 
@@ -86,5 +86,23 @@ fn mappings_keep_their_order(rt: HostRuntime) -> Result<(), Fail> {
                 Ok(r#"{"propertyName":"p"}"#),
             ),
         ],
+    )
+}
+
+// Required texts are empty, and what may be left out is not there.
+#[test]
+fn new_servers_are_empty(rt: HostRuntime) -> Result<(), Fail> {
+    let alloc = rt.alloc();
+    check_read(&rt, Ok(Server::new(alloc)), Ok(r#"{"url":""}"#))?;
+    let variable = ServerVariable::new(alloc);
+    check_read(
+        &rt,
+        Ok(variable),
+        Ok(r#"{"default":"","description":null}"#),
+    )?;
+    check_read(
+        &rt,
+        Ok(Discriminator::new(alloc)),
+        Ok(r#"{"propertyName":""}"#),
     )
 }

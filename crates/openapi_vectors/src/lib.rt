@@ -14,6 +14,8 @@ mod metadata;
 #[cfg(test)]
 mod readme;
 #[cfg(test)]
+mod readme_tests;
+#[cfg(test)]
 mod records;
 #[cfg(test)]
 mod references;

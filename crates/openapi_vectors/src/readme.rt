@@ -1,45 +1,35 @@
-//! The example of the README, as it stands there.
+//! The example of the README, word for word: `tests/readme.py` compares the two.
 
-use openapiv3::{Fault, FromNode, Node, OrderedMap, Steps, Tag, ToNode};
-use std::alloc::Global;
-use std::test::Fail;
+use openapiv3::{Fault, FromNode, Node, Schema, SchemaKind, Steps, Type};
+use serde_json::Value;
+use std::alloc::{AllocError, Global};
 
-/// The tag that a tree holds, written again: unknown names are gone, and members stand in the order of the Tag Object.
-fn cleaned(alloc: Global, tree: &Node, steps: &mut Steps) -> Result<Node, Fault> {
-    let tag = Tag::from_node(alloc, tree, steps)?;
-    tag.to_node(alloc)
+/// Why bytes were not read as a schema.
+#[derive(Debug, Drop)]
+pub enum ReadError {
+    /// They are no JSON, or memory ran out.
+    Json(serde_json::Error),
+    /// They are JSON and no Schema Object, or a number in them is not whole, or memory ran out. The fault tells which,
+    /// and where.
+    Refused(Fault),
 }
 
-// {"wat":null,"name":"pets"}
-fn tag_tree(alloc: Global) -> Result<Node, Fail> {
-    let mut members = OrderedMap::new(alloc);
-    members.insert("wat".to_string(alloc)?, Node::null())?;
-    members.insert(
-        "name".to_string(alloc)?,
-        Node::text("pets".to_string(alloc)?),
-    )?;
-    Ok(Node::object(members))
+/// The schema that bytes hold as JSON.
+pub fn read_schema(alloc: Global, bytes: &[u8], steps: &mut Steps) -> Result<Schema, ReadError> {
+    let value = Value::from_slice(alloc, bytes).map_err(ReadError::Json)?;
+    let tree = Node::from_value(alloc, &value).map_err(ReadError::Refused)?;
+    Schema::from_node(alloc, &tree, steps).map_err(ReadError::Refused)
 }
 
-#[test]
-fn readme_example_cleans_a_tag(rt: HostRuntime) -> Result<(), Fail> {
-    let tree = tag_tree(rt.alloc())?;
-    let mut steps = Steps::new(&rt);
-    let node = cleaned(rt.alloc(), &tree, &mut steps)?;
-    let text = node
-        .to_value(rt.alloc(), &mut steps)?
-        .to_string(rt.alloc())?;
-    assert_eq!(rt; text.as_str(), "{\"name\":\"pets\"}");
-    Ok(())
-}
-
-#[test]
-fn readme_example_refuses_what_is_no_tag(rt: HostRuntime) -> Result<(), Fail> {
-    let mut steps = Steps::new(&rt);
-    let Err(fault) = cleaned(rt.alloc(), &Node::null(), &mut steps) else {
-        panic!(rt; "null is no tag");
-    };
-    let text = format!(in rt.alloc(); "{fault}")?;
-    assert_eq!(rt; text.as_str(), "invalid type, expected object at #");
-    Ok(())
+/// The required names of which the schema declares no property, in their order.
+pub fn undeclared(alloc: Global, schema: &Schema) -> Result<Vec<&str>, AllocError> {
+    let mut names = Vec::new(alloc);
+    if let SchemaKind::Typed(Type::Object(object)) = &schema.schema_kind {
+        for name in object.required.iter() {
+            if !object.properties.contains_key(name.as_str()) {
+                names.push(name.as_str())?;
+            }
+        }
+    }
+    Ok(names)
 }

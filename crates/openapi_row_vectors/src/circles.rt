@@ -1,6 +1,6 @@
 //! The tools of types that hold one another.
 use crate::writing::no_members;
-use openapi_checks::trees::{check_read, check_same, check_written, fault_text, tree};
+use openapi_checks::trees::{check_read, check_written, tree};
 use openapi_knots::{
     append, as_some, in_inner_box, in_outer_box, only_row, put_row, put_written, record_rows,
 };

@@ -1,31 +1,15 @@
-//! Tests of objects: their tables, written out once more apart from the definitions, and worked examples.
+//! Tests of what users name at the root of `openapiv3`: aliases, references, words and codes, and the example of the README.
 #![tactic(auto)]
 
 #[cfg(test)]
 mod aliases;
 #[cfg(test)]
-mod flows;
-#[cfg(test)]
-mod info;
-#[cfg(test)]
-mod links;
-#[cfg(test)]
-mod metadata;
-#[cfg(test)]
 mod readme;
 #[cfg(test)]
 mod readme_tests;
 #[cfg(test)]
-mod records;
-#[cfg(test)]
 mod references;
-#[cfg(test)]
-mod security;
-#[cfg(test)]
-mod servers;
 #[cfg(test)]
 mod values;
 #[cfg(test)]
 mod words;
-#[cfg(test)]
-mod xml;

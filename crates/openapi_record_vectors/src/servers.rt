@@ -1,9 +1,10 @@
 //! Servers, and the names that tell schemas apart.
 
+use openapi_annotations::Discriminator;
 use openapi_checks::tables::Mode::{Listed, Nullable, Optional, Required};
 use openapi_checks::tables::{EXTENSIONS, Row, check_table};
 use openapi_checks::trees::{check_read, check_texts};
-use openapiv3::{Discriminator, Server, ServerVariable};
+use openapi_records::{Server, ServerVariable};
 use std::test::Fail;
 
 /// Server Object.

@@ -3,7 +3,7 @@
 use openapi_checks::tables::Mode::{Either, Listed, Optional};
 use openapi_checks::tables::{EXTENSIONS, Row, check_table};
 use openapi_checks::trees::check_texts;
-use openapiv3::{Link, LinkOperation};
+use openapi_records::{Link, LinkOperation};
 use std::test::Fail;
 
 /// Link Object.

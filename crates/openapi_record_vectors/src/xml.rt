@@ -1,9 +1,10 @@
 //! How properties are written in XML.
 
+use openapi_annotations::Xml;
 use openapi_checks::tables::Mode::{Flag, Optional};
 use openapi_checks::tables::{EXTENSIONS, Row, check_table};
 use openapi_checks::trees::{check_texts, write_refusal};
-use openapiv3::{Node, Xml};
+use openapi_node::Node;
 use std::test::Fail;
 
 /// XML Object.

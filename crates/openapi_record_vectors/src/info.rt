@@ -3,7 +3,8 @@
 use openapi_checks::tables::Mode::{Optional, Required};
 use openapi_checks::tables::{EXTENSIONS, Row, check_table};
 use openapi_checks::trees::{check_texts, check_tree};
-use openapiv3::{Contact, Example, Info, License, ToNode};
+use openapi_records::{Contact, Example, Info, License};
+use openapi_rows::ToNode;
 use std::test::Fail;
 
 /// Info Object.

@@ -1,8 +1,8 @@
 //! Each object read and written by its table, and the names that are not writable.
-use openapiv3::{
-    Cause, Contact, Discriminator, Example, ExternalDocumentation, Fault, FromNode, Info, License,
-    Node, Server, ServerVariable, Steps, Tag, ToNode, View, Xml,
-};
+use openapi_annotations::{Discriminator, ExternalDocumentation, Xml};
+use openapi_node::{Cause, Fault, Node, Steps, View};
+use openapi_records::{Contact, Example, Info, License, Server, ServerVariable, Tag};
+use openapi_rows::{FromNode, ToNode};
 use serde_json::Value;
 use std::alloc::Global;
 use std::test::Fail;

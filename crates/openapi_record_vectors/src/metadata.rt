@@ -1,9 +1,12 @@
 //! Tags and external documentation.
 
+use openapi_annotations::ExternalDocumentation;
 use openapi_checks::tables::Mode::{Optional, Required};
 use openapi_checks::tables::{EXTENSIONS, Row, check_table};
 use openapi_checks::trees::{check_texts, check_tree, write_refusal};
-use openapiv3::{ExternalDocumentation, Node, Tag, ToNode};
+use openapi_node::Node;
+use openapi_records::Tag;
+use openapi_rows::ToNode;
 use std::test::Fail;
 
 /// Tag Object.

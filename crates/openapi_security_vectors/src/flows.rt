@@ -3,7 +3,7 @@
 use openapi_checks::tables::Mode::{Optional, Required};
 use openapi_checks::tables::{EXTENSIONS, Row, check_table};
 use openapi_checks::trees::{check_read, check_texts};
-use openapiv3::{
+use openapi_security::{
     AuthorizationCodeOAuth2Flow, ClientCredentialsOAuth2Flow, ImplicitOAuth2Flow, OAuth2Flows,
     PasswordOAuth2Flow,
 };

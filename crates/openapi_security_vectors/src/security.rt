@@ -3,7 +3,7 @@
 use openapi_checks::tables::Mode::{OneOf, Optional, Required};
 use openapi_checks::tables::{EXTENSIONS, Row, check_table};
 use openapi_checks::trees::check_texts;
-use openapiv3::SecurityScheme;
+use openapi_security::SecurityScheme;
 use std::test::Fail;
 
 /// Security Scheme Object, of an API key.

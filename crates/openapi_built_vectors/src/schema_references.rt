@@ -1,8 +1,8 @@
 //! Schemas and references to them, in a box and without one.
 
-use openapi_checks::trees::{check_cleaned, check_same, check_tree, fault_text, tree};
+use openapi_checks::trees::{check_cleaned, check_fault, check_tree, tree};
 use openapiv3::{
-    AnySchema, Fault, Node, OrderedMap, ReferenceOr, Schema, SchemaData, SchemaKind, Steps,
+    AnySchema, Node, OrderedMap, ReferenceOr, Schema, SchemaData, SchemaKind, Steps,
     boxed_schema_ref_from_node, boxed_schema_ref_to_node, schema_ref_from_node, schema_ref_to_node,
 };
 use serde_json::Value;
@@ -71,18 +71,6 @@ fn arrays(rt: &HostRuntime, levels: usize, items: &str) -> Result<Node, Fail> {
         node = Node::object(members);
     }
     Ok(node)
-}
-
-/// That a fault prints as a text.
-fn check_fault<T: Drop>(
-    rt: &HostRuntime,
-    answer: Result<T, Fault>,
-    wanted: &str,
-) -> Result<(), Fail> {
-    match answer {
-        Ok(_) => Err(Fail::from("no fault")),
-        Err(fault) => check_same(rt, fault_text(rt, &fault)?.as_str(), wanted),
-    }
 }
 
 #[test]

@@ -132,6 +132,18 @@ pub fn fault_text(rt: &HostRuntime, fault: &Fault) -> Result<String, Fail> {
     Ok(format!(in rt.alloc(); "{fault}")?)
 }
 
+/// That an answer is a fault that prints as a text.
+pub fn check_fault<T: Drop>(
+    rt: &HostRuntime,
+    answer: Result<T, Fault>,
+    wanted: &str,
+) -> Result<(), Fail> {
+    match answer {
+        Ok(_) => Err(Fail::from("no fault")),
+        Err(fault) => check_same(rt, fault_text(rt, &fault)?.as_str(), wanted),
+    }
+}
+
 /// The text of the fault that refuses to write a value, or `written`.
 pub fn write_refusal<T: ToNode>(rt: &HostRuntime, value: &T) -> Result<String, Fail> {
     match value.to_node(rt.alloc()) {

@@ -124,14 +124,16 @@ fn new_objects_are_empty(rt: HostRuntime) -> Result<(), Fail> {
     check_tree(&rt, &docs, r#"{"url":""}"#)
 }
 
+/// Whether tags with extensions of these names are equal.
+fn are_equal(rt: &HostRuntime, one: &[&str], other: &[&str]) -> Result<bool, Fail> {
+    Ok(extended(rt, one)? == extended(rt, other)?)
+}
+
 // Extensions that differ in their order alone are equal, as maps are.
 #[test]
 fn equality_ignores_the_order_of_extensions(rt: HostRuntime) -> Result<(), Fail> {
-    let one = extended(&rt, &["x-a"])?;
-    assert!(rt; one == extended(&rt, &["x-a"])?);
-    let two = extended(&rt, &["x-a", "x-b"])?;
-    assert!(rt; one != two);
-    let turned = extended(&rt, &["x-b", "x-a"])?;
-    assert!(rt; two == turned);
+    assert!(rt; are_equal(&rt, &["x-a"], &["x-a"])?);
+    assert!(rt; !are_equal(&rt, &["x-a"], &["x-a", "x-b"])?);
+    assert!(rt; are_equal(&rt, &["x-a", "x-b"], &["x-b", "x-a"])?);
     Ok(())
 }

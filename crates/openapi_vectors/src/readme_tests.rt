@@ -1,37 +1,48 @@
 //! What the example of the README does.
 use crate::readme::{ReadError, read_schema, undeclared};
-use openapiv3::Steps;
+use openapi_checks::trees::{check_same, fault_text};
+use openapiv3::{Schema, Steps};
 use std::test::Fail;
 
 // `required` names a property that is there and two that are not; unknown names are ignored.
 const SCHEMA: &[u8] =
     br#"{"type":"object","wat":1,"required":["c","a","b"],"properties":{"a":{"type":"string"}}}"#;
 
-#[test]
-fn readme_example_finds_undeclared_names(rt: HostRuntime) -> Result<(), Fail> {
-    let mut steps = Steps::new(&rt);
-    let Ok(schema) = read_schema(rt.alloc(), SCHEMA, &mut steps) else {
-        return Err(Fail::from("a schema is refused"));
-    };
-    let names = undeclared(rt.alloc(), &schema)?;
-    assert_eq!(rt; names.as_slice(), ["c", "b"].as_slice());
+/// That a schema requires names that it does not declare.
+fn check_undeclared(rt: &HostRuntime, schema: &Schema, wanted: &[&str]) -> Result<(), Fail> {
+    let names = undeclared(rt.alloc(), schema)?;
+    if names.as_slice() != wanted {
+        return Err(Fail::from("other names"));
+    }
     Ok(())
 }
 
 #[test]
-fn readme_example_refuses_what_is_no_schema(rt: HostRuntime) -> Result<(), Fail> {
+fn readme_example_finds_undeclared_names(rt: HostRuntime) -> Result<(), Fail> {
     let mut steps = Steps::new(&rt);
-    let Err(ReadError::Refused(fault)) = read_schema(rt.alloc(), b"{\"items\":5}", &mut steps)
-    else {
-        return Err(Fail::from("it is read"));
-    };
-    let text = format!(in rt.alloc(); "{fault}")?;
-    assert_eq!(rt; text.as_str(), "invalid type, expected object at #/items");
-    assert!(rt;
-        matches!(
-            read_schema(rt.alloc(), b"{", &mut steps),
-            Err(ReadError::Json(_))
-        )
-    );
-    Ok(())
+    match read_schema(rt.alloc(), SCHEMA, &mut steps) {
+        Ok(schema) => check_undeclared(&rt, &schema, ["c", "b"].as_slice()),
+        Err(_) => Err(Fail::from("a schema is refused")),
+    }
+}
+
+/// The text of the fault that refuses bytes, or what else came of them.
+fn refusal(rt: &HostRuntime, bytes: &[u8]) -> Result<String, Fail> {
+    let mut steps = Steps::new(rt);
+    match read_schema(rt.alloc(), bytes, &mut steps) {
+        Ok(_) => Ok(String::from_str(rt.alloc(), "read")?),
+        Err(ReadError::Json(_)) => Ok(String::from_str(rt.alloc(), "no JSON")?),
+        Err(ReadError::Refused(fault)) => fault_text(rt, &fault),
+    }
+}
+
+#[test]
+fn readme_example_refuses_what_is_no_schema(rt: HostRuntime) -> Result<(), Fail> {
+    let text = refusal(&rt, b"{\"items\":5}")?;
+    check_same(
+        &rt,
+        text.as_str(),
+        "invalid type, expected object at #/items",
+    )?;
+    check_same(&rt, refusal(&rt, b"{")?.as_str(), "no JSON")
 }

@@ -11,6 +11,8 @@ mod metadata;
 #[cfg(test)]
 mod records;
 #[cfg(test)]
+mod references;
+#[cfg(test)]
 mod servers;
 #[cfg(test)]
 mod xml;

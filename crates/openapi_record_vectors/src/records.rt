@@ -154,7 +154,7 @@ fn extensions_of_a_tag(rt: HostRuntime) -> Result<(), Fail> {
 }
 
 #[test]
-fn records(rt: HostRuntime) -> Result<(), Fail> {
+fn records_of_metadata(rt: HostRuntime) -> Result<(), Fail> {
     let alloc = rt.alloc();
     let mut steps = Steps::new(&rt);
     let info =
@@ -171,6 +171,23 @@ fn records(rt: HostRuntime) -> Result<(), Fail> {
     cleaned::<Contact>(alloc, &mut steps, r#"{"name":null}"#, "{}", "")?;
     let license = r#"{"name":"n","url":"u"}"#;
     cleaned::<License>(alloc, &mut steps, license, license, "name url ")?;
+    let example =
+        r#"{"description":"d","externalValue":"e","summary":"s","value":{"a":[null],"b":1}}"#;
+    cleaned::<Example>(
+        alloc,
+        &mut steps,
+        example,
+        example,
+        "summary description value externalValue ",
+    )?;
+    cleaned::<Example>(alloc, &mut steps, r#"{"value":null}"#, "{}", "")?;
+    Ok(())
+}
+
+#[test]
+fn records_of_servers(rt: HostRuntime) -> Result<(), Fail> {
+    let alloc = rt.alloc();
+    let mut steps = Steps::new(&rt);
     let variable = r#"{"default":"d","description":"a","enum":["d","e"]}"#;
     cleaned::<ServerVariable>(
         alloc,
@@ -205,6 +222,13 @@ fn records(rt: HostRuntime) -> Result<(), Fail> {
         r#"{"url":"u"}"#,
         "url ",
     )?;
+    Ok(())
+}
+
+#[test]
+fn records_that_describe_schemas(rt: HostRuntime) -> Result<(), Fail> {
+    let alloc = rt.alloc();
+    let mut steps = Steps::new(&rt);
     let discriminator = r#"{"mapping":{"b":"1"},"propertyName":"p"}"#;
     cleaned::<Discriminator>(
         alloc,
@@ -236,16 +260,6 @@ fn records(rt: HostRuntime) -> Result<(), Fail> {
         "{}",
         "",
     )?;
-    let example =
-        r#"{"description":"d","externalValue":"e","summary":"s","value":{"a":[null],"b":1}}"#;
-    cleaned::<Example>(
-        alloc,
-        &mut steps,
-        example,
-        example,
-        "summary description value externalValue ",
-    )?;
-    cleaned::<Example>(alloc, &mut steps, r#"{"value":null}"#, "{}", "")?;
     Ok(())
 }
 
@@ -288,6 +302,13 @@ fn refusals_of_records(rt: HostRuntime) -> Result<(), Fail> {
         r#"{"summary":5}"#,
         "invalid type, expected text at #/summary",
     )?;
+    Ok(())
+}
+
+#[test]
+fn new_infos_have_their_required_names(rt: HostRuntime) -> Result<(), Fail> {
+    let alloc = rt.alloc();
+    let mut steps = Steps::new(&rt);
     let written = Info::new(alloc)
         .to_node(alloc)?
         .to_value(alloc, &mut steps)?

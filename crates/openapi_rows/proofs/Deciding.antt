@@ -19,14 +19,15 @@ use Rattle.openapi_tables.specs.Faults.{missing_either, misses, row_misses, root
 use Rattle.openapi_tables.specs.Laws.{Among}
 use Rattle.openapi_tables.specs.ByRow.{row_where, is_named, rows_asked, row_conforms, row_form, row_weight, weight}
 use Rattle.openapi_tables.specs.ByRow.{RowGives, Broken, StepsTo, asking}
-use Rattle.openapi_tables.proofs.ListLaws.{same_text_eq}
+use Rattle.openapi_tables.proofs.ListLaws.{same_text_eq, same_text-refl}
 use Rattle.openapi_tables.proofs.TreeLaws.{see}
 use Rattle.openapi_tables.proofs.ByRowLaws.{entry, own-members, broken_root, among_flat, among_below, rows_ask}
 use Rattle.openapi_tables.proofs.SlotWriting.{is_new, one_put, slot_loses, below_each}
+use Rattle.openapi_rows.specs.Decided.{Decides}
 use Rattle.openapi_rows.specs.Entries.{chosen}
 use Rattle.openapi_rows.specs.Forms.{is_either}
-use Rattle.openapi_rows.specs.Gives.{Fails, FailsBelow, Reads, Loses, LosesBelow, is_by}
-use Rattle.openapi_rows.proofs.Below.{fails_above}
+use Rattle.openapi_rows.specs.Gives.{AtStep, Fails, FailsBelow, Gives, GivesRow, Reads, Loses, LosesBelow, is_by}
+use Rattle.openapi_rows.proofs.Below.{fails_above, step_ok, step_err}
 use Rattle.openapi_rows.proofs.Losing.{loses_above}
 use Rattle.openapi_rows.proofs.Records.{table_of}
 
@@ -155,6 +156,28 @@ module _ (a : List ℕ) (j : Kind) (b : List ℕ) (k : Kind) where
       (subst (λ l. Among (missing_either a b) (misses (either a j b k) l))
       (sym (own_chosen es
       ∙ ap (each (λ e. entry e.0 e.1)) (no_first (chosen (is_either a b) es) none))) (inl refl)))) at
+
+-- what was read under the name that decides, as it is seen from the object
+module _ (o : Kind) (a : List ℕ) (j : Kind) (b : List ℕ) (k : Kind) (es : Entries Tree)
+    (in_table : row_where (is_named a) (rows_asked final_tables o) ≡ Some (either a j b k)) where
+  module _ (n : List ℕ) (u : Tree) (at : Decides a b n es u) (l : Kind) (is : cond (same_text a n) j k ≡ l)
+      {X : Type 0} (view : X → Form) where
+    decided_read : (r s : Result X Fault) → AtStep (named n) r s → Gives view r l u
+        → GivesRow (λ x. deciding n (view x)) s o (either a j b k) (members_of es)
+    decided_read r (Ok y) up h =
+        decided_gives a j b k n u es at l is view y (step_ok view (named n) l u r y up h)
+    decided_read r (Err f) up h =
+        decided_fails a j b k n u es at l is o in_table f (step_err view (named n) l u r f up h)
+
+  pub first_read : (u : Tree) → Decides a b a es u → {X : Type 0} (view : X → Form) (r s : Result X Fault)
+      → AtStep (named a) r s → Gives view r j u
+      → GivesRow (λ x. deciding a (view x)) s o (either a j b k) (members_of es)
+  first_read u at view r s up h = decided_read a u at j (is_first a j b k a (same_text-refl a)) view r s up h
+
+  pub second_read : (u : Tree) → Decides a b b es u → same_text a b ≡ false → {X : Type 0} (view : X → Form)
+      (r s : Result X Fault) → AtStep (named b) r s → Gives view r k u
+      → GivesRow (λ x. deciding b (view x)) s o (either a j b k) (members_of es)
+  second_read u at other view r s up h = decided_read b u at k (is_second a j b k b other) view r s up h
 
 -- the member of the name that decides, written behind the members that are there
 module _ (ss : List Slot) (a : List ℕ) (j : Kind) (b : List ℕ) (k : Kind) (n : List ℕ) (f : Form)

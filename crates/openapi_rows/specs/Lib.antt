@@ -3,3 +3,4 @@ pub mod Gives
 pub mod Entries
 pub mod References
 pub mod Presence
+pub mod Decided

@@ -10,6 +10,7 @@ ghost use Rattle.openapi_tables.specs.Kind as kinds;
 ghost use Rattle.openapi_tables.specs.Lists.{same_text};
 ghost use Rattle.openapi_tables.specs.Slots.{slot_where, before, through, slots_lost, IsWritten};
 ghost use Rattle.openapi_tables.specs.Tables.{final_tables};
+ghost use Rattle.openapi_rows.specs.Decided.{GivesDecider};
 ghost use Rattle.openapi_rows.specs.Entries.{chosen};
 ghost use Rattle.openapi_rows.specs.Forms.{is_either, either_form};
 ghost use Rattle.openapi_rows.specs.Gives.{GivesRow, Loses, is_by};
@@ -62,6 +63,26 @@ fn first_of_two<'a>(
     None
 }
 
+/// What stands under the one of two names that decides: the first of the members that have one of them. Err where there
+/// is none.
+pub fn decider<'a>(
+    alloc: Global,
+    members: &'a OrderedMap<Node>,
+    first: &'static str,
+    second: &'static str,
+) -> Result<Either<&'a Node, &'a Node>, Fault>
+    ensures { GivesDecider first.entry.now second.entry.now result members.now }
+{
+    let Some((name, node)) = first_of_two(members, first, second) else {
+        return Err(Fault::new(alloc, Cause::MissingEither(first, second)));
+    };
+    if is_same(first, name) {
+        Ok(Either::First(node))
+    } else {
+        Ok(Either::Second(node))
+    }
+}
+
 /// A member that has one of two names, of which one has to be there. Where both are there, the one that stands first
 /// decides, and the other one is not looked at.
 pub fn decided<R: Object, A: FromNode, B: FromNode>(
@@ -80,19 +101,16 @@ pub fn decided<R: Object, A: FromNode, B: FromNode>(
     ensures count { steps.new ≤ steps.old
         + 3 * row_weight (kinds.either first.entry.now A.kind second.entry.now B.kind) (members_of members.now) }
 {
-    let Some((name, node)) = first_of_two(members, first, second) else {
-        return Err(Fault::new(alloc, Cause::MissingEither(first, second)));
-    };
-    if is_same(first, name) {
-        match at_name(alloc, name, A::from_node(alloc, node, steps)) {
+    match decider(alloc, members, first, second) {
+        Ok(Either::First(node)) => match at_name(alloc, first, A::from_node(alloc, node, steps)) {
             Ok(value) => Ok(Either::First(value)),
             Err(fault) => Err(fault),
-        }
-    } else {
-        match at_name(alloc, name, B::from_node(alloc, node, steps)) {
+        },
+        Ok(Either::Second(node)) => match at_name(alloc, second, B::from_node(alloc, node, steps)) {
             Ok(value) => Ok(Either::Second(value)),
             Err(fault) => Err(fault),
-        }
+        },
+        Err(fault) => Err(fault),
     }
 }
 

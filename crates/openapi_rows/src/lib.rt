@@ -27,7 +27,7 @@ mod to_node;
 mod words;
 
 pub use classes::{class_entries, extensions, put_class, put_extensions};
-pub use either::{Either, decided, put_first, put_second};
+pub use either::{Either, decided, decider, put_first, put_second};
 pub use entries::{put_entries, read_entries};
 pub use from_node::FromNode;
 pub use implied::{Implied, or_implied, put_implied};

@@ -1,5 +1,6 @@
 pub mod Appending
 pub mod CloneForms
+pub mod EntryReading
 pub mod FormSizes
 pub mod JoinedRows
 pub mod JoinedSlots

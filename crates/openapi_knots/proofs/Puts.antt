@@ -1,5 +1,5 @@
 -- Members that are put, by what was written of their values.
-use Rattle.std.proofs.Common.{◌≡◌, ℕ, cond, List, [], ◌∷◌, ◌++◌, Result, Ok, Err, OnOk, IfErr, Some, None}
+use Rattle.std.proofs.Common.{◌≡◌, ℕ, true, cond, List, [], ◌∷◌, ◌++◌, Result, Ok, Err, OnOk, IfErr, Some, None}
 use Rattle.std.proofs.Common.{refl, sym, ap, ◌∙◌, subst}
 use Rattle.openapi_map.specs.Entries.{Entries}
 use Rattle.openapi_node.specs.Fault.{IsMemory, GoesUp}
@@ -7,15 +7,18 @@ use Rattle.openapi_node.specs.Place.{named}
 use Rattle.openapi_node.specs.Tree.{Tree}
 use Rattle.openapi_node.specs.declared.fault.Fault.{Fault}
 use Rattle.openapi_node.specs.declared.node.Node.{Node}
-use Rattle.openapi_tables.specs.Kind.{Kind, Mode, required, row}
+use Rattle.openapi_tables.specs.Kind.{Kind, Mode, either, required, row}
+use Rattle.openapi_tables.specs.Lists.{same_text}
 use Rattle.openapi_tables.specs.Tables.{final_tables}
-use Rattle.openapi_tables.specs.Form.{Form}
+use Rattle.openapi_tables.specs.Form.{Form, deciding}
 use Rattle.openapi_tables.specs.ByRow.{is_named}
 use Rattle.openapi_tables.specs.Unwritable.{unwritable}
 use Rattle.openapi_tables.specs.Slots.{Slot, slot_where, before, through, slots_lost, IsWritten}
 use Rattle.openapi_tables.proofs.ListLaws.{same_text-refl}
 use Rattle.openapi_tables.proofs.SlotWriting.{none_written, row_put, row_silent}
+use Rattle.openapi_rows.specs.Forms.{is_either}
 use Rattle.openapi_rows.specs.Gives.{Loses, WrittenAs}
+use Rattle.openapi_rows.proofs.Deciding.{decided_loses, decided_put}
 use Rattle.openapi_rows.proofs.Losing.{below, silent_lost, value_loses}
 use Rattle.openapi_knots.specs.Writing.{GivesWritten, PutAs}
 
@@ -70,3 +73,19 @@ module _ (ss : List Slot) (n : List ℕ) (m : Mode) (k : Kind) (f : Form)
   pub row_lost_below : (e g : Fault) → GivesWritten m k f (Err e) → GoesUp (named n) e g
       → Loses g (slots_lost final_tables ss)
   row_lost_below e g h up = value_loses ss n m k f at out done {A = Unit {0}} (Err g) (e, up, h)
+
+-- the member of the one of two names that decides
+module _ (ss : List Slot) (a : List ℕ) (j : Kind) (b : List ℕ) (k : Kind) (n : List ℕ) (f : Form)
+    (at : slot_where (is_named a) ss ≡ Some (either a j b k, deciding n f)) (out : Entries Tree)
+    (done : IsWritten final_tables (before (is_named a) ss) out) (of_two : is_either a b n ≡ true) where
+  pub decided_as : (r : Result (Unit {0}) Fault) (new : Entries Tree)
+      → PutAs (cond (same_text a n) j k) f n r out new → OnOk r (IsWritten final_tables (through (is_named a) ss) new)
+  decided_as (Ok u) new h =
+      decided_put ss a j b k n f at out done of_two (cond (same_text a n) j k) refl {A = Unit {0}} (Ok u) new h.0 h.1
+  decided_as (Err g) new h = tt
+
+  pub decided_lost : (r : Result (Unit {0}) Fault) (new : Entries Tree)
+      → PutAs (cond (same_text a n) j k) f n r out new → IfErr r (λ g. Loses g (slots_lost final_tables ss))
+  decided_lost (Ok u) new h = tt
+  decided_lost (Err g) new h =
+      decided_loses ss a j b k n f at out done of_two (cond (same_text a n) j k) refl {A = Unit {0}} (Err g) h

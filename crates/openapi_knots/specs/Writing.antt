@@ -1,18 +1,20 @@
 -- What the writers of a circle return, beside what the tables say.
-use Rattle.std.specs.Prelude.{◌≡◌, ℕ, true, false, List, [], ◌∷◌, ◌++◌, Option, Some, None, Result, Ok, Err, slice_get}
+use Rattle.std.specs.Prelude.{◌≡◌, ℕ, true, false, cond, List, [], ◌∷◌, ◌++◌, Option, Some, None, Result, Ok, Err, slice_get}
 use Rattle.openapi_map.specs.Entries.{Entries, get}
 use Rattle.openapi_node.specs.Place.{named}
 use Rattle.openapi_node.specs.Tree.{Tree}
 use Rattle.openapi_node.specs.declared.fault.Fault.{Fault}
 use Rattle.openapi_node.specs.declared.node.Node.{Node}
-use Rattle.openapi_tables.specs.Kind.{Kind, Mode, row}
+use Rattle.openapi_tables.specs.Kind.{Kind, Mode, row, either}
+use Rattle.openapi_tables.specs.Lists.{same_text}
 use Rattle.openapi_tables.specs.Tables.{final_tables}
-use Rattle.openapi_tables.specs.Form.{Form}
+use Rattle.openapi_tables.specs.Form.{Form, deciding}
 use Rattle.openapi_tables.specs.ByRow.{is_named}
 use Rattle.openapi_tables.specs.Print.{print, is_silent}
 use Rattle.openapi_tables.specs.Unwritable.{unwritable}
 use Rattle.openapi_tables.specs.Slots.{Slot, slot_where, slots_lost, IsWritten}
-use Rattle.openapi_rows.specs.Gives.{Loses, LosesBelow}
+use Rattle.openapi_rows.specs.Forms.{is_either}
+use Rattle.openapi_rows.specs.Gives.{Loses, LosesBelow, WrittenAs}
 
 -- members that slots were written as, or a refusal of one of these
 abbrev pub RowsWritten : List Slot → Result (Entries Tree) Fault → Type 0
@@ -42,3 +44,13 @@ pub record HoldsWritten (n : List ℕ) (ss : List Slot) (w : Result (Option Node
   pub form : Form
   pub at : slot_where (is_named n) ss ≡ Some (row n mode kind, form)
   pub is : GivesWritten mode kind form w
+
+-- It was written of the value under the one of two names, the first of which is given, that decides among slots.
+pub record HoldsDecided (a n : List ℕ) (ss : List Slot) (w : Result Node Fault) : Type 0 where
+  pub first : Kind
+  pub other : List ℕ
+  pub second : Kind
+  pub form : Form
+  pub at : slot_where (is_named a) ss ≡ Some (either a first other second, deciding n form)
+  pub of_two : is_either a other n ≡ true
+  pub is : WrittenAs (cond (same_text a n) first second) form w

@@ -1,9 +1,13 @@
 #![tactic(auto)]
 //! The tools of a circle: of types that hold one another, whose readers and writers call each other. The functions of a
 //! circle have no type parameters. These stand outside it, and serve every circle: members that are put row by row, by
-//! what was written of their values, and values that are put into boxes.
+//! what was written of their values, values that are put into boxes, and objects and maps that are read entry by entry.
 mod boxes;
 mod members;
+mod objects;
 
 pub use boxes::{in_inner_box, in_outer_box};
-pub use members::{append, as_some, only_row, put_row, put_written, record_rows};
+pub use members::{
+    append, as_some, only_row, put_decided, put_row, put_written, record_rows, whole_object,
+};
+pub use objects::{members_shown, put_read};

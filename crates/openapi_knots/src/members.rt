@@ -1,16 +1,17 @@
 //! Members that are put one after another, by what was written of their values.
-ghost use Rattle.std.specs.Prelude.{◌≡◌, [], ◌++◌, ◌∷◌, None, false, OnOk, IfErr};
+ghost use Rattle.std.specs.Prelude.{◌≡◌, List, [], ◌++◌, ◌∷◌, None, false, OnOk, IfErr};
 ghost use Rattle.openapi_map.specs.Entries.{get};
 ghost use Rattle.openapi_node.specs.Fault.{IsMemory};
 ghost use Rattle.openapi_tables.specs.ByRow.{is_named};
-ghost use Rattle.openapi_tables.specs.Form.{Form};
+ghost use Rattle.openapi_tables.specs.Form.{Form, fields, forms_of};
 ghost use Rattle.openapi_tables.specs.Kind as kinds;
-ghost use Rattle.openapi_tables.specs.Kind.{Kind, Mode};
+ghost use Rattle.openapi_tables.specs.Kind.{Kind, Mode, TableName};
+ghost use Rattle.openapi_tables.specs.Members.{plain};
 ghost use Rattle.openapi_tables.specs.Print.{is_silent};
-ghost use Rattle.openapi_tables.specs.Slots.{before, slots_lost, through, IsWritten};
+ghost use Rattle.openapi_tables.specs.Slots.{before, slots, slots_lost, through, IsWritten};
 ghost use Rattle.openapi_tables.specs.Tables.{final_tables};
 ghost use Rattle.openapi_rows.specs.Gives.{Loses, WrittenAs};
-ghost use Rattle.openapi_knots.specs.Writing.{AreNew, GivesWritten, HoldsWritten, PutAs, RowsWritten};
+ghost use Rattle.openapi_knots.specs.Writing.{AreNew, GivesWritten, HoldsDecided, HoldsWritten, PutAs, RowsWritten};
 
 use openapi_node::{Fault, Node, OrderedMap};
 use openapi_rows::{Object, Record, put};
@@ -63,6 +64,35 @@ pub fn put_row<R: Object>(
             None => Ok(()),
         },
         Err(fault) => Err(fault.at_name(alloc, name)),
+    }
+}
+
+/// Puts the member of the one of two names that decides, by what was written of its value; or leads its refusal on.
+pub fn put_decided<R: Object>(
+    alloc: Global,
+    owner: &R,
+    out: &mut OrderedMap<Node>,
+    first: &'static str,
+    name: &'static str,
+    written: Result<Node, Fault>,
+) -> Result<(), Fault>
+    requires slot { HoldsDecided first.now name.now (R.slots_of owner.now) written }
+    requires before { IsWritten final_tables (before (is_named first.now) (R.slots_of owner.now)) out.old }
+    ensures ok { OnOk result (IsWritten final_tables (through (is_named first.entry.now)
+        (R.slots_of owner.now)) out.new) }
+    ensures err { IfErr result (λ f. Loses f (slots_lost final_tables (R.slots_of owner.now))) }
+{
+    put_written(alloc, out, name, written)
+}
+
+/// The object that the members of the rows of a table make, by what was written of them.
+pub fn whole_object(written: Result<OrderedMap<Node>, Fault>) -> Result<Node, Fault>
+    ensures { (i : TableName) (fs : List Form) → RowsWritten (slots (final_tables i) fs) written
+        → WrittenAs (kinds.by i) (fields plain (forms_of fs)) result }
+{
+    match written {
+        Ok(members) => Ok(Node::object(members)),
+        Err(fault) => Err(fault),
     }
 }
 

@@ -7,6 +7,8 @@ mod circles;
 #[cfg(test)]
 mod items;
 #[cfg(test)]
+mod objects;
+#[cfg(test)]
 mod reading;
 #[cfg(test)]
 mod writing;

@@ -255,15 +255,18 @@ fn check_clone<T: FromNode + Clone + PartialEq + Drop>(
     Ok(())
 }
 
-/// What is read without a row differs from what is read with it, where the row may be left out.
+/// What is read without a row differs from what is read with it, where the row may be left out, and its value is not the
+/// default.
 fn check_differs<T: FromNode + PartialEq + Drop>(
     rt: &HostRuntime,
     rows: &[Row],
     place: usize,
-    (name, mode, _, _): &Row,
+    (name, mode, _, sample): &Row,
 ) -> Result<(), Fail> {
-    if matches!(mode, Mode::Required | Mode::OneOf | Mode::Either(_, _)) {
-        return Ok(());
+    match mode {
+        Mode::Required | Mode::OneOf | Mode::Either(_, _) => return Ok(()),
+        Mode::Style(default) if default == sample => return Ok(()),
+        _ => {}
     }
     let full = members(rt, rows, rows.len(), &[])?;
     let bare = members(rt, rows, place, &[])?;

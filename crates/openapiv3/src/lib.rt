@@ -6,6 +6,10 @@
 #![tactic(auto)]
 
 pub use openapi_annotations::{Discriminator, ExternalDocumentation, Xml};
+pub use openapi_contents::{
+    Content, Encoding, Header, MediaType, ParameterSchemaOrContent, content_from_node,
+    content_to_node, header_ref_from_node, header_ref_to_node,
+};
 pub use openapi_map::OrderedMap;
 pub use openapi_node::{Cause, Expected, Fault, Node, PlaceStep, Steps, View, Whole};
 pub use openapi_records::{

@@ -1,0 +1,2 @@
+pub mod ContentForms
+pub mod Fields

@@ -173,17 +173,26 @@ fn headers_by_their_functions(rt: HostRuntime) -> Result<(), Fail> {
     Ok(())
 }
 
-/// Reads what a parameter or a header is like among members, and writes it, with the name that it stands under.
+/// Reads what a parameter or a header is like among members, and writes it.
 fn format_written(
     alloc: Global,
     members: &OrderedMap<Node>,
     steps: &mut Steps,
-) -> Result<(&'static str, Node), Fault> {
+) -> Result<Node, Fault> {
     match read_format(alloc, members, steps) {
-        Ok(format) => match write_format(alloc, &format) {
-            Ok(node) => Ok((format_name(&format), node)),
-            Err(fault) => Err(fault),
-        },
+        Ok(format) => write_format(alloc, &format),
+        Err(fault) => Err(fault),
+    }
+}
+
+/// The name that what a parameter or a header is like stands under.
+fn name_of_format(
+    alloc: Global,
+    members: &OrderedMap<Node>,
+    steps: &mut Steps,
+) -> Result<&'static str, Fault> {
+    match read_format(alloc, members, steps) {
+        Ok(format) => Ok(format_name(&format)),
         Err(fault) => Err(fault),
     }
 }
@@ -191,7 +200,12 @@ fn format_written(
 #[test]
 fn formats_by_their_functions(rt: HostRuntime) -> Result<(), Fail> {
     let given = members(&rt, &[("content", "{}"), ("schema", "5")])?;
-    let (name, node) = format_written(rt.alloc(), &given, &mut Steps::new(&rt))?;
-    check_same(&rt, name, "content")?;
-    check_tree(&rt, &node, "{}")
+    let mut steps = Steps::new(&rt);
+    let node = format_written(rt.alloc(), &given, &mut steps)?;
+    check_tree(&rt, &node, "{}")?;
+    check_same(
+        &rt,
+        name_of_format(rt.alloc(), &given, &mut steps)?,
+        "content",
+    )
 }

@@ -1,0 +1,2 @@
+pub mod SharedRows
+pub mod SharedSlots

@@ -1,0 +1,90 @@
+-- The rows that parameters of all places have, at the head of the table of each place.
+use Rattle.std.proofs.Common.{◌≡◌, List, [], ◌∷◌, drop, refl, sym, ap, ◌∙◌, subst, inl, inr}
+use Rattle.openapi_node.specs.Place.{Place}
+use Rattle.openapi_node.specs.Tree.{object, Members}
+use Rattle.openapi_node.specs.declared.fault.Fault.{Fault}
+use Rattle.openapi_tables.specs.Kind.{Row, TableName, by, parameter_data}
+use Rattle.openapi_tables.specs.Lists.{each, flat, join}
+use Rattle.openapi_tables.specs.Tree.{an_object, members_list, of_members}
+use Rattle.openapi_tables.specs.Tables.{final_tables}
+use Rattle.openapi_tables.specs.Members.{checked_rows}
+use Rattle.openapi_tables.specs.Form.{Form}
+use Rattle.openapi_tables.specs.Read.{tree_of_root}
+use Rattle.openapi_tables.specs.Faults.{Asking, Cause, asked, asks_rows, causes, root_asks, row_misses}
+use Rattle.openapi_tables.specs.Laws.{Among}
+use Rattle.openapi_tables.specs.ByRow.{AreRows, Broken, asking}
+use Rattle.openapi_tables.proofs.ByRowLaws.{among_left, broken_root}
+use Rattle.openapi_tables.proofs.ListLaws.{join_assoc}
+use Rattle.openapi_tables.proofs.TreeLaws.{tree_of_root-seen}
+use Rattle.openapi_rows.specs.Gives.{Fails}
+use Rattle.openapi_rows.proofs.Referring.{fails_moved}
+use Rattle.openapi_knots.proofs.JoinedRows.{asks_join, rows_join}
+use Rattle.openapi_parameters.specs.Parameters.{parameter_data_rows}
+use Rattle.openapi_parameters.specs.declared.parameter_data.ParameterData.{ParameterData}
+
+-- what rows miss they miss one after another
+flat_join : {A : Type 0} (f : Row → List A) (ws vs : List Row)
+    → flat (each f (join ws vs)) ≡ join (flat (each f ws)) (flat (each f vs))
+flat_join f [] vs = refl
+flat_join f (w ∷ ws) vs =
+    ap (join (f w)) (flat_join f ws vs) ∙ sym (join_assoc (f w) (flat (each f ws)) (flat (each f vs)))
+
+-- a table that begins with the rows of another one
+module _ (i j : TableName) (ws : List Row) (begins : final_tables i ≡ join (final_tables j) ws) (ms : Members) where
+  misses_more : (c : Cause) → Among c (causes final_tables (by j) (object ms))
+      → Among c (causes final_tables (by i) (object ms))
+  unfolding checked_rows
+  misses_more c h =
+      let f = row_misses (members_list ms) in
+      subst (λ vs. Among c (flat (each f vs))) (sym begins)
+      (subst (λ l. Among c l) (sym (flat_join f (final_tables j) ws))
+      (among_left c (flat (each f (final_tables j))) (flat (each f ws)) h))
+
+  asks_more : (a : Asking) → Among a (asks_rows (of_members (root_asks final_tables) ms) (final_tables j))
+      → Among a (asks_rows (of_members (root_asks final_tables) ms) (final_tables i))
+  asks_more a h =
+      let es = of_members (root_asks final_tables) ms in
+      subst (λ vs. Among a (asks_rows es vs)) (sym begins)
+      (subst (λ l. Among a l) (sym (asks_join es (final_tables j) ws))
+      (among_left a (asks_rows es (final_tables j)) (asks_rows es ws) h))
+
+  broken_more : (p : Place) (c : Cause) → Broken final_tables (by j) (object ms) p c
+      → Broken final_tables (by i) (object ms) p c
+  unfolding checked_rows
+  broken_more p c b = go b.is_asked
+    where
+      go : Among (asking p b.kind b.tree) (asked final_tables (by j) (object ms))
+          → Broken final_tables (by i) (object ms) p c
+      go (inl e) =
+          let root : tree_of_root (an_object (of_members (root_asks final_tables) ms)) ≡ object ms =
+          tree_of_root-seen (root_asks final_tables) (object ms) in
+          let at : asking p b.kind b.tree ≡ asking [] (by j) (object ms) = e ∙ ap (asking [] (by j)) root in
+          subst (λ q. Broken final_tables (by i) (object ms) q c) (sym (ap (λ (a : Asking). a.place) at))
+          (broken_root final_tables (by i) (object ms) c
+          (misses_more c (subst (λ (a : Asking). Among c (causes final_tables a.kind a.tree)) at b.breaks)))
+      go (inr h) =
+          record {
+            kind = b.kind;
+            tree = b.tree;
+            is_asked = inr (asks_more (asking p b.kind b.tree) h);
+            breaks = b.breaks;
+          }
+
+  -- what its head refuses it refuses
+  head_fails : (f : Fault) → Fails f (by j) (object ms) → Fails f (by i) (object ms)
+  head_fails f h = fails_moved f (by j) (by i) (object ms) (object ms) broken_more h
+
+-- the table of a place
+module _ (i : TableName) (begins : final_tables i ≡ join (final_tables parameter_data) (drop 9 (final_tables i)))
+    (ms : Members) where
+  pub data_fails : (f : Fault) → Fails f (by parameter_data) (object ms) → Fails f (by i) (object ms)
+  data_fails f h = head_fails i parameter_data (drop 9 (final_tables i)) begins ms f h
+
+  pub data_reads : (d : ParameterData) (fs : List Form)
+      → AreRows final_tables (final_tables parameter_data) (parameter_data_rows d) ms
+      → AreRows final_tables (drop 9 (final_tables i)) fs ms
+      → AreRows final_tables (final_tables i) (join (parameter_data_rows d) fs) ms
+  data_reads d fs h own =
+      subst (λ ws. AreRows final_tables ws (join (parameter_data_rows d) fs) ms) (sym begins)
+      (rows_join final_tables (final_tables parameter_data) (drop 9 (final_tables i)) (parameter_data_rows d) fs ms h
+      own)

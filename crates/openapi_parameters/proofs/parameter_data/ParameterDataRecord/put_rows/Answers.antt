@@ -1,0 +1,14 @@
+use Rattle.std.proofs.Common.{refl}
+use Rattle.openapi_tables.specs.Kind.{parameter_data}
+use Rattle.openapi_tables.specs.Tables.{final_tables, tables_with}
+use Rattle.openapi_rows.specs.Forms.{record_slots}
+use Rattle.openapi_contents.proofs.Opened.{format_held}
+use Rattle.openapi_parameters.specs.Parameters.{parameter_data_rows}
+use Rattle.openapi_parameters.proofs.parameter_data.ParameterDataRecord.put_rows.Goals as goal
+
+pub put_decided-requires-clause-slot : goal.put_decided-requires-clause-slot
+unfolding final_tables tables_with
+put_decided-requires-clause-slot c =
+    let x = c.args.self.now in
+    format_held (record_slots parameter_data parameter_data_rows x) x.format c.format_name.result.now
+    c.write_format.result refl c.format_name.ensures c.write_format.ensures

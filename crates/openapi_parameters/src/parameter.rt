@@ -1,0 +1,160 @@
+//! The Parameter Object.
+ghost use Rattle.std.proofs.Common.{lit≤, refl};
+ghost use Rattle.std.specs.Prelude.{◌≡◌, ◌+◌, ◌≤◌, ◌*◌, codes};
+ghost use Rattle.openapi_node.specs.Tree.{size_of};
+ghost use Rattle.openapi_tables.specs.Kind.{ref_to};
+ghost use Rattle.openapi_tables.specs.Tables.{parameter};
+ghost use Rattle.openapi_values.specs.Reference.{reference_form};
+ghost use Rattle.openapi_rows.specs.Gives.{Gives, Refuses, WrittenAs};
+ghost use Rattle.openapi_rows.proofs.Spared.{parameter_spares};
+ghost use Rattle.openapi_rows.proofs.Tagging.{parameter_sound, tagged_apart};
+ghost use Rattle.openapi_parameters.specs.Parameters.{data_of_parameter, parameter_cases, parameter_form};
+ghost use Rattle.openapi_parameters.specs.Parameters.{parameter_known, parameter_rows, parameter_slots, parameter_word};
+
+use crate::location::ParameterLocation;
+use crate::parameter_data::ParameterData;
+use crate::read::{read_cookie, read_header, read_path, read_query};
+use crate::write::put_parameter;
+use openapi_node::{Cause, Expected, Fault, Node, OrderedMap, Steps, View};
+use openapi_rows::{FromNode, Object, Referable, ToNode, tag};
+use openapi_values::{CookieStyle, HeaderStyle, PathStyle, QueryStyle, ReferenceOr};
+use std::alloc::Global;
+
+/// The Parameter Object (OpenAPI 3.0.3, section 4.7.12): one parameter of an operation. Its `in` says where it is. A
+/// style is written also where it is the default one.
+#[derive(Clone, Debug, PartialEq, Drop)]
+pub enum Parameter {
+    /// `query`: in the query of the URL, as `id` in `/items?id=7`.
+    Query {
+        /// What parameters of all places have.
+        parameter_data: ParameterData,
+        /// `allowReserved`: whether the value may have the reserved characters of RFC 3986 as they are. False by
+        /// default.
+        allow_reserved: bool,
+        /// How the value is written. `form` by default.
+        style: QueryStyle,
+        /// `allowEmptyValue`: whether the parameter may be sent with an empty value. It is false by default, and
+        /// OpenAPI advises against its use.
+        allow_empty_value: Option<bool>,
+    },
+    /// `header`: in a header of the request, in whose name capitals do not count.
+    Header {
+        /// What parameters of all places have.
+        parameter_data: ParameterData,
+        /// How the value is written. `simple` by default, the only one.
+        style: HeaderStyle,
+    },
+    /// `path`: in the path of the URL, as `id` in `/items/{id}`.
+    Path {
+        /// What parameters of all places have.
+        parameter_data: ParameterData,
+        /// How the value is written. `simple` by default.
+        style: PathStyle,
+    },
+    /// `cookie`: in a cookie that is sent.
+    Cookie {
+        /// What parameters of all places have.
+        parameter_data: ParameterData,
+        /// How the value is written. `form` by default, the only one.
+        style: CookieStyle,
+    },
+}
+
+impl Parameter {
+    /// What the parameter has as those of all places have it. The rest is dropped.
+    pub fn parameter_data(self) -> ParameterData
+        ensures { result ≡ data_of_parameter self }
+    {
+        match self {
+            Parameter::Query { parameter_data, .. }
+            | Parameter::Header { parameter_data, .. }
+            | Parameter::Path { parameter_data, .. }
+            | Parameter::Cookie { parameter_data, .. } => parameter_data,
+        }
+    }
+
+    /// What the parameter has as those of all places have it.
+    pub fn parameter_data_ref(&self) -> &ParameterData
+        ensures { result.now ≡ data_of_parameter self.now }
+    {
+        match self {
+            Parameter::Query { parameter_data, .. }
+            | Parameter::Header { parameter_data, .. }
+            | Parameter::Path { parameter_data, .. }
+            | Parameter::Cookie { parameter_data, .. } => parameter_data,
+        }
+    }
+}
+
+impl Object for Parameter {
+    ghost object = { parameter };
+
+    ghost slots_of = { parameter_slots };
+
+    ghost apart = { λ x. tagged_apart (codes "in") parameter_cases parameter_word parameter_rows x (parameter_known x)
+        parameter_sound };
+}
+
+impl FromNode for Parameter {
+    ghost kind = { parameter };
+
+    ghost form_of = { parameter_form };
+
+    fn from_view(alloc: Global, view: &View<'_>, steps: &mut Steps) -> Result<Parameter, Fault> {
+        let View::Object(members) = view else {
+            return Err(Fault::new(alloc, Cause::WrongKind(Expected::Object)));
+        };
+        match tag(alloc, members, "in", steps) {
+            Ok(ParameterLocation::Query) => read_query(alloc, members, steps),
+            Ok(ParameterLocation::Header) => read_header(alloc, members, steps),
+            Ok(ParameterLocation::Path) => read_path(alloc, members, steps),
+            Ok(ParameterLocation::Cookie) => read_cookie(alloc, members, steps),
+            Err(fault) => Err(fault),
+        }
+    }
+
+    ghost few = { lit≤ tt };
+
+    ghost well_made = { parameter_sound };
+}
+
+impl ToNode for Parameter {
+    fn to_node(&self, alloc: Global) -> Result<Node, Fault> {
+        let mut out = OrderedMap::new(alloc);
+        match put_parameter(alloc, self, &mut out) {
+            Ok(()) => Ok(Node::object(out)),
+            Err(fault) => Err(fault),
+        }
+    }
+
+    ghost there = { λ x. refl };
+}
+
+impl Referable for Parameter {
+    ghost direct = { refl };
+
+    ghost spares_ref = { parameter_spares };
+}
+
+/// Reads a parameter or a reference to one. Err names a rule that the tree breaks, at its place, or says that memory ran
+/// out.
+pub fn parameter_ref_from_node(
+    alloc: Global,
+    node: &Node,
+    steps: &mut Steps,
+) -> Result<ReferenceOr<Parameter>, Fault>
+    ensures reads { Gives (reference_form parameter_form) result (ref_to parameter) node.now }
+    ensures refuses { Refuses result (ref_to parameter) node.now }
+    ensures rises { steps.old + 1 ≤ steps.new }
+    ensures count { steps.new ≤ steps.old + 3 * size_of node.now }
+{
+    ReferenceOr::from_node(alloc, node, steps)
+}
+
+/// Writes a parameter or a reference to one. Err at a name of an extension that does not begin with `x-`, or for want of
+/// memory.
+pub fn parameter_ref_to_node(alloc: Global, value: &ReferenceOr<Parameter>) -> Result<Node, Fault>
+    ensures { WrittenAs (ref_to parameter) (reference_form parameter_form value.now) result }
+{
+    value.to_node(alloc)
+}

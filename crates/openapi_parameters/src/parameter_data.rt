@@ -1,0 +1,127 @@
+//! What parameters of all places have.
+ghost use Rattle.std.proofs.Common.{lit≤, refl};
+ghost use Rattle.std.specs.Prelude.{◌≡◌, ◌+◌, ◌≤◌, ◌*◌};
+ghost use Rattle.openapi_tables.specs.Kind.{by, parameter_data};
+ghost use Rattle.openapi_tables.proofs.SlotWriting.{final_apart};
+ghost use Rattle.openapi_rows.specs.Forms.{record_form, record_slots};
+ghost use Rattle.openapi_parameters.specs.Parameters.{parameter_data_rows};
+
+use openapi_contents::{ParameterSchemaOrContent, format_name, read_format, write_format};
+use openapi_knots::put_decided;
+use openapi_node::{Fault, Node, OrderedMap, Steps, View};
+use openapi_records::Example;
+use openapi_rows::{
+    FromNode, Object, Record, ToNode, extensions, optional, or_implied, put_extensions,
+    put_implied, put_optional, put_required, read_record, required, write_record,
+};
+use openapi_values::ReferenceOr;
+use std::alloc::Global;
+
+/// What a Parameter Object (OpenAPI 3.0.3, section 4.7.12) has wherever its parameter is: all but `in`, `style`, and
+/// what stands in a query alone.
+#[derive(Clone, Debug, PartialEq, Drop)]
+pub struct ParameterData {
+    /// The name of the parameter, in which capitals count: in a path the name of a part of its template, in a header
+    /// that of the header. Required.
+    pub name: String,
+    /// A description of the parameter, in CommonMark.
+    pub description: Option<String>,
+    /// Whether the parameter has to be there. False by default. OpenAPI wants it true in a path, which is not checked.
+    pub required: bool,
+    /// Whether the parameter should no longer be used.
+    pub deprecated: Option<bool>,
+    /// An example of the value. It excludes `examples`, which is not checked.
+    pub example: Option<Node>,
+    /// Examples of the value, or references to some, by names. They exclude `example`, which is not checked.
+    pub examples: OrderedMap<ReferenceOr<Example>>,
+    /// Whether each element of a list and each member of an object is sent as a parameter of its own. By default it is
+    /// where the style is `form`, and is not where it is another.
+    pub explode: Option<bool>,
+    /// Extensions: the members whose names begin with `x-`, in their order.
+    pub extensions: OrderedMap<Node>,
+    /// What the value is like: `schema` or `content`. Required here, as in the Rust crate.
+    pub format: ParameterSchemaOrContent,
+}
+
+impl Object for ParameterData {
+    ghost object = { by parameter_data };
+
+    ghost slots_of = { record_slots parameter_data parameter_data_rows };
+
+    ghost apart = { λ x. final_apart parameter_data (parameter_data_rows x) };
+}
+
+#[tactic(auto, unfolding(openapi_tables::specs::Tables::final_tables, openapi_tables::specs::Tables::tables_with))]
+impl Record for ParameterData {
+    ghost rows_of = { parameter_data_rows };
+
+    fn from_members(
+        alloc: Global,
+        members: &OrderedMap<Node>,
+        steps: &mut Steps,
+    ) -> Result<ParameterData, Fault> {
+        let required_flag = or_implied::<Self, _>(alloc, members, "required", steps)?;
+        let deprecated = optional::<Self, _>(alloc, members, "deprecated", steps)?;
+        let explode = optional::<Self, _>(alloc, members, "explode", steps)?;
+        Ok(ParameterData {
+            name: required::<Self, _>(alloc, members, "name", steps)?,
+            description: optional::<Self, _>(alloc, members, "description", steps)?,
+            required: required_flag,
+            deprecated,
+            example: optional::<Self, _>(alloc, members, "example", steps)?,
+            examples: or_implied::<Self, _>(alloc, members, "examples", steps)?,
+            explode,
+            extensions: extensions::<Self>(alloc, members, steps)?,
+            format: read_format(alloc, members, steps)?,
+        })
+    }
+
+    fn put_rows(&self, alloc: Global, out: &mut OrderedMap<Node>) -> Result<(), Fault> {
+        put_required(alloc, self, out, "name", &self.name)?;
+        put_optional(alloc, self, out, "description", &self.description)?;
+        put_implied(alloc, self, out, "required", &self.required)?;
+        put_optional(alloc, self, out, "deprecated", &self.deprecated)?;
+        put_decided(
+            alloc,
+            self,
+            out,
+            "schema",
+            format_name(&self.format),
+            write_format(alloc, &self.format),
+        )?;
+        put_optional(alloc, self, out, "example", &self.example)?;
+        put_implied(alloc, self, out, "examples", &self.examples)?;
+        put_optional(alloc, self, out, "explode", &self.explode)?;
+        put_extensions(alloc, self, out, &self.extensions)
+    }
+
+    ghost by_table = { refl };
+
+    ghost by_rows = { λ x. refl };
+}
+
+impl FromNode for ParameterData {
+    ghost kind = { by parameter_data };
+
+    ghost form_of = { record_form parameter_data_rows };
+
+    fn from_view(
+        alloc: Global,
+        view: &View<'_>,
+        steps: &mut Steps,
+    ) -> Result<ParameterData, Fault> {
+        read_record(alloc, view, steps)
+    }
+
+    ghost few = { lit≤ tt };
+
+    ghost well_made = { refl };
+}
+
+impl ToNode for ParameterData {
+    fn to_node(&self, alloc: Global) -> Result<Node, Fault> {
+        write_record(alloc, self)
+    }
+
+    ghost there = { λ x. refl };
+}

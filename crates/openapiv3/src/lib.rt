@@ -11,7 +11,14 @@ pub use openapi_contents::{
     content_to_node, header_ref_from_node, header_ref_to_node,
 };
 pub use openapi_map::OrderedMap;
+pub use openapi_messages::{
+    RequestBody, Response, Responses, request_body_ref_from_node, request_body_ref_to_node,
+    response_ref_from_node, response_ref_to_node,
+};
 pub use openapi_node::{Cause, Expected, Fault, Node, PlaceStep, Steps, View, Whole};
+pub use openapi_parameters::{
+    Parameter, ParameterData, parameter_ref_from_node, parameter_ref_to_node,
+};
 pub use openapi_records::{
     Contact, Example, Info, License, Link, LinkOperation, Server, ServerVariable, Tag,
     example_ref_from_node, example_ref_to_node, link_ref_from_node, link_ref_to_node,

@@ -1,0 +1,3 @@
+pub mod CodeKeys
+pub mod CodeReading
+pub mod CodeWriting

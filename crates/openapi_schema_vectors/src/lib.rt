@@ -1,5 +1,5 @@
 //! Tests of schemas that are read: the tables of their types, written out once more apart from the definitions, each sort
-//! of schema, and worked examples.
+//! of schema, worked examples, and what trees settle to.
 #![tactic(auto)]
 
 #[cfg(test)]
@@ -10,3 +10,5 @@ mod schema_sorts;
 mod schema_types;
 #[cfg(test)]
 mod schemas;
+#[cfg(test)]
+mod settled;

@@ -34,6 +34,7 @@ pub use openapi_security::{
     PasswordOAuth2Flow, SecurityRequirement, SecurityScheme, security_requirement_from_node,
     security_requirement_to_node, security_scheme_ref_from_node, security_scheme_ref_to_node,
 };
+pub use openapi_settle::Settle;
 pub use openapi_tables::laws;
 pub use openapi_values::{
     APIKeyLocation, CookieStyle, HeaderStyle, IntegerFormat, NumberFormat, PathStyle, QueryStyle,

@@ -200,12 +200,9 @@ fn data_given(alloc: Global, node: &Node, steps: &mut Steps) -> Result<Node, Fau
     }
 }
 
-/// Reads a parameter, and writes the data that it lends.
-fn data_lent(alloc: Global, node: &Node, steps: &mut Steps) -> Result<Node, Fault> {
-    match Parameter::from_node(alloc, node, steps) {
-        Ok(read) => read.parameter_data_ref().to_node(alloc),
-        Err(fault) => Err(fault),
-    }
+/// Writes the data that a parameter lends.
+fn write_lent(alloc: Global, parameter: &Parameter) -> Result<Node, Fault> {
+    parameter.parameter_data_ref().to_node(alloc)
 }
 
 #[test]
@@ -232,7 +229,8 @@ fn parameters_have_data_in_each_place(rt: HostRuntime) -> Result<(), Fail> {
     for (given, wanted) in rows {
         let node = tree(&rt, given)?;
         check_written(&rt, data_given(rt.alloc(), &node, &mut steps), Ok(wanted))?;
-        check_written(&rt, data_lent(rt.alloc(), &node, &mut steps), Ok(wanted))?;
+        let lent = write_lent(rt.alloc(), &parameter(&rt, given)?);
+        check_written(&rt, lent, Ok(wanted))?;
     }
     Ok(())
 }
@@ -254,26 +252,28 @@ fn data_with(rt: &HostRuntime, name: &str) -> Result<ParameterData, Fail> {
     })
 }
 
-/// What comes of writing a parameter in a path with a null extension of this name.
-fn written_in_path(rt: &HostRuntime, name: &str) -> Result<String, Fail> {
-    match data_with(rt, name) {
-        Ok(parameter_data) => write_refusal(
-            rt,
-            &Parameter::Path {
-                parameter_data,
-                style: PathStyle::Simple,
-            },
-        ),
+/// A parameter in a path that has this data.
+fn in_path(parameter_data: ParameterData) -> Parameter {
+    Parameter::Path {
+        parameter_data,
+        style: PathStyle::Simple,
+    }
+}
+
+/// What comes of writing a value that was built.
+fn refusal_of<T: ToNode + Drop>(rt: &HostRuntime, built: Result<T, Fail>) -> Result<String, Fail> {
+    match built {
+        Ok(value) => write_refusal(rt, &value),
         Err(fail) => Err(fail),
     }
 }
 
 #[test]
 fn extensions_of_parameters_need_their_prefix(rt: HostRuntime) -> Result<(), Fail> {
-    let alone = write_refusal(&rt, &data_with(&rt, "foo")?)?;
+    let alone = refusal_of(&rt, data_with(&rt, "foo"))?;
     check_same(&rt, alone.as_str(), "name not writable at #/foo")?;
-    let refused = written_in_path(&rt, "style")?;
+    let refused = refusal_of(&rt, data_with(&rt, "style").map(in_path))?;
     check_same(&rt, refused.as_str(), "name not writable at #/style")?;
-    let written = written_in_path(&rt, "x-")?;
+    let written = refusal_of(&rt, data_with(&rt, "x-").map(in_path))?;
     check_same(&rt, written.as_str(), "written")
 }

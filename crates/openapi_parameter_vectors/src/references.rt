@@ -22,11 +22,26 @@ fn references_stand_for_parameters(rt: HostRuntime) -> Result<(), Fail> {
     check_texts::<ReferenceOr<Parameter>>(&rt, &rows)
 }
 
-/// Reads a parameter or a reference to one, and writes it.
-fn parameter_written(alloc: Global, node: &Node, steps: &mut Steps) -> Result<Node, Fault> {
-    match parameter_ref_from_node(alloc, node, steps) {
-        Ok(value) => parameter_ref_to_node(alloc, &value),
-        Err(fault) => Err(fault),
+/// What is written by a function of its own.
+trait Written {
+    fn written(&self, alloc: Global) -> Result<Node, Fault>;
+}
+
+impl Written for ReferenceOr<Parameter> {
+    fn written(&self, alloc: Global) -> Result<Node, Fault> {
+        parameter_ref_to_node(alloc, self)
+    }
+}
+
+/// That what was read is written as a JSON text, or was refused with a text.
+fn check_by_function<T: Written + Drop>(
+    rt: &HostRuntime,
+    read: Result<T, Fault>,
+    wanted: Result<&str, &str>,
+) -> Result<(), Fail> {
+    match read {
+        Ok(value) => check_written(rt, value.written(rt.alloc()), wanted),
+        Err(fault) => check_written(rt, Err(fault), wanted),
     }
 }
 
@@ -42,8 +57,9 @@ fn parameters_by_their_functions(rt: HostRuntime) -> Result<(), Fail> {
     ];
     let mut steps = Steps::new(&rt);
     for (given, wanted) in rows {
-        let written = parameter_written(rt.alloc(), &tree(&rt, given)?, &mut steps);
-        check_written(&rt, written, wanted)?;
+        let node = tree(&rt, given)?;
+        let read = parameter_ref_from_node(rt.alloc(), &node, &mut steps);
+        check_by_function(&rt, read, wanted)?;
     }
     Ok(())
 }

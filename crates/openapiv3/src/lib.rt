@@ -5,39 +5,104 @@
 //! [`ToNode::to_node`] writes the object.
 #![tactic(auto)]
 
-pub use openapi_annotations::{Discriminator, ExternalDocumentation, Xml};
-pub use openapi_contents::{
-    Content, Encoding, Header, MediaType, ParameterSchemaOrContent, content_from_node,
-    content_to_node, header_ref_from_node, header_ref_to_node,
-};
+pub use openapi_annotations::Discriminator;
+pub use openapi_annotations::ExternalDocumentation;
+pub use openapi_annotations::Xml;
+pub use openapi_contents::Content;
+pub use openapi_contents::Encoding;
+pub use openapi_contents::Header;
+pub use openapi_contents::MediaType;
+pub use openapi_contents::ParameterSchemaOrContent;
+pub use openapi_contents::content_from_node;
+pub use openapi_contents::content_to_node;
+pub use openapi_contents::header_ref_from_node;
+pub use openapi_contents::header_ref_to_node;
 pub use openapi_map::OrderedMap;
-pub use openapi_messages::{
-    RequestBody, Response, Responses, request_body_ref_from_node, request_body_ref_to_node,
-    response_ref_from_node, response_ref_to_node,
-};
-pub use openapi_node::{Cause, Expected, Fault, Node, PlaceStep, Steps, View, Whole};
-pub use openapi_parameters::{
-    Parameter, ParameterData, parameter_ref_from_node, parameter_ref_to_node,
-};
-pub use openapi_records::{
-    Contact, Example, Info, License, Link, LinkOperation, Server, ServerVariable, Tag,
-    example_ref_from_node, example_ref_to_node, link_ref_from_node, link_ref_to_node,
-};
-pub use openapi_rows::{FromNode, ToNode};
-pub use openapi_schema::{
-    AdditionalProperties, AnySchema, ArrayType, BooleanType, IntegerType, NumberType, ObjectType,
-    Schema, SchemaData, SchemaKind, SchemaType, StringType, Type, boxed_schema_ref_from_node,
-    boxed_schema_ref_to_node, schema_ref_from_node, schema_ref_to_node,
-};
-pub use openapi_security::{
-    AuthorizationCodeOAuth2Flow, ClientCredentialsOAuth2Flow, ImplicitOAuth2Flow, OAuth2Flows,
-    PasswordOAuth2Flow, SecurityRequirement, SecurityScheme, security_requirement_from_node,
-    security_requirement_to_node, security_scheme_ref_from_node, security_scheme_ref_to_node,
-};
+pub use openapi_messages::RequestBody;
+pub use openapi_messages::Response;
+pub use openapi_messages::Responses;
+pub use openapi_messages::request_body_ref_from_node;
+pub use openapi_messages::request_body_ref_to_node;
+pub use openapi_messages::response_ref_from_node;
+pub use openapi_messages::response_ref_to_node;
+pub use openapi_node::Cause;
+pub use openapi_node::Expected;
+pub use openapi_node::Fault;
+pub use openapi_node::Node;
+pub use openapi_node::PlaceStep;
+pub use openapi_node::Steps;
+pub use openapi_node::View;
+pub use openapi_node::Whole;
+pub use openapi_operations::Callback;
+pub use openapi_operations::Operation;
+pub use openapi_operations::PathItem;
+pub use openapi_operations::PathItemIntoIter;
+pub use openapi_operations::PathItemIter;
+pub use openapi_operations::Paths;
+pub use openapi_operations::callback_ref_from_node;
+pub use openapi_operations::callback_ref_to_node;
+pub use openapi_operations::path_item_ref_from_node;
+pub use openapi_operations::path_item_ref_to_node;
+pub use openapi_parameters::Parameter;
+pub use openapi_parameters::ParameterData;
+pub use openapi_parameters::parameter_ref_from_node;
+pub use openapi_parameters::parameter_ref_to_node;
+pub use openapi_records::Contact;
+pub use openapi_records::Example;
+pub use openapi_records::Info;
+pub use openapi_records::License;
+pub use openapi_records::Link;
+pub use openapi_records::LinkOperation;
+pub use openapi_records::Server;
+pub use openapi_records::ServerVariable;
+pub use openapi_records::Tag;
+pub use openapi_records::example_ref_from_node;
+pub use openapi_records::example_ref_to_node;
+pub use openapi_records::link_ref_from_node;
+pub use openapi_records::link_ref_to_node;
+pub use openapi_rows::FromNode;
+pub use openapi_rows::ToNode;
+pub use openapi_schema::AdditionalProperties;
+pub use openapi_schema::AnySchema;
+pub use openapi_schema::ArrayType;
+pub use openapi_schema::BooleanType;
+pub use openapi_schema::IntegerType;
+pub use openapi_schema::NumberType;
+pub use openapi_schema::ObjectType;
+pub use openapi_schema::Schema;
+pub use openapi_schema::SchemaData;
+pub use openapi_schema::SchemaKind;
+pub use openapi_schema::SchemaType;
+pub use openapi_schema::StringType;
+pub use openapi_schema::Type;
+pub use openapi_schema::boxed_schema_ref_from_node;
+pub use openapi_schema::boxed_schema_ref_to_node;
+pub use openapi_schema::schema_ref_from_node;
+pub use openapi_schema::schema_ref_to_node;
+pub use openapi_security::AuthorizationCodeOAuth2Flow;
+pub use openapi_security::ClientCredentialsOAuth2Flow;
+pub use openapi_security::ImplicitOAuth2Flow;
+pub use openapi_security::OAuth2Flows;
+pub use openapi_security::PasswordOAuth2Flow;
+pub use openapi_security::SecurityRequirement;
+pub use openapi_security::SecurityScheme;
+pub use openapi_security::security_requirement_from_node;
+pub use openapi_security::security_requirement_to_node;
+pub use openapi_security::security_scheme_ref_from_node;
+pub use openapi_security::security_scheme_ref_to_node;
 pub use openapi_settle::Settle;
 pub use openapi_tables::laws;
-pub use openapi_values::{
-    APIKeyLocation, CookieStyle, HeaderStyle, IntegerFormat, NumberFormat, PathStyle, QueryStyle,
-    ReferenceOr, StatusCode, StringFormat, VariantOrUnknown, VariantOrUnknownOrEmpty, Word,
-    is_false,
-};
+pub use openapi_values::APIKeyLocation;
+pub use openapi_values::CookieStyle;
+pub use openapi_values::HeaderStyle;
+pub use openapi_values::IntegerFormat;
+pub use openapi_values::NumberFormat;
+pub use openapi_values::PathStyle;
+pub use openapi_values::QueryStyle;
+pub use openapi_values::ReferenceOr;
+pub use openapi_values::StatusCode;
+pub use openapi_values::StringFormat;
+pub use openapi_values::VariantOrUnknown;
+pub use openapi_values::VariantOrUnknownOrEmpty;
+pub use openapi_values::Word;
+pub use openapi_values::is_false;

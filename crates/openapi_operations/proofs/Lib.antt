@@ -1,0 +1,4 @@
+pub mod ClassReading
+pub mod Opened
+pub mod PartRows
+pub mod PresentForms

@@ -1,0 +1,4 @@
+use Rattle.openapi_operations.proofs.parts.read_settings.Goals as goal
+
+pub returns-clause-reads : goal.returns-clause-reads
+returns-clause-reads c = (c.in_ok-optional-2.ensures.reads, (c.in_ok-optional.ensures.reads, (c.in_ok-or_implied.ensures.reads, tt)))

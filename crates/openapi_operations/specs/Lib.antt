@@ -1,0 +1,5 @@
+pub mod Fields
+pub mod OperationForms
+pub mod Parts
+pub mod Present
+pub mod Spared

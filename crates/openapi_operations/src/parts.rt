@@ -1,0 +1,268 @@
+//! What is read and written of operations and path items in parts, but for what leads back to path items.
+ghost use Rattle.std.specs.Prelude.{◌≡◌, ◌+◌, ◌*◌, ◌≤◌, [], codes, OnOk, IfErr};
+ghost use Rattle.openapi_node.specs.Tree.{members_of};
+ghost use Rattle.openapi_tables.specs.ByRow.{AreRows, is_named, rows_weight};
+ghost use Rattle.openapi_tables.specs.Kind as kinds;
+ghost use Rattle.openapi_tables.specs.Slots.{before, through, slots_lost, IsWritten};
+ghost use Rattle.openapi_tables.specs.Tables.{final_tables};
+ghost use Rattle.openapi_rows.specs.Gives.{GivesRows, Loses};
+ghost use Rattle.openapi_knots.specs.Reading.{GivesPart};
+ghost use Rattle.openapi_operations.specs.Fields.{operation_fields, operation_slots, path_item_fields};
+ghost use Rattle.openapi_operations.specs.Parts.{beside_forms, beside_rows, message_forms, message_rows};
+ghost use Rattle.openapi_operations.specs.Parts.{method_forms, method_rows, operation_joined, path_item_joined};
+ghost use Rattle.openapi_operations.specs.Parts.{setting_forms, setting_rows, text_forms, text_rows};
+
+use crate::callback::Callback;
+use crate::methods::Methods;
+use crate::operation::Operation;
+use crate::path_item::PathItem;
+use openapi_annotations::ExternalDocumentation;
+use openapi_messages::{RequestBody, Responses};
+use openapi_node::{Fault, Node, OrderedMap, Steps};
+use openapi_parameters::Parameter;
+use openapi_records::Server;
+use openapi_rows::{
+    extensions, optional, or_implied, put_extensions, put_implied, put_optional, put_required,
+    required,
+};
+use openapi_security::SecurityRequirement;
+use openapi_values::ReferenceOr;
+use std::alloc::Global;
+
+/// What an operation says in texts, and its flag.
+#[derive(Drop)]
+pub(crate) struct OperationTexts {
+    pub tags: Vec<String>,
+    pub summary: Option<String>,
+    pub description: Option<String>,
+    pub operation_id: Option<String>,
+    pub deprecated: bool,
+}
+
+/// What an operation is documented by, and where and how it is called.
+#[derive(Drop)]
+pub(crate) struct OperationSettings {
+    pub external_docs: Option<ExternalDocumentation>,
+    pub security: Option<Vec<SecurityRequirement>>,
+    pub servers: Vec<Server>,
+}
+
+/// What is sent to an operation, and what it answers.
+#[derive(Drop)]
+pub(crate) struct OperationMessages {
+    pub parameters: Vec<ReferenceOr<Parameter>>,
+    pub request_body: Option<ReferenceOr<RequestBody>>,
+    pub responses: Responses,
+}
+
+/// What a path item has beside its operations.
+#[derive(Drop)]
+pub(crate) struct PathItemValues {
+    pub summary: Option<String>,
+    pub description: Option<String>,
+    pub servers: Vec<Server>,
+    pub parameters: Vec<ReferenceOr<Parameter>>,
+    pub extensions: OrderedMap<Node>,
+}
+
+/// Reads the texts of an operation, and its flag first.
+#[tactic(auto, unfolding(openapi_tables::specs::Tables::final_tables, openapi_tables::specs::Tables::tables_with))]
+pub(crate) fn read_texts(
+    alloc: Global,
+    members: &OrderedMap<Node>,
+    steps: &mut Steps,
+) -> Result<OperationTexts, Fault>
+    ensures reads { GivesPart text_forms result (kinds.by kinds.operation) text_rows (members_of members.now) }
+    ensures rises { steps.old ≤ steps.new }
+    ensures count { steps.new ≤ steps.old + 3 * rows_weight text_rows (members_of members.now) }
+{
+    Ok(OperationTexts {
+        deprecated: or_implied::<Operation, _>(alloc, members, "deprecated", steps)?,
+        tags: or_implied::<Operation, _>(alloc, members, "tags", steps)?,
+        summary: optional::<Operation, _>(alloc, members, "summary", steps)?,
+        description: optional::<Operation, _>(alloc, members, "description", steps)?,
+        operation_id: optional::<Operation, _>(alloc, members, "operationId", steps)?,
+    })
+}
+
+/// Reads what an operation is documented by, and where and how it is called.
+#[tactic(auto, unfolding(openapi_tables::specs::Tables::final_tables, openapi_tables::specs::Tables::tables_with))]
+pub(crate) fn read_settings(
+    alloc: Global,
+    members: &OrderedMap<Node>,
+    steps: &mut Steps,
+) -> Result<OperationSettings, Fault>
+    ensures reads { GivesPart setting_forms result (kinds.by kinds.operation) setting_rows (members_of members.now) }
+    ensures rises { steps.old ≤ steps.new }
+    ensures count { steps.new ≤ steps.old + 3 * rows_weight setting_rows (members_of members.now) }
+{
+    Ok(OperationSettings {
+        security: optional::<Operation, _>(alloc, members, "security", steps)?,
+        servers: or_implied::<Operation, _>(alloc, members, "servers", steps)?,
+        external_docs: optional::<Operation, _>(alloc, members, "externalDocs", steps)?,
+    })
+}
+
+/// Reads what is sent to an operation, and what it answers.
+#[tactic(auto, unfolding(openapi_tables::specs::Tables::final_tables, openapi_tables::specs::Tables::tables_with))]
+pub(crate) fn read_messages(
+    alloc: Global,
+    members: &OrderedMap<Node>,
+    steps: &mut Steps,
+) -> Result<OperationMessages, Fault>
+    ensures reads { GivesPart message_forms result (kinds.by kinds.operation) message_rows (members_of members.now) }
+    ensures rises { steps.old ≤ steps.new }
+    ensures count { steps.new ≤ steps.old + 3 * rows_weight message_rows (members_of members.now) }
+{
+    Ok(OperationMessages {
+        parameters: or_implied::<Operation, _>(alloc, members, "parameters", steps)?,
+        request_body: optional::<Operation, _>(alloc, members, "requestBody", steps)?,
+        responses: required::<Operation, _>(alloc, members, "responses", steps)?,
+    })
+}
+
+/// Reads what a path item has beside its operations.
+#[tactic(auto, unfolding(openapi_tables::specs::Tables::final_tables, openapi_tables::specs::Tables::tables_with))]
+pub(crate) fn read_beside(
+    alloc: Global,
+    members: &OrderedMap<Node>,
+    steps: &mut Steps,
+) -> Result<PathItemValues, Fault>
+    ensures reads { GivesPart beside_forms result (kinds.by kinds.path_item) beside_rows (members_of members.now) }
+    ensures rises { steps.old ≤ steps.new }
+    ensures count { steps.new ≤ steps.old + 3 * rows_weight beside_rows (members_of members.now) }
+{
+    Ok(PathItemValues {
+        summary: optional::<PathItem, _>(alloc, members, "summary", steps)?,
+        description: optional::<PathItem, _>(alloc, members, "description", steps)?,
+        servers: or_implied::<PathItem, _>(alloc, members, "servers", steps)?,
+        parameters: or_implied::<PathItem, _>(alloc, members, "parameters", steps)?,
+        extensions: extensions::<PathItem>(alloc, members, steps)?,
+    })
+}
+
+/// Reads a path item whose operations were read.
+pub(crate) fn path_item_with(
+    alloc: Global,
+    members: &OrderedMap<Node>,
+    methods: Methods<Operation>,
+    steps: &mut Steps,
+) -> Result<PathItem, Fault>
+    requires { AreRows final_tables method_rows (method_forms methods) (members_of members.now) }
+    ensures reads { GivesRows path_item_fields result (kinds.by kinds.path_item) (members_of members.now) }
+    ensures rises { steps.old ≤ steps.new }
+    ensures count { steps.new ≤ steps.old + 3 * rows_weight beside_rows (members_of members.now) }
+{
+    match read_beside(alloc, members, steps) {
+        Ok(beside) => Ok(joined_path_item(beside, methods)),
+        Err(fault) => {
+            drop(methods);
+            Err(fault)
+        }
+    }
+}
+
+/// An operation of its parts.
+pub(crate) fn joined_operation(
+    texts: OperationTexts,
+    settings: OperationSettings,
+    callbacks: OrderedMap<ReferenceOr<Callback>>,
+    extensions: OrderedMap<Node>,
+    messages: OperationMessages,
+) -> Operation
+    ensures { operation_fields result ≡ operation_joined texts settings callbacks extensions messages }
+{
+    Operation {
+        tags: texts.tags,
+        summary: texts.summary,
+        description: texts.description,
+        external_docs: settings.external_docs,
+        operation_id: texts.operation_id,
+        parameters: messages.parameters,
+        request_body: messages.request_body,
+        responses: messages.responses,
+        callbacks,
+        deprecated: texts.deprecated,
+        security: settings.security,
+        servers: settings.servers,
+        extensions,
+    }
+}
+
+/// A path item of its parts.
+pub(crate) fn joined_path_item(beside: PathItemValues, methods: Methods<Operation>) -> PathItem
+    ensures { path_item_fields result ≡ path_item_joined beside methods }
+{
+    PathItem {
+        summary: beside.summary,
+        description: beside.description,
+        get: methods.get,
+        put: methods.put,
+        post: methods.post,
+        delete: methods.delete,
+        options: methods.options,
+        head: methods.head,
+        patch: methods.patch,
+        trace: methods.trace,
+        servers: beside.servers,
+        parameters: beside.parameters,
+        extensions: beside.extensions,
+    }
+}
+
+/// Writes what stands before the callbacks of an operation, into an object that has no members yet.
+#[tactic(auto, unfolding(openapi_tables::specs::Tables::final_tables, openapi_tables::specs::Tables::tables_with))]
+pub(crate) fn put_before_callbacks(
+    alloc: Global,
+    operation: &Operation,
+    out: &mut OrderedMap<Node>,
+) -> Result<(), Fault>
+    requires { IsWritten final_tables [] out.old }
+    ensures ok { OnOk result (IsWritten final_tables (before (is_named (codes "callbacks"))
+        (operation_slots operation.now)) out.new) }
+    ensures err { IfErr result (λ f. Loses f (slots_lost final_tables (operation_slots operation.now))) }
+{
+    put_implied(alloc, operation, out, "tags", &operation.tags)?;
+    put_optional(alloc, operation, out, "summary", &operation.summary)?;
+    put_optional(alloc, operation, out, "description", &operation.description)?;
+    put_optional(
+        alloc,
+        operation,
+        out,
+        "externalDocs",
+        &operation.external_docs,
+    )?;
+    put_optional(
+        alloc,
+        operation,
+        out,
+        "operationId",
+        &operation.operation_id,
+    )?;
+    put_implied(alloc, operation, out, "parameters", &operation.parameters)?;
+    put_optional(
+        alloc,
+        operation,
+        out,
+        "requestBody",
+        &operation.request_body,
+    )?;
+    put_required(alloc, operation, out, "responses", &operation.responses)
+}
+
+/// Writes what stands behind the callbacks of an operation.
+#[tactic(auto, unfolding(openapi_tables::specs::Tables::final_tables, openapi_tables::specs::Tables::tables_with))]
+pub(crate) fn put_behind_callbacks(
+    alloc: Global,
+    operation: &Operation,
+    out: &mut OrderedMap<Node>,
+) -> Result<(), Fault>
+    requires { IsWritten final_tables (through (is_named (codes "callbacks")) (operation_slots operation.now)) out.old }
+    ensures ok { OnOk result (IsWritten final_tables (operation_slots operation.now) out.new) }
+    ensures err { IfErr result (λ f. Loses f (slots_lost final_tables (operation_slots operation.now))) }
+{
+    put_implied(alloc, operation, out, "deprecated", &operation.deprecated)?;
+    put_optional(alloc, operation, out, "security", &operation.security)?;
+    put_implied(alloc, operation, out, "servers", &operation.servers)?;
+    put_extensions(alloc, operation, out, &operation.extensions)
+}

@@ -1,0 +1,147 @@
+//! The Paths Object.
+ghost use Rattle.std.proofs.Common.{lit≤, refl};
+ghost use Rattle.std.specs.Prelude.{◌≡◌, ◌+◌, ◌≤◌, ◌*◌, ◌<◌, ◌^◌, ℕ, List, [], length, true};
+ghost use Rattle.std.specs.Map.Iter.{ShowsInOrder, ShowsValuesInOrder, deref_pair};
+ghost use Rattle.openapi_map.specs.Entries.{HasDistinctNames, owned_entry};
+ghost use Rattle.openapi_tables.specs.Kind as kinds;
+ghost use Rattle.openapi_tables.specs.Kind.{by, paths};
+ghost use Rattle.openapi_tables.proofs.SlotWriting.{final_apart};
+ghost use Rattle.openapi_rows.specs.Forms.{record_form, record_slots};
+ghost use Rattle.openapi_operations.specs.Fields.{paths_rows};
+
+use crate::path_item::PathItem;
+use openapi_map::{IntoIter, Iter};
+use openapi_node::{Fault, Node, OrderedMap, Steps, View};
+use openapi_rows::{
+    ClassNames, FromNode, Names, Object, Record, ToNode, class_entries, extensions, put_class,
+    put_extensions, read_record, write_record,
+};
+use openapi_values::ReferenceOr;
+use std::alloc::Global;
+
+/// The names of paths, which begin with `/`.
+struct PathNames;
+
+impl Names for PathNames {
+    ghost test = { kinds.in_class kinds.path_names };
+
+    fn contains(name: &str) -> bool {
+        name.as_bytes().starts_with(b"/")
+    }
+}
+
+impl ClassNames for PathNames {
+    ghost class = { kinds.path_names };
+
+    ghost by_class = { λ n. refl };
+
+    ghost by_name = { λ n. refl };
+}
+
+/// The Paths Object (OpenAPI 3.0.3, section 4.7.8): the paths of an API, each with its operations.
+#[derive(Clone, Debug, PartialEq, Drop)]
+pub struct Paths {
+    /// The operations under each path, or a reference to them: the members whose names begin with `/`, in their order.
+    /// Other names but those of extensions are ignored, and what stands under them is not looked at.
+    pub paths: OrderedMap<ReferenceOr<PathItem>>,
+    /// Extensions: the members whose names begin with `x-`, in their order.
+    pub extensions: OrderedMap<Node>,
+}
+
+impl Paths {
+    /// No paths.
+    pub fn new(alloc: Global) -> Paths
+        ensures paths { result.paths ≡ [] }
+        ensures extensions { result.extensions ≡ [] }
+    {
+        Paths {
+            paths: OrderedMap::new(alloc),
+            extensions: OrderedMap::new(alloc),
+        }
+    }
+
+    /// The paths with their path items or references, in their order.
+    pub fn iter(&self) -> Iter<'_, ReferenceOr<PathItem>>
+        ensures rest { result ≡ self.now.paths }
+        ensures runs { ShowsInOrder (deref_pair {K = List ℕ} {X = ReferenceOr PathItem}) }
+        ensures values_run { ShowsValuesInOrder (deref_pair {K = List ℕ} {X = ReferenceOr PathItem}) }
+        ensures distinct { HasDistinctNames self.now.paths }
+        ensures fits { length self.now.paths < 2 ^ 63 }
+    {
+        self.paths.iter()
+    }
+}
+
+/// The paths with their path items or references, in their order.
+impl IntoIterator for Paths {
+    ghost use Rattle.openapi_values.specs.declared.reference.ReferenceOr.{ReferenceOr};
+    ghost use Rattle.openapi_operations.specs.declared.path_item.PathItem.{PathItem};
+
+    type Item = (String, ReferenceOr<PathItem>);
+
+    type IntoIter = IntoIter<ReferenceOr<PathItem>>;
+
+    ghost into_iter_gives = { λ p it. (it ≡ p.paths) × (length p.paths < 2 ^ 63) × HasDistinctNames p.paths
+        × ShowsInOrder (owned_entry {V = ReferenceOr PathItem})
+        × ShowsValuesInOrder (owned_entry {V = ReferenceOr PathItem}) };
+
+    fn into_iter(self) -> IntoIter<ReferenceOr<PathItem>> {
+        self.paths.into_iter()
+    }
+}
+
+impl Object for Paths {
+    ghost object = { by paths };
+
+    ghost slots_of = { record_slots paths paths_rows };
+
+    ghost apart = { λ x. final_apart paths (paths_rows x) };
+}
+
+#[tactic(auto, unfolding(openapi_tables::specs::Tables::final_tables, openapi_tables::specs::Tables::tables_with))]
+impl Record for Paths {
+    ghost rows_of = { paths_rows };
+
+    fn from_members(
+        alloc: Global,
+        members: &OrderedMap<Node>,
+        steps: &mut Steps,
+    ) -> Result<Paths, Fault> {
+        Ok(Paths {
+            paths: class_entries::<Self, PathNames, _>(alloc, members, steps)?,
+            extensions: extensions::<Self>(alloc, members, steps)?,
+        })
+    }
+
+    fn put_rows(&self, alloc: Global, out: &mut OrderedMap<Node>) -> Result<(), Fault> {
+        put_class::<Self, PathNames, _>(alloc, self, out, &self.paths)?;
+        put_extensions(alloc, self, out, &self.extensions)
+    }
+
+    ghost by_table = { refl };
+
+    ghost by_rows = { λ x. refl };
+}
+
+impl FromNode for Paths {
+    ghost kind = { by paths };
+
+    ghost form_of = { record_form paths_rows };
+
+    fn from_view(alloc: Global, view: &View<'_>, steps: &mut Steps) -> Result<Paths, Fault> {
+        read_record(alloc, view, steps)
+    }
+
+    ghost few = { lit≤ tt };
+
+    ghost well_made = { refl };
+}
+
+/// Refused also at a name among `paths` that does not begin with `/`, which would not be read again.
+impl ToNode for Paths {
+    fn to_node(&self, alloc: Global) -> Result<Node, Fault> {
+        write_record(alloc, self)
+    }
+
+    ghost there = { λ x. refl };
+}

@@ -1,0 +1,328 @@
+//! How operations, path items and callbacks are read. The functions call each other in a circle: a path item has
+//! operations, an operation may have callbacks, and these have path items. Each gets a smaller part of the tree in the
+//! end. A value is looked at once, and handed down as the view of that look.
+ghost use Rattle.std.specs.Prelude.{◌≡◌, ◌+◌, ◌*◌, ◌≤◌, None, Some, codes};
+ghost use Rattle.openapi_node.specs.Tree.{members_of, members_size, object, size_of};
+ghost use Rattle.openapi_node.specs.View.{shown};
+ghost use Rattle.openapi_tables.specs.ByRow.{is_named, row_where, row_weight, rows_asked, rows_weight};
+ghost use Rattle.openapi_tables.specs.Kind as kinds;
+ghost use Rattle.openapi_tables.specs.Tables.{callback_ref, final_tables};
+ghost use Rattle.openapi_rows.specs.Forms.{map_form, optional_form};
+ghost use Rattle.openapi_rows.specs.Gives.{Gives, GivesRow, GivesRows};
+ghost use Rattle.openapi_values.specs.Reference.{reference_form};
+ghost use Rattle.openapi_knots.specs.Reading.{GivesPart};
+ghost use Rattle.openapi_operations.specs.Fields.{callback_fields, operation_fields, path_item_fields};
+ghost use Rattle.openapi_operations.specs.OperationForms.{callback_form, operation_form, path_item_form};
+ghost use Rattle.openapi_operations.specs.Parts.{method_forms, method_rows};
+
+use crate::callback::Callback;
+use crate::methods::Methods;
+use crate::operation::Operation;
+use crate::parts::{joined_operation, path_item_with, read_messages, read_settings, read_texts};
+use crate::path_item::PathItem;
+use openapi_knots::{members_shown, put_read};
+use openapi_node::{Fault, Node, OrderedMap, Steps, View, find_member};
+use openapi_rows::{
+    Extensions, Names, as_member, at_name, extensions, present_view, read_reference,
+};
+use openapi_values::ReferenceOr;
+use std::alloc::Global;
+
+/// Reads a path item.
+#[cycle(read)]
+pub(crate) fn read_path_item(
+    alloc: Global,
+    view: &View<'_>,
+    steps: &mut Steps,
+) -> Result<PathItem, Fault>
+    ensures reads { Gives path_item_form result (kinds.by kinds.path_item) (shown view.now) }
+    ensures rises { steps.old ≤ steps.new }
+    ensures count { steps.new + 3 ≤ steps.old + 3 * size_of (shown view.now) }
+{
+    match members_shown(alloc, view) {
+        Ok(members) => path_item_of(alloc, members, steps),
+        Err(fault) => Err(fault),
+    }
+}
+
+/// Reads a path item among the members of an object, its operations first.
+#[cycle(read)]
+#[tactic(auto, unfolding(openapi_tables::specs::Tables::final_tables, openapi_tables::specs::Tables::tables_with))]
+fn path_item_of(
+    alloc: Global,
+    members: &OrderedMap<Node>,
+    steps: &mut Steps,
+) -> Result<PathItem, Fault>
+    ensures reads { GivesRows path_item_fields result (kinds.by kinds.path_item) (members_of members.now) }
+    ensures rises { steps.old ≤ steps.new }
+    ensures count { steps.new ≤ steps.old + 3 * rows_weight (rows_asked final_tables (kinds.by kinds.path_item))
+        (members_of members.now) }
+{
+    let mut methods = Methods::none();
+    match read_methods(alloc, members, &mut methods, steps) {
+        Ok(()) => path_item_with(alloc, members, methods, steps),
+        Err(fault) => {
+            drop(methods);
+            Err(fault)
+        }
+    }
+}
+
+/// Reads the operations of a path item to where they are kept, since they are large.
+#[cycle(read)]
+#[tactic(auto, unfolding(openapi_tables::specs::Tables::final_tables, openapi_tables::specs::Tables::tables_with))]
+fn read_methods(
+    alloc: Global,
+    members: &OrderedMap<Node>,
+    methods: &mut Methods<Operation>,
+    steps: &mut Steps,
+) -> Result<(), Fault>
+    requires get { methods.old.get ≡ None }
+    requires put { methods.old.put ≡ None }
+    requires post { methods.old.post ≡ None }
+    requires delete { methods.old.delete ≡ None }
+    requires options { methods.old.options ≡ None }
+    requires head { methods.old.head ≡ None }
+    requires patch { methods.old.patch ≡ None }
+    requires trace { methods.old.trace ≡ None }
+    ensures reads { GivesPart (λ done. method_forms methods.new) result (kinds.by kinds.path_item) method_rows
+        (members_of members.now) }
+    ensures rises { steps.old ≤ steps.new }
+    ensures count { steps.new ≤ steps.old + 3 * rows_weight method_rows (members_of members.now) }
+{
+    read_method(alloc, members, "get", &mut methods.get, steps)?;
+    read_method(alloc, members, "put", &mut methods.put, steps)?;
+    read_method(alloc, members, "post", &mut methods.post, steps)?;
+    read_method(alloc, members, "delete", &mut methods.delete, steps)?;
+    read_method(alloc, members, "options", &mut methods.options, steps)?;
+    read_method(alloc, members, "head", &mut methods.head, steps)?;
+    read_method(alloc, members, "patch", &mut methods.patch, steps)?;
+    read_method(alloc, members, "trace", &mut methods.trace, steps)
+}
+
+/// Reads the operation under a method to where it is kept, where it is there and not null.
+#[cycle(read)]
+fn read_method(
+    alloc: Global,
+    members: &OrderedMap<Node>,
+    method: &'static str,
+    place: &mut Option<Operation>,
+    steps: &mut Steps,
+) -> Result<(), Fault>
+    requires row { row_where (is_named method.now) (rows_asked final_tables (kinds.by kinds.path_item)) ≡ Some
+        (kinds.row method.now kinds.optional (kinds.by kinds.operation)) }
+    requires free { place.old ≡ None }
+    ensures reads { GivesRow (λ done. optional_form operation_form place.new) result (kinds.by kinds.path_item)
+        (kinds.row method.entry.now kinds.optional (kinds.by kinds.operation)) (members_of members.now) }
+    ensures rises { steps.old ≤ steps.new }
+    ensures count { steps.new ≤ steps.old + 3 * row_weight
+        (kinds.row method.entry.now kinds.optional (kinds.by kinds.operation)) (members_of members.now) }
+{
+    match present_view(members, method, steps) {
+        None => Ok(()),
+        Some(view) => match as_member(alloc, method, read_operation(alloc, &view, steps)) {
+            Ok(operation) => {
+                *place = operation;
+                Ok(())
+            }
+            Err(fault) => Err(fault),
+        },
+    }
+}
+
+/// Reads an operation.
+#[cycle(read)]
+pub(crate) fn read_operation(
+    alloc: Global,
+    view: &View<'_>,
+    steps: &mut Steps,
+) -> Result<Operation, Fault>
+    ensures reads { Gives operation_form result (kinds.by kinds.operation) (shown view.now) }
+    ensures rises { steps.old ≤ steps.new }
+    ensures count { steps.new + 3 ≤ steps.old + 3 * size_of (shown view.now) }
+{
+    match members_shown(alloc, view) {
+        Ok(members) => operation_of(alloc, members, steps),
+        Err(fault) => Err(fault),
+    }
+}
+
+/// Reads an operation among the members of an object, what is large last.
+#[cycle(read)]
+#[tactic(auto, unfolding(openapi_tables::specs::Tables::final_tables, openapi_tables::specs::Tables::tables_with))]
+fn operation_of(
+    alloc: Global,
+    members: &OrderedMap<Node>,
+    steps: &mut Steps,
+) -> Result<Operation, Fault>
+    ensures reads { GivesRows operation_fields result (kinds.by kinds.operation) (members_of members.now) }
+    ensures rises { steps.old ≤ steps.new }
+    ensures count { steps.new ≤ steps.old + 3 * rows_weight (rows_asked final_tables (kinds.by kinds.operation))
+        (members_of members.now) }
+{
+    let texts = read_texts(alloc, members, steps)?;
+    let settings = read_settings(alloc, members, steps)?;
+    let callbacks = read_callbacks(alloc, members, steps)?;
+    let extensions = extensions::<Operation>(alloc, members, steps)?;
+    let messages = read_messages(alloc, members, steps)?;
+    Ok(joined_operation(texts, settings, callbacks, extensions, messages))
+}
+
+/// The callbacks of an operation, by their names; none where `callbacks` is missing.
+#[cycle(read)]
+fn read_callbacks(
+    alloc: Global,
+    members: &OrderedMap<Node>,
+    steps: &mut Steps,
+) -> Result<OrderedMap<ReferenceOr<Callback>>, Fault>
+    ensures reads { GivesRow (map_form (reference_form callback_form)) result (kinds.by kinds.operation)
+        (kinds.row (codes "callbacks") kinds.listed (kinds.map_of callback_ref)) (members_of members.now) }
+    ensures rises { steps.old ≤ steps.new }
+    ensures count { steps.new ≤ steps.old + 3 * row_weight
+        (kinds.row (codes "callbacks") kinds.listed (kinds.map_of callback_ref)) (members_of members.now) }
+{
+    match find_member(members, "callbacks") {
+        None => Ok(OrderedMap::new(alloc)),
+        Some(node) => {
+            let entries = node.open(steps);
+            at_name(alloc, "callbacks", callbacks_in(alloc, &entries, steps))
+        }
+    }
+}
+
+/// The callbacks and references of a map.
+#[cycle(read)]
+fn callbacks_in(
+    alloc: Global,
+    view: &View<'_>,
+    steps: &mut Steps,
+) -> Result<OrderedMap<ReferenceOr<Callback>>, Fault>
+    ensures reads { Gives (map_form (reference_form callback_form)) result (kinds.map_of callback_ref) (shown view.now) }
+    ensures rises { steps.old ≤ steps.new }
+    ensures count { steps.new + 3 ≤ steps.old + 3 * size_of (shown view.now) }
+{
+    match members_shown(alloc, view) {
+        Ok(members) => callbacks_of(alloc, members, steps),
+        Err(fault) => Err(fault),
+    }
+}
+
+/// The callbacks and references among the members of an object, in order.
+#[cycle(read)]
+fn callbacks_of(
+    alloc: Global,
+    members: &OrderedMap<Node>,
+    steps: &mut Steps,
+) -> Result<OrderedMap<ReferenceOr<Callback>>, Fault>
+    ensures reads { Gives (map_form (reference_form callback_form)) result (kinds.map_of callback_ref)
+        (object (members_of members.now)) }
+    ensures rises { steps.old ≤ steps.new }
+    ensures count { steps.new ≤ steps.old + 3 * members_size (members_of members.now) }
+{
+    let mut values = OrderedMap::new(alloc);
+    for i in 0..members.len() {
+        let (name, node) = members.entry_at(i);
+        let entry = node.open(steps);
+        match put_read(
+            alloc,
+            &mut values,
+            name,
+            read_callback_ref(alloc, &entry, steps),
+        ) {
+            Ok(()) => {}
+            Err(fault) => return Err(fault),
+        }
+    }
+    Ok(values)
+}
+
+/// Reads a callback or a reference to one. An object with a text under `$ref` is a reference, whatever else it has.
+#[cycle(read)]
+fn read_callback_ref(
+    alloc: Global,
+    view: &View<'_>,
+    steps: &mut Steps,
+) -> Result<ReferenceOr<Callback>, Fault>
+    ensures reads { Gives (reference_form callback_form) result callback_ref (shown view.now) }
+    ensures rises { steps.old ≤ steps.new }
+    ensures count { steps.new + 2 ≤ steps.old + 3 * size_of (shown view.now) }
+{
+    match read_reference(alloc, view, steps) {
+        Ok(reference) => match reference {
+            Some(reference) => Ok(ReferenceOr::Reference { reference }),
+            None => match read_callback(alloc, view, steps) {
+                Ok(callback) => Ok(ReferenceOr::Item(callback)),
+                Err(fault) => Err(fault),
+            },
+        },
+        Err(fault) => Err(fault),
+    }
+}
+
+/// Reads a callback.
+#[cycle(read)]
+pub(crate) fn read_callback(
+    alloc: Global,
+    view: &View<'_>,
+    steps: &mut Steps,
+) -> Result<Callback, Fault>
+    ensures reads { Gives callback_form result (kinds.by kinds.callback_object) (shown view.now) }
+    ensures rises { steps.old ≤ steps.new }
+    ensures count { steps.new + 3 ≤ steps.old + 3 * size_of (shown view.now) }
+{
+    match members_shown(alloc, view) {
+        Ok(members) => callback_of(alloc, members, steps),
+        Err(fault) => Err(fault),
+    }
+}
+
+/// Reads a callback among the members of an object.
+#[cycle(read)]
+#[tactic(auto, unfolding(openapi_tables::specs::Tables::final_tables, openapi_tables::specs::Tables::tables_with))]
+fn callback_of(
+    alloc: Global,
+    members: &OrderedMap<Node>,
+    steps: &mut Steps,
+) -> Result<Callback, Fault>
+    ensures reads { GivesRows callback_fields result (kinds.by kinds.callback_object) (members_of members.now) }
+    ensures rises { steps.old ≤ steps.new }
+    ensures count { steps.new ≤ steps.old + 3 * rows_weight (rows_asked final_tables (kinds.by kinds.callback_object))
+        (members_of members.now) }
+{
+    let paths = read_requests(alloc, members, steps)?;
+    let extensions = extensions::<Callback>(alloc, members, steps)?;
+    Ok(Callback { paths, extensions })
+}
+
+/// The path items of a callback: the members whose names do not begin with `x-`, in order.
+#[cycle(read)]
+fn read_requests(
+    alloc: Global,
+    members: &OrderedMap<Node>,
+    steps: &mut Steps,
+) -> Result<OrderedMap<PathItem>, Fault>
+    ensures reads { GivesRow (map_form path_item_form) result (kinds.by kinds.callback_object)
+        (kinds.class kinds.callback_names (kinds.by kinds.path_item)) (members_of members.now) }
+    ensures rises { steps.old ≤ steps.new }
+    ensures count { steps.new ≤ steps.old + 3 * row_weight
+        (kinds.class kinds.callback_names (kinds.by kinds.path_item)) (members_of members.now) }
+{
+    let mut values = OrderedMap::new(alloc);
+    for i in 0..members.len() {
+        let (name, node) = members.entry_at(i);
+        if Extensions::contains(name) {
+            continue;
+        }
+        let entry = node.open(steps);
+        match put_read(
+            alloc,
+            &mut values,
+            name,
+            read_path_item(alloc, &entry, steps),
+        ) {
+            Ok(()) => {}
+            Err(fault) => return Err(fault),
+        }
+    }
+    Ok(values)
+}

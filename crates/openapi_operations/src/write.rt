@@ -1,0 +1,199 @@
+//! How operations, path items and callbacks are written. The functions call each other in a circle, as those that read
+//! them do: each gets a smaller part of the value in the end.
+ghost use Rattle.std.specs.Prelude.{◌≡◌, codes, IfErr, IfOk, OnOk};
+ghost use Rattle.openapi_tables.specs.ByRow.{is_class, is_named};
+ghost use Rattle.openapi_tables.specs.Kind as kinds;
+ghost use Rattle.openapi_tables.specs.Slots.{before, through, slots_lost, IsWritten};
+ghost use Rattle.openapi_tables.specs.Tables.{callback_ref, final_tables};
+ghost use Rattle.openapi_rows.specs.Forms.{map_form, optional_form};
+ghost use Rattle.openapi_rows.specs.Gives.{Loses, WrittenAs};
+ghost use Rattle.openapi_values.specs.Reference.{reference_form};
+ghost use Rattle.openapi_knots.specs.Writing.{GivesWritten, RowsWritten};
+ghost use Rattle.openapi_operations.specs.Fields.{callback_slots, operation_slots, path_item_slots};
+ghost use Rattle.openapi_operations.specs.OperationForms.{callback_form, operation_form, path_item_form};
+
+use crate::callback::Callback;
+use crate::operation::Operation;
+use crate::parts::{put_before_callbacks, put_behind_callbacks};
+use crate::path_item::PathItem;
+use openapi_knots::{as_some, put_row, put_written, whole_object};
+use openapi_node::{Cause, Fault, Node, OrderedMap};
+use openapi_rows::{Extensions, Names, put_extensions, put_implied, put_optional, write_reference};
+use openapi_values::ReferenceOr;
+use std::alloc::Global;
+
+/// Writes a path item.
+#[cycle(write)]
+pub(crate) fn write_path_item(alloc: Global, path_item: &PathItem) -> Result<Node, Fault>
+    ensures { WrittenAs (kinds.by kinds.path_item) (path_item_form path_item.now) result }
+{
+    whole_object(path_item_members(alloc, path_item))
+}
+
+/// The members that a path item is written as.
+#[cycle(write)]
+#[tactic(auto, unfolding(openapi_tables::specs::Tables::final_tables, openapi_tables::specs::Tables::tables_with))]
+fn path_item_members(alloc: Global, path_item: &PathItem) -> Result<OrderedMap<Node>, Fault>
+    ensures { RowsWritten (path_item_slots path_item.now) result }
+{
+    let mut out = OrderedMap::new(alloc);
+    put_optional(alloc, path_item, &mut out, "summary", &path_item.summary)?;
+    put_optional(
+        alloc,
+        path_item,
+        &mut out,
+        "description",
+        &path_item.description,
+    )?;
+    put_methods(alloc, path_item, &mut out)?;
+    put_implied(alloc, path_item, &mut out, "servers", &path_item.servers)?;
+    put_implied(
+        alloc,
+        path_item,
+        &mut out,
+        "parameters",
+        &path_item.parameters,
+    )?;
+    put_extensions(alloc, path_item, &mut out, &path_item.extensions)?;
+    Ok(out)
+}
+
+/// Writes the operations of a path item, behind its texts.
+#[cycle(write)]
+#[tactic(auto, unfolding(openapi_tables::specs::Tables::final_tables, openapi_tables::specs::Tables::tables_with))]
+fn put_methods(alloc: Global, path_item: &PathItem, out: &mut OrderedMap<Node>) -> Result<(), Fault>
+    requires { IsWritten final_tables (before (is_named (codes "get")) (path_item_slots path_item.now)) out.old }
+    ensures ok { OnOk result (IsWritten final_tables (through (is_named (codes "trace"))
+        (path_item_slots path_item.now)) out.new) }
+    ensures err { IfErr result (λ f. Loses f (slots_lost final_tables (path_item_slots path_item.now))) }
+{
+    let get = write_method(alloc, &path_item.get);
+    put_row(alloc, path_item, out, "get", get)?;
+    let put = write_method(alloc, &path_item.put);
+    put_row(alloc, path_item, out, "put", put)?;
+    let post = write_method(alloc, &path_item.post);
+    put_row(alloc, path_item, out, "post", post)?;
+    let delete = write_method(alloc, &path_item.delete);
+    put_row(alloc, path_item, out, "delete", delete)?;
+    let options = write_method(alloc, &path_item.options);
+    put_row(alloc, path_item, out, "options", options)?;
+    let head = write_method(alloc, &path_item.head);
+    put_row(alloc, path_item, out, "head", head)?;
+    let patch = write_method(alloc, &path_item.patch);
+    put_row(alloc, path_item, out, "patch", patch)?;
+    let trace = write_method(alloc, &path_item.trace);
+    put_row(alloc, path_item, out, "trace", trace)
+}
+
+/// Writes the operation under a method; nothing where there is none.
+#[cycle(write)]
+fn write_method(alloc: Global, value: &Option<Operation>) -> Result<Option<Node>, Fault>
+    ensures { GivesWritten kinds.optional (kinds.by kinds.operation) (optional_form operation_form value.now) result }
+{
+    match value {
+        None => Ok(None),
+        Some(operation) => as_some(write_operation(alloc, operation)),
+    }
+}
+
+/// Writes an operation.
+#[cycle(write)]
+pub(crate) fn write_operation(alloc: Global, operation: &Operation) -> Result<Node, Fault>
+    ensures { WrittenAs (kinds.by kinds.operation) (operation_form operation.now) result }
+{
+    whole_object(operation_members(alloc, operation))
+}
+
+/// The members that an operation is written as.
+#[cycle(write)]
+#[tactic(auto, unfolding(openapi_tables::specs::Tables::final_tables, openapi_tables::specs::Tables::tables_with))]
+fn operation_members(alloc: Global, operation: &Operation) -> Result<OrderedMap<Node>, Fault>
+    ensures { RowsWritten (operation_slots operation.now) result }
+{
+    let mut out = OrderedMap::new(alloc);
+    put_before_callbacks(alloc, operation, &mut out)?;
+    put_row(
+        alloc,
+        operation,
+        &mut out,
+        "callbacks",
+        write_callbacks(alloc, &operation.callbacks),
+    )?;
+    put_behind_callbacks(alloc, operation, &mut out)?;
+    Ok(out)
+}
+
+/// Writes callbacks and references by names; nothing where there are none.
+#[cycle(write)]
+fn write_callbacks(
+    alloc: Global,
+    values: &OrderedMap<ReferenceOr<Callback>>,
+) -> Result<Option<Node>, Fault>
+    ensures { GivesWritten kinds.listed (kinds.map_of callback_ref) (map_form (reference_form callback_form) values.now)
+        result }
+{
+    if values.is_empty() {
+        return Ok(None);
+    }
+    let mut out = OrderedMap::new(alloc);
+    for i in 0..values.len() {
+        let (name, value) = values.entry_at(i);
+        match put_written(alloc, &mut out, name, write_callback_ref(alloc, value)) {
+            Ok(()) => {}
+            Err(fault) => return Err(fault),
+        }
+    }
+    Ok(Some(Node::object(out)))
+}
+
+/// Writes a callback or a reference to one.
+#[cycle(write)]
+fn write_callback_ref(alloc: Global, value: &ReferenceOr<Callback>) -> Result<Node, Fault>
+    ensures { WrittenAs callback_ref (reference_form callback_form value.now) result }
+{
+    match value {
+        ReferenceOr::Reference { reference } => write_reference(alloc, reference.as_str()),
+        ReferenceOr::Item(callback) => write_callback(alloc, callback),
+    }
+}
+
+/// Writes a callback.
+#[cycle(write)]
+pub(crate) fn write_callback(alloc: Global, callback: &Callback) -> Result<Node, Fault>
+    ensures { WrittenAs (kinds.by kinds.callback_object) (callback_form callback.now) result }
+{
+    whole_object(callback_members(alloc, callback))
+}
+
+/// The members that a callback is written as.
+#[cycle(write)]
+#[tactic(auto, unfolding(openapi_tables::specs::Tables::final_tables, openapi_tables::specs::Tables::tables_with))]
+fn callback_members(alloc: Global, callback: &Callback) -> Result<OrderedMap<Node>, Fault>
+    ensures { RowsWritten (callback_slots callback.now) result }
+{
+    let mut out = request_members(alloc, callback)?;
+    put_extensions(alloc, callback, &mut out, &callback.extensions)?;
+    Ok(out)
+}
+
+/// The members that the path items of a callback are written as. Err also at a name that begins with `x-`.
+#[cycle(write)]
+#[tactic(auto, unfolding(openapi_tables::specs::Tables::final_tables, openapi_tables::specs::Tables::tables_with))]
+fn request_members(alloc: Global, callback: &Callback) -> Result<OrderedMap<Node>, Fault>
+    ensures ok { IfOk result (λ out. IsWritten final_tables (through (is_class kinds.callback_names)
+        (callback_slots callback.now)) out) }
+    ensures err { IfErr result (λ f. Loses f (slots_lost final_tables (callback_slots callback.now))) }
+{
+    let mut out = OrderedMap::new(alloc);
+    for i in 0..callback.paths.len() {
+        let (name, value) = callback.paths.entry_at(i);
+        if Extensions::contains(name) {
+            return Err(Fault::new(alloc, Cause::NameNotWritable).at_name(alloc, name));
+        }
+        match put_written(alloc, &mut out, name, write_path_item(alloc, value)) {
+            Ok(()) => {}
+            Err(fault) => return Err(fault),
+        }
+    }
+    Ok(out)
+}

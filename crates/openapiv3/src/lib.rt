@@ -5,6 +5,8 @@
 //! [`ToNode::to_node`] writes the object.
 #![tactic(auto)]
 
+pub mod laws;
+
 pub use openapi_annotations::Discriminator;
 pub use openapi_annotations::ExternalDocumentation;
 pub use openapi_annotations::Xml;
@@ -17,6 +19,9 @@ pub use openapi_contents::content_from_node;
 pub use openapi_contents::content_to_node;
 pub use openapi_contents::header_ref_from_node;
 pub use openapi_contents::header_ref_to_node;
+pub use openapi_documents::Components;
+pub use openapi_documents::OpenAPI;
+pub use openapi_documents::Operations;
 pub use openapi_map::OrderedMap;
 pub use openapi_messages::RequestBody;
 pub use openapi_messages::Response;
@@ -91,7 +96,6 @@ pub use openapi_security::security_requirement_to_node;
 pub use openapi_security::security_scheme_ref_from_node;
 pub use openapi_security::security_scheme_ref_to_node;
 pub use openapi_settle::Settle;
-pub use openapi_tables::laws;
 pub use openapi_values::APIKeyLocation;
 pub use openapi_values::CookieStyle;
 pub use openapi_values::HeaderStyle;

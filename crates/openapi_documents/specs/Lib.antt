@@ -1,0 +1,4 @@
+pub mod Documents
+pub mod Parts
+pub mod AllOperations
+pub mod Headline

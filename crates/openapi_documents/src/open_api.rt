@@ -1,0 +1,182 @@
+//! The OpenAPI Object.
+ghost use Rattle.std.proofs.Common.{lit≤, refl};
+ghost use Rattle.std.specs.Prelude.{◌≡◌, ◌+◌, ◌≤◌, ◌*◌, [], None, string_bytes};
+ghost use Rattle.openapi_node.specs.Tree.{members_of};
+ghost use Rattle.openapi_tables.specs.ByRow.{rows_weight};
+ghost use Rattle.openapi_tables.specs.Kind as kinds;
+ghost use Rattle.openapi_tables.specs.Kind.{by};
+ghost use Rattle.openapi_tables.proofs.SlotWriting.{final_apart};
+ghost use Rattle.openapi_rows.specs.Forms.{record_form, record_slots};
+ghost use Rattle.openapi_knots.specs.Reading.{GivesPart};
+ghost use Rattle.openapi_documents.specs.Documents.{open_api_rows};
+ghost use Rattle.openapi_documents.specs.Parts.{facts_forms, facts_rows};
+
+use crate::components::Components;
+use openapi_annotations::ExternalDocumentation;
+use openapi_node::{Fault, Node, OrderedMap, Steps, View};
+use openapi_operations::Paths;
+use openapi_records::{Info, Server, Tag};
+use openapi_rows::{
+    FromNode, Object, Record, ToNode, extensions, optional, or_implied, put_extensions,
+    put_implied, put_optional, put_required, read_record, required, write_record,
+};
+use openapi_security::SecurityRequirement;
+use std::alloc::Global;
+
+/// The OpenAPI Object (OpenAPI 3.0.3, section 4.7.1): a whole document.
+#[derive(Clone, Debug, PartialEq, Drop)]
+pub struct OpenAPI {
+    /// The version of the OpenAPI Specification that the document is written by, such as `3.0.3`. Required. It is not
+    /// checked.
+    pub openapi: String,
+    /// The servers of the API. Where there are none, the API is at the URL `/`.
+    pub servers: Vec<Server>,
+    /// The security requirements of every operation that has none of its own: one of them has to be met.
+    pub security: Option<Vec<SecurityRequirement>>,
+    /// The tags that operations use, in the order in which tools show them.
+    pub tags: Vec<Tag>,
+    /// Further documentation.
+    pub external_docs: Option<ExternalDocumentation>,
+    /// Extensions: the members whose names begin with `x-`, in their order.
+    pub extensions: OrderedMap<Node>,
+    /// The paths of the API and their operations. Required.
+    pub paths: Paths,
+    /// Metadata about the API. Required.
+    pub info: Info,
+    /// What the document may refer to.
+    pub components: Option<Components>,
+}
+
+impl OpenAPI {
+    /// Empty texts, lists and maps, and nothing else.
+    pub fn new(alloc: Global) -> OpenAPI
+        ensures openapi { string_bytes result.openapi ≡ [] }
+        ensures title { string_bytes result.info.title ≡ [] }
+        ensures description { result.info.description ≡ None }
+        ensures terms_of_service { result.info.terms_of_service ≡ None }
+        ensures contact { result.info.contact ≡ None }
+        ensures license { result.info.license ≡ None }
+        ensures version { string_bytes result.info.version ≡ [] }
+        ensures info_extensions { result.info.extensions ≡ [] }
+        ensures servers { result.servers.items ≡ [] }
+        ensures paths { result.paths.paths ≡ [] }
+        ensures paths_extensions { result.paths.extensions ≡ [] }
+        ensures components { result.components ≡ None }
+        ensures security { result.security ≡ None }
+        ensures tags { result.tags.items ≡ [] }
+        ensures external_docs { result.external_docs ≡ None }
+        ensures extensions { result.extensions ≡ [] }
+    {
+        OpenAPI {
+            openapi: String::new(alloc),
+            info: Info::new(alloc),
+            servers: Vec::new(alloc),
+            paths: Paths::new(alloc),
+            components: None,
+            security: None,
+            tags: Vec::new(alloc),
+            external_docs: None,
+            extensions: OrderedMap::new(alloc),
+        }
+    }
+}
+
+/// What a document says of itself and of its servers and tags.
+#[derive(Drop)]
+struct Facts {
+    openapi: String,
+    info: Info,
+    servers: Vec<Server>,
+    tags: Vec<Tag>,
+    external_docs: Option<ExternalDocumentation>,
+}
+
+/// Reads what a document says of itself and of its servers and tags.
+#[tactic(auto, unfolding(openapi_tables::specs::Tables::final_tables, openapi_tables::specs::Tables::tables_with))]
+fn read_facts(alloc: Global, members: &OrderedMap<Node>, steps: &mut Steps) -> Result<Facts, Fault>
+    ensures reads { GivesPart facts_forms result (by kinds.open_api) facts_rows (members_of members.now) }
+    ensures rises { steps.old ≤ steps.new }
+    ensures count { steps.new ≤ steps.old + 3 * rows_weight facts_rows (members_of members.now) }
+{
+    Ok(Facts {
+        openapi: required::<OpenAPI, _>(alloc, members, "openapi", steps)?,
+        info: required::<OpenAPI, _>(alloc, members, "info", steps)?,
+        servers: or_implied::<OpenAPI, _>(alloc, members, "servers", steps)?,
+        tags: or_implied::<OpenAPI, _>(alloc, members, "tags", steps)?,
+        external_docs: optional::<OpenAPI, _>(alloc, members, "externalDocs", steps)?,
+    })
+}
+
+impl Object for OpenAPI {
+    ghost object = { by kinds.open_api };
+
+    ghost slots_of = { record_slots kinds.open_api open_api_rows };
+
+    ghost apart = { λ x. final_apart kinds.open_api (open_api_rows x) };
+}
+
+#[tactic(auto, unfolding(openapi_tables::specs::Tables::final_tables, openapi_tables::specs::Tables::tables_with))]
+impl Record for OpenAPI {
+    ghost rows_of = { open_api_rows };
+
+    fn from_members(
+        alloc: Global,
+        members: &OrderedMap<Node>,
+        steps: &mut Steps,
+    ) -> Result<OpenAPI, Fault> {
+        let facts = read_facts(alloc, members, steps)?;
+        let security = optional::<Self, _>(alloc, members, "security", steps)?;
+        let extensions = extensions::<Self>(alloc, members, steps)?;
+        let paths = required::<Self, _>(alloc, members, "paths", steps)?;
+        let components = optional::<Self, _>(alloc, members, "components", steps)?;
+        Ok(OpenAPI {
+            openapi: facts.openapi,
+            info: facts.info,
+            servers: facts.servers,
+            paths,
+            components,
+            security,
+            tags: facts.tags,
+            external_docs: facts.external_docs,
+            extensions,
+        })
+    }
+
+    fn put_rows(&self, alloc: Global, out: &mut OrderedMap<Node>) -> Result<(), Fault> {
+        put_required(alloc, self, out, "openapi", &self.openapi)?;
+        put_required(alloc, self, out, "info", &self.info)?;
+        put_implied(alloc, self, out, "servers", &self.servers)?;
+        put_required(alloc, self, out, "paths", &self.paths)?;
+        put_optional(alloc, self, out, "components", &self.components)?;
+        put_optional(alloc, self, out, "security", &self.security)?;
+        put_implied(alloc, self, out, "tags", &self.tags)?;
+        put_optional(alloc, self, out, "externalDocs", &self.external_docs)?;
+        put_extensions(alloc, self, out, &self.extensions)
+    }
+
+    ghost by_table = { refl };
+
+    ghost by_rows = { λ x. refl };
+}
+
+impl FromNode for OpenAPI {
+    ghost kind = { by kinds.open_api };
+
+    ghost form_of = { record_form open_api_rows };
+
+    fn from_view(alloc: Global, view: &View<'_>, steps: &mut Steps) -> Result<OpenAPI, Fault> {
+        read_record(alloc, view, steps)
+    }
+
+    ghost few = { lit≤ tt };
+
+    ghost well_made = { refl };
+}
+
+impl ToNode for OpenAPI {
+    fn to_node(&self, alloc: Global) -> Result<Node, Fault> {
+        write_record(alloc, self)
+    }
+
+    ghost there = { λ x. refl };
+}

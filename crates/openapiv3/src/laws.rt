@@ -1,0 +1,7 @@
+//! The laws of reading and writing: each function does nothing, and its contract is the law.
+pub use openapi_documents::laws::headline;
+pub use openapi_tables::laws::{
+    callbacks_kept, canonical, codes, distinct_names, faults, first_value, ignored, order,
+    reads_its_writing, references, settles, well_made, worked_faults, worked_objects,
+    worked_schemas, worked_tables, writable, xml_kept,
+};

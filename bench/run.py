@@ -96,9 +96,67 @@ def schemas(size):
     return '{"anyOf":[' + many(size, lambda i: small[i % len(small)]) + "]}"
 
 
+def answers(number):
+    """The responses of an operation, in its list of members."""
+    return (
+        '"responses":{"200":{"description":"The item","headers":{"X-Rate":{"schema":{"type":"integer"}}},"content":'
+        f'{{"application/json":{{"schema":{{"$ref":"#/components/schemas/Item{number}"}}}}}}}},'
+        '"404":{"$ref":"#/components/responses/missing"},"default":{"$ref":"#/components/responses/failure"}}'
+    )
+
+
+def path(number):
+    """A path with three operations; every fourth has a callback."""
+    heard = '"callbacks":{"changed":{"{$request.body#/hook}":{"post":{"responses":{"204":{"description":"Heard"}}}}}},'
+    body = f'{{"required":true,"content":{{"application/json":{{"schema":{{"$ref":"#/components/schemas/Item{number}"}}}}}}}}'
+    return (
+        f'"/shops/{{shop}}/items{number}":{{"parameters":[{{"name":"shop","in":"path","required":true,"schema":'
+        '{"type":"string","minLength":1}}],'
+        f'"get":{{"tags":["items"],"summary":"Lists items","operationId":"list{number}","parameters":['
+        '{"$ref":"#/components/parameters/limit"},{"name":"after","in":"query","description":"Where the page begins",'
+        f'"schema":{{"type":"string","format":"date-time"}}}}],{answers(number)}}},'
+        f'"post":{{"tags":["items"],"summary":"Makes an item","operationId":"make{number}","requestBody":{body},'
+        f'{heard if number % 4 == 0 else ""}{answers(number)}}},'
+        f'"delete":{{"deprecated":true,"operationId":"drop{number}","security":[{{"key":[]}}],"responses":'
+        '{"204":{"description":"The item is gone"}}}}'
+    )
+
+
+def item(number):
+    """A schema of the components, as those of real descriptions are: an object of some ten members."""
+    texts = ",".join(
+        f'"{name}":{{"type":"string","description":"The {name} of the item, as people read it"}}'
+        for name in ["name", "title", "colour", "origin"])
+    return (
+        f'"Item{number}":{{"type":"object","description":"An item of a shop","required":["id","name"],"properties":{{'
+        '"id":{"type":"integer","format":"int64","readOnly":true},' + texts + ','
+        '"price":{"type":"integer","minimum":0,"example":100},"kind":{"type":"string","enum":["new","used"]},'
+        '"tags":{"type":"array","items":{"type":"string"},"uniqueItems":true},"made":{"type":"string","format":"date"},'
+        '"owner":{"$ref":"#/components/schemas/Owner"},"parts":{"allOf":[{"$ref":"#/components/schemas/Part"},'
+        '{"type":"object","additionalProperties":false}]}}}'
+    )
+
+
+def documents(size):
+    """A whole document: three fifths of it paths, two fifths schemas."""
+    return (
+        '{"openapi":"3.0.3","info":{"title":"Shops","version":"1"},"servers":[{"url":"https://shops.example"}],"paths":{'
+        + many(size * 3 // 5, path) + '},"components":{"schemas":{' + many(size * 2 // 5, item) + '},'
+        '"parameters":{"limit":{"name":"limit","in":"query","schema":{"type":"integer"}}},'
+        '"responses":{"missing":{"description":"No such item"},"failure":{"description":"The call failed"}},'
+        '"securitySchemes":{"key":{"type":"apiKey","in":"header","name":"X-Key"}}}}'
+    )
+
+
 TAGS = [wide, deep, texts, objects, numbers]
 SCHEMAS = [properties, nested, enumerations, schemas]
-SHAPES = {"tag": TAGS, "schema": SCHEMAS}
+SHAPES = {
+    "tag": TAGS,
+    "schema": SCHEMAS,
+    "document": [documents],
+    "settle": [documents],
+    "operations": [documents],
+}
 
 
 def make(shape, size, path):

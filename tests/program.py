@@ -7,6 +7,7 @@ The contracts say what is written for which bytes, which words are a command, an
 What they can't say stands here: that `main` hands the real arguments and streams on and ends with that status, what is
 said on standard error, and what comes of streams that fail. The last line is `N passed, M failed`.
 """
+import json
 import os
 import subprocess
 import sys
@@ -21,6 +22,20 @@ CLEAN_TAG = b'{"name":"a","x-q":[]}\n'
 def example(name):
     with open(f"{TOP}/examples/{name}.json", "rb") as it:
         return it.read()
+
+
+def cleaned_petstore():
+    """The example of a whole document, cleaned: no name that OpenAPI does not know, each style, members by their names."""
+    tree = json.loads(example("petstore"))
+    pets, parts = tree["paths"]["/pets"]["get"], tree["components"]
+    del pets["paging"]
+    pets["parameters"][2]["style"] = "form"
+    pets["responses"]["200"]["headers"]["X-Next"]["style"] = "simple"
+    tree["paths"]["/pets/{petId}"]["parameters"][0]["style"] = "simple"
+    parts["headers"]["rate"]["style"] = "simple"
+    parts["parameters"]["limit"]["style"] = "form"
+    parts["parameters"]["trace"]["style"] = "simple"
+    return json.dumps(tree, sort_keys=True, separators=(",", ":")).encode() + b"\n"
 
 
 # What is asked, the arguments, the input; the status, the output, and what is said on standard error.
@@ -44,6 +59,35 @@ ROWS = [
         b'"owner":{"$ref":"#/components/schemas/Owner"}},"required":["name"],"type":"object","x-table":"pets"}\n',
         b"",
     ),
+    ("the example of a document", ["document"], example("petstore"), 0, cleaned_petstore(), b""),
+    ("the example of a document, settled", ["settle"], example("petstore"), 0, cleaned_petstore(), b""),
+    (
+        "the operations of the example",
+        ["operations"],
+        example("petstore"),
+        0,
+        b"get /pets\npost /pets\nget /pets/{petId}\ndelete /pets/{petId}\n",
+        b"",
+    ),
+    (
+        "the small document",
+        ["document"],
+        example("small"),
+        0,
+        b'{"info":{"title":"Small","version":"1"},"openapi":"3.0.3",'
+        b'"paths":{"/ping":{"get":{"responses":{"204":{"description":"Alive"}}}}}}\n',
+        b"",
+    ),
+    ("the operations of the small document", ["operations"], example("small"), 0, b"get /ping\n", b""),
+    (
+        "a fault in an operation",
+        ["operations"],
+        b'{"openapi":"3.0.3","info":{"title":"t","version":"1"},"paths":{"/a":{"get":{}}}}',
+        1,
+        b"",
+        b"missing field `responses` at #/paths/~1a/get\n",
+    ),
+    ("a tag as a document", ["settle"], TAG, 1, b"", b"missing field `openapi` at #\n"),
     ("a tag with no name", ["tag"], b"{}", 1, b"", b"missing field `name` at #\n"),
     ("a fault further in", ["tag"], b'{"name":"t","externalDocs":{}}', 1, b"", b"missing field `url` at #/externalDocs\n"),
     ("a number that is not whole", ["tag"], b'{"name":"t","x-n":[1,0.5]}', 1, b"", b"number not whole at #/x-n/1\n"),

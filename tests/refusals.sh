@@ -8,7 +8,9 @@
 # The program is the one that `./check` or `./openapi_clean --build` made.
 set -eu
 top=$(cd "$(dirname "${BASH_SOURCE[0]}")/.." && pwd)
-[ $# -gt 0 ] || set -- tag "$top/examples/tag.json" schema "$top/examples/schema.json"
+[ $# -gt 0 ] || set -- tag "$top/examples/tag.json" schema "$top/examples/schema.json" \
+  document "$top/examples/small.json" settle "$top/examples/small.json" operations "$top/examples/small.json" \
+  document "$top/examples/petstore.json" settle "$top/examples/petstore.json" operations "$top/examples/petstore.json"
 program=$top/crates/openapi_clean/out/openapi_clean
 if [ ! -x "$program" ]; then
   printf 'FAILED: %s is not built\n0 passed, 1 failed\n' "$program"

@@ -1,18 +1,24 @@
 -- What the words of the command line mean.
 use Rattle.std.specs.Prelude.{◌≡◌, ◌≢◌, ℕ, List, [], ◌∷◌, Option, Some, None, Result, Ok, Err, codes}
-use Rattle.openapi_tables.specs.Kind.{Kind, a_schema, by, tag}
+use Rattle.openapi_tables.specs.Kind.{Kind, a_schema, by, open_api, tag}
 use Rattle.openapi_clean.specs.declared.command.Command.{Command}
-use Rattle.openapi_clean.specs.declared.command.Command.TheVariants.{Tag, Schema}
+use Rattle.openapi_clean.specs.declared.command.Command.TheVariants.{Tag, Schema, Document, Settle, Operations}
 
 -- the word of a command
 abbrev pub word_of : Command → List ℕ
 word_of Tag = codes "tag"
 word_of Schema = codes "schema"
+word_of Document = codes "document"
+word_of Settle = codes "settle"
+word_of Operations = codes "operations"
 
--- the kind of object that a command reads and writes
+-- the kind of object that a command reads
 abbrev pub kind_of : Command → Kind
 kind_of Tag = by tag
 kind_of Schema = a_schema
+kind_of Document = by open_api
+kind_of Settle = by open_api
+kind_of Operations = by open_api
 
 -- the command has that word, or no command has it
 abbrev pub IsCommandOf : List ℕ → Result Command (Unit {0}) → Type 0

@@ -8,11 +8,17 @@ use Rattle.serde_json.specs.Written.{has_float, compact_text}
 use Rattle.openapi_node.specs.Json.{data_of, tree_of_data, IsNotWhole}
 use Rattle.openapi_node.specs.Tree.{Tree}
 use Rattle.openapi_node.specs.declared.fault.Cause.TheVariants as causes
-use Rattle.openapi_tables.specs.Kind.{Kind}
+use Rattle.openapi_tables.specs.Kind.{Kind, a_schema, by, open_api, tag}
+use Rattle.openapi_tables.specs.Operations.{Operation, ops}
+use Rattle.openapi_tables.specs.Read.{form}
 use Rattle.openapi_tables.specs.Tables.{final_tables}
 use Rattle.openapi_tables.specs.Conforms.{conforms}
 use Rattle.openapi_tables.specs.Print.{clean}
 use Rattle.openapi_rows.specs.Gives.{Fails}
+use Rattle.openapi_settle.specs.Settled.{settled}
+use Rattle.openapi_clean.specs.Commands.{kind_of}
+use Rattle.openapi_clean.specs.declared.command.Command.{Command}
+use Rattle.openapi_clean.specs.declared.command.Command.TheVariants.{Tag, Schema, Document, Settle, Operations}
 use Rattle.openapi_clean.specs.declared.fault.RunFault.{RunFault}
 use Rattle.openapi_clean.specs.declared.fault.RunFault.TheVariants.{Refused, NotJson, Memory, Read, Write}
 
@@ -23,13 +29,34 @@ pub record IsJsonOf (bytes : List ℕ) (P : Tree → Type 0) : Type 0 where
   pub whole_numbers : has_float value ≡ false
   pub holds : P (tree_of_data value)
 
--- the line for a tree: the tree cleaned as the kind, as compact JSON, and the end of the line
-abbrev pub line_of : Kind → Tree → List ℕ
-line_of k t = compact_text (data_of (clean final_tables k t)) ++ 10 ∷ []
+-- the line of a tree: compact JSON, and the end of the line
+abbrev pub line_of : Tree → List ℕ
+line_of t = compact_text (data_of t) ++ 10 ∷ []
 
--- the bytes are JSON whose tree conforms to the kind, and the line is that of the tree
-abbrev pub IsAnswer : Kind → List ℕ → List ℕ → Type 0
-IsAnswer k bytes line = IsJsonOf bytes (λ t. (conforms final_tables k t ≡ true) × (line ≡ line_of k t))
+-- the bytes are JSON whose tree conforms to the kind, and the line is that of what a function makes of the tree
+abbrev pub IsLineOf : Kind → (Tree → Tree) → List ℕ → List ℕ → Type 0
+IsLineOf k f bytes line = IsJsonOf bytes (λ t. (conforms final_tables k t ≡ true) × (line ≡ line_of (f t)))
+
+-- the line of an operation: its method, a space, its path, and the end of the line
+abbrev pub operation_line : (path method : List ℕ) → List ℕ
+operation_line path method = method ++ 32 ∷ path ++ 10 ∷ []
+
+-- the lines of operations
+abbrev pub lines_of : List Operation → List ℕ
+lines_of [] = []
+lines_of (o ∷ os) = operation_line o.path o.method ++ lines_of os
+
+-- what a command writes for a tree
+abbrev pub text_of : Command → Tree → List ℕ
+text_of Tag t = line_of (clean final_tables (by tag) t)
+text_of Schema t = line_of (clean final_tables a_schema t)
+text_of Document t = line_of (clean final_tables (by open_api) t)
+text_of Settle t = line_of (settled (by open_api) t)
+text_of Operations t = lines_of (ops (form final_tables (by open_api) t))
+
+-- the bytes are JSON whose tree conforms to the kind of the command, and the text is what the command writes for it
+abbrev pub IsAnswer : Command → List ℕ → List ℕ → Type 0
+IsAnswer c bytes text = IsJsonOf bytes (λ t. (conforms final_tables (kind_of c) t ≡ true) × (text ≡ text_of c t))
 
 -- the bytes are no text in UTF-8, or no JSON
 abbrev pub IsNoJson : List ℕ → Type 0

@@ -1,12 +1,16 @@
-//! The line that answers an input. Each step lets go of what the step before it made, so that no more than two forms of
-//! the input stand at a time: its value, its tree, the object that was read, the cleaned tree, the cleaned value, the
-//! line.
-ghost use Rattle.std.specs.Prelude.{◌≡◌, ◌≢◌, ◌⊎◌, ◌++◌, ◌∷◌, [], string_bytes, IfOk, IfErr, Some, true, false};
+//! The text that answers an input. Each step lets go of what the step before it made, so that no more than two forms of
+//! the input stand at a time: its value, its tree, the object that was read, the cleaned or settled tree, its value, the
+//! line. Three stand while a tree is settled: the tree, the cleaned one, and an object.
+ghost use Rattle.std.specs.Prelude.{◌≡◌, ◌≢◌, ◌⊎◌, ◌++◌, ◌∷◌, [], string_bytes, IfOk, IfErr, OnOk, Some, true, false};
 ghost use Rattle.openapi_clean.specs.Commands.{kind_of};
-ghost use Rattle.openapi_clean.specs.Output.{IsAnswer, IsJsonOf, IsNoJson, IsRefusalOf, HoldsFraction};
-ghost use Rattle.openapi_clean.specs.Output.{IsUnwhole, Explains};
+ghost use Rattle.openapi_clean.specs.Output.{IsAnswer, IsJsonOf, IsLineOf, IsNoJson, IsRefusalOf, HoldsFraction};
+ghost use Rattle.openapi_clean.specs.Output.{IsUnwhole, Explains, line_of, lines_of, operation_line};
+ghost use Rattle.openapi_documents.specs.Documents.{document_form};
 ghost use Rattle.openapi_node.specs.Json.{IsTreeOf, data_of};
+ghost use Rattle.openapi_settle.specs.Settled.{settled};
 ghost use Rattle.openapi_tables.specs.Conforms.{conforms};
+ghost use Rattle.openapi_tables.specs.Kind.{by, open_api};
+ghost use Rattle.openapi_tables.specs.Operations.{ops};
 ghost use Rattle.openapi_tables.specs.Print.{print, clean};
 ghost use Rattle.openapi_tables.specs.Read.{form};
 ghost use Rattle.openapi_tables.specs.Tables.{final_tables};
@@ -17,55 +21,73 @@ ghost use Rattle.serde_json.specs.Written.{has_float, compact_text};
 use crate::command::Command;
 use crate::fault::RunFault;
 use openapi_node::{Cause, Fault, Node, Steps};
-use openapiv3::{FromNode, Schema, Tag, ToNode};
+use openapiv3::{FromNode, OpenAPI, Schema, Settle, Tag, ToNode};
 use serde_json::Value;
 use std::alloc::Global;
 
-/// The line that answers the bytes.
+/// The text that answers the bytes.
 pub fn answer(
     alloc: Global,
     command: Command,
     bytes: &[u8],
     steps: &mut Steps,
 ) -> Result<String, RunFault>
-    ensures ok { IfOk result (λ line. IsAnswer (kind_of command) bytes.now (string_bytes line)) }
+    ensures ok { IfOk result (λ text. IsAnswer command bytes.now (string_bytes text)) }
     ensures err { IfErr result (Explains (kind_of command) bytes.now) }
 {
     match command {
         Command::Tag => cleaned_line::<Tag>(alloc, bytes, steps),
         Command::Schema => cleaned_line::<Schema>(alloc, bytes, steps),
+        Command::Document => cleaned_line::<OpenAPI>(alloc, bytes, steps),
+        Command::Settle => settled_line::<OpenAPI>(alloc, bytes, steps),
+        Command::Operations => lines_of_object::<OpenAPI>(alloc, bytes, steps),
     }
 }
 
 /// The line of what is read as a `T` and written again.
-fn cleaned_line<T: FromNode + ToNode + Drop>(
+fn cleaned_line<T: ToNode + Drop>(
     alloc: Global,
     bytes: &[u8],
     steps: &mut Steps,
 ) -> Result<String, RunFault>
-    ensures ok { IfOk result (λ line. IsAnswer T.FromNode.kind bytes.now (string_bytes line)) }
-    ensures err { IfErr result (Explains T.FromNode.kind bytes.now) }
-{
-    let value = cleaned_value::<T>(alloc, bytes, steps)?;
-    line_of_value(alloc, &value)
-}
-
-/// The value of the cleaned tree.
-fn cleaned_value<T: FromNode + ToNode + Drop>(
-    alloc: Global,
-    bytes: &[u8],
-    steps: &mut Steps,
-) -> Result<Value, RunFault>
-    ensures ok { IfOk result (λ v. IsJsonOf bytes.now (λ t. (conforms final_tables T.FromNode.kind t ≡ true)
-        × (view v ≡ data_of (clean final_tables T.FromNode.kind t)))) }
+    ensures ok { IfOk result (λ line. IsLineOf T.FromNode.kind (clean final_tables T.FromNode.kind) bytes.now
+        (string_bytes line)) }
     ensures err { IfErr result (Explains T.FromNode.kind bytes.now) }
 {
     let node = cleaned_tree::<T>(alloc, bytes, steps)?;
-    value_of_tree(alloc, &node, steps)
+    line_of_tree(alloc, node, steps)
+}
+
+/// The line of what the tree settles to as a `T`.
+fn settled_line<T: ToNode + Drop>(
+    alloc: Global,
+    bytes: &[u8],
+    steps: &mut Steps,
+) -> Result<String, RunFault>
+    ensures ok { IfOk result (λ line. IsLineOf T.FromNode.kind (settled T.FromNode.kind) bytes.now
+        (string_bytes line)) }
+    ensures err { IfErr result (Explains T.FromNode.kind bytes.now) }
+{
+    let node = settled_tree::<T>(alloc, bytes, steps)?;
+    line_of_tree(alloc, node, steps)
+}
+
+/// The lines of what is read as a `T`.
+fn lines_of_object<T: Lines + Drop>(
+    alloc: Global,
+    bytes: &[u8],
+    steps: &mut Steps,
+) -> Result<String, RunFault>
+    ensures ok { IfOk result (λ text. IsJsonOf bytes.now (λ t. (conforms final_tables T.FromNode.kind t ≡ true)
+        × (string_bytes text ≡ T.lines_of_form (form final_tables T.FromNode.kind t)))) }
+    ensures err { IfErr result (Explains T.FromNode.kind bytes.now) }
+{
+    let object = read_object::<T>(alloc, bytes, steps)?;
+    object.lines(alloc)
 }
 
 /// The cleaned tree.
-fn cleaned_tree<T: FromNode + ToNode + Drop>(
+fn cleaned_tree<T: ToNode + Drop>(
     alloc: Global,
     bytes: &[u8],
     steps: &mut Steps,
@@ -76,6 +98,20 @@ fn cleaned_tree<T: FromNode + ToNode + Drop>(
 {
     let object = read_object::<T>(alloc, bytes, steps)?;
     tree_of_object(alloc, &object)
+}
+
+/// The settled tree.
+fn settled_tree<T: ToNode + Drop>(
+    alloc: Global,
+    bytes: &[u8],
+    steps: &mut Steps,
+) -> Result<Node, RunFault>
+    ensures ok { IfOk result (λ n. IsJsonOf bytes.now (λ t. (conforms final_tables T.FromNode.kind t ≡ true)
+        × (n ≡ settled T.FromNode.kind t))) }
+    ensures err { IfErr result (Explains T.FromNode.kind bytes.now) }
+{
+    let node = read_tree(alloc, bytes)?;
+    settle_tree::<T>(alloc, &node, steps)
 }
 
 /// The object that the bytes hold.
@@ -163,9 +199,35 @@ fn tree_of_object<T: ToNode>(alloc: Global, object: &T) -> Result<Node, RunFault
     }
 }
 
-/// The value of a tree.
-fn value_of_tree(alloc: Global, node: &Node, steps: &mut Steps) -> Result<Value, RunFault>
-    ensures ok { IfOk result (λ v. view v ≡ data_of node.now) }
+/// What a tree settles to as a `T`.
+#[tactic(auto, using(crate::proofs::Refusals::not_conforming))]
+fn settle_tree<T: ToNode + Drop>(
+    alloc: Global,
+    node: &Node,
+    steps: &mut Steps,
+) -> Result<Node, RunFault>
+    ensures ok { IfOk result (λ n. (conforms final_tables T.FromNode.kind node.now ≡ true)
+        × (n ≡ settled T.FromNode.kind node.now)) }
+    ensures err { IfErr result (λ e. (e ≡ RunFault.Memory) ⊎ IsRefusalOf T.FromNode.kind node.now e) }
+{
+    match T::settle(alloc, node, steps) {
+        Ok(settled) => Ok(settled),
+        Err(fault) => Err(refusal(fault)),
+    }
+}
+
+/// The line of a tree.
+fn line_of_tree(alloc: Global, node: Node, steps: &mut Steps) -> Result<String, RunFault>
+    ensures ok { IfOk result (λ line. string_bytes line ≡ line_of node) }
+    ensures err { IfErr result (λ e. e ≡ RunFault.Memory) }
+{
+    let value = value_of_tree(alloc, node, steps)?;
+    line_of_value(alloc, &value)
+}
+
+/// The value of a tree, which is let go of.
+fn value_of_tree(alloc: Global, node: Node, steps: &mut Steps) -> Result<Value, RunFault>
+    ensures ok { IfOk result (λ v. view v ≡ data_of node) }
     ensures err { IfErr result (λ e. e ≡ RunFault.Memory) }
 {
     match node.to_value(alloc, steps) {
@@ -187,4 +249,43 @@ fn line_of_value(alloc: Global, value: &Value) -> Result<String, RunFault>
         Ok(()) => Ok(line),
         Err(_) => Err(RunFault::Memory),
     }
+}
+
+/// What is told in lines of text.
+trait Lines: FromNode {
+    ghost use Rattle.std.specs.Prelude.{◌≡◌, ℕ, List, string_bytes, IfOk, IfErr};
+    ghost use Rattle.openapi_tables.specs.Form.{Form};
+
+    /// The lines of what has a form.
+    ghost lines_of_form: { Form → List ℕ };
+
+    /// The lines of the object.
+    fn lines(&self, alloc: Global) -> Result<String, RunFault>
+        ensures ok { IfOk result (λ text. string_bytes text ≡ lines_of_form (Self.form_of self.now)) }
+        ensures err { IfErr result (λ e. e ≡ RunFault.Memory) };
+}
+
+impl Lines for OpenAPI {
+    ghost lines_of_form = { λ f. lines_of (ops f) };
+
+    /// A line for each operation: its method, a space, its path.
+    fn lines(&self, alloc: Global) -> Result<String, RunFault> {
+        let mut text = String::new(alloc);
+        for (path, method, _) in self.operations() {
+            push_line(&mut text, method, path)?;
+        }
+        Ok(text)
+    }
+}
+
+/// Adds the line of an operation.
+fn push_line(text: &mut String, method: &str, path: &str) -> Result<(), RunFault>
+    ensures ok { OnOk result (string_bytes text.new ≡ string_bytes text.old ++ operation_line path.now method.now) }
+    ensures err { IfErr result (λ e. e ≡ RunFault.Memory) }
+{
+    text.push_str(method)?;
+    text.push(' ')?;
+    text.push_str(path)?;
+    text.push('\n')?;
+    Ok(())
 }

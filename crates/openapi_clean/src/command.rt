@@ -11,6 +11,12 @@ pub enum Command {
     Tag,
     /// `schema`: reads a Schema Object (OpenAPI 3.0.3, section 4.7.24) and writes it cleaned.
     Schema,
+    /// `document`: reads an OpenAPI Object (OpenAPI 3.0.3, section 4.7.1), a whole document, and writes it cleaned.
+    Document,
+    /// `settle`: reads a whole document and writes it settled: cleaned twice, after which cleaning changes nothing.
+    Settle,
+    /// `operations`: reads a whole document and writes a line for each of its operations: the method, a space, the path.
+    Operations,
 }
 
 impl Command {
@@ -45,6 +51,9 @@ impl FromStr for Command {
         match word {
             "tag" => Ok(Command::Tag),
             "schema" => Ok(Command::Schema),
+            "document" => Ok(Command::Document),
+            "settle" => Ok(Command::Settle),
+            "operations" => Ok(Command::Operations),
             _ => Err(()),
         }
     }

@@ -3,6 +3,7 @@ ghost use Rattle.std.specs.Prelude.{◌≡◌};
 ghost use Rattle.openapi_clean.specs.Status.{status_of};
 
 use openapi_node::Fault;
+use std::alloc::AllocError;
 use thiserror::Error;
 
 /// Why a run wrote no whole line. What is printed is one line of text, without its end.
@@ -24,6 +25,16 @@ pub enum RunFault {
     /// The writer failed, or took nothing.
     #[error("write failed")]
     Write,
+}
+
+impl From<AllocError> for RunFault {
+    ghost use Rattle.openapi_clean.specs.declared.fault.RunFault.TheVariants as faults;
+
+    ghost from_gives = { λ e f. f ≡ faults.Memory };
+
+    fn from(_: AllocError) -> RunFault {
+        RunFault::Memory
+    }
 }
 
 impl RunFault {

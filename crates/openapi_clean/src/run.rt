@@ -11,11 +11,11 @@ use openapi_node::Steps;
 use std::alloc::Global;
 use std::io::{Read, Write};
 
-/// Reads the reader to its end, and writes the line that answers the command: the tree of the input, read as the
-/// command's object and cleaned, as compact JSON.
+/// Reads the reader to its end, and writes the text that answers the command: the tree of the input, read as the
+/// command's object and cleaned or settled, as compact JSON and the end of a line; or a line for each operation.
 ///
-/// The line is made whole before its first byte is written, so on every failure but `Write` nothing was written, and
-/// on `Write` a beginning of the line. `Read` comes where the reader fails or does not end, `NotJson` where the bytes
+/// The text is made whole before its first byte is written, so on every failure but `Write` nothing was written, and
+/// on `Write` a beginning of the text. `Read` comes where the reader fails or does not end, `NotJson` where the bytes
 /// are no JSON, `Refused` where a number is not whole or the tree does not conform, `Memory` wherever a growth is
 /// refused. What was taken from the reader is gone.
 pub fn run<R: Read, W: Write>(
@@ -28,14 +28,14 @@ pub fn run<R: Read, W: Write>(
     ensures read { OnOk result (IsAtEnd (R.remaining reader.new)) }
 
     ensures written { OnOk result (IfSome (R.remaining reader.old) (λ bytes.
-        (line : _) × IsAnswer (kind_of command) bytes line
+        (line : _) × IsAnswer command bytes line
         × Appends (W.contents writer.old) (W.contents writer.new) line)) }
 
     // Nothing is written on any other failure.
     ensures unwritten { IfErr result (λ e. e ≢ RunFault.Write
         → Keeps (W.contents writer.old) (W.contents writer.new)) }
     ensures begun { IfErr result (λ e. e ≡ RunFault.Write → IfSome (R.remaining reader.old) (λ bytes.
-        (line : _) × IsAnswer (kind_of command) bytes line
+        (line : _) × IsAnswer command bytes line
         × AppendsPart (W.contents writer.old) (W.contents writer.new) line)) }
 
     ensures explained { IfErr result (λ e. e ≢ RunFault.Read → e ≢ RunFault.Write

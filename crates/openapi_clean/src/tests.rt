@@ -169,6 +169,86 @@ fn schemas_are_cleaned(rt: HostRuntime) -> Result<(), Fail> {
     Ok(())
 }
 
+// Members come in the order of their names, since JSON is read by way of `serde_json`; so `content` stands before
+// `schema`, and decides.
+#[test]
+fn documents_are_cleaned(rt: HostRuntime) -> Result<(), Fail> {
+    let rows: [(&[u8], &str); 6] = [
+        (
+            b"{\"openapi\":\"3.0.3\",\"info\":{\"title\":\"t\",\"version\":\"1\"},\"paths\":{},\"components\":{\"parameters\":{\"P\":{\"in\":\"query\",\"name\":\"q\",\"schema\":5,\"content\":{}}}}}",
+            "0: {\"components\":{\"parameters\":{\"P\":{\"content\":{},\"in\":\"query\",\"name\":\"q\",\"style\":\"form\"}}},\"info\":{\"title\":\"t\",\"version\":\"1\"},\"openapi\":\"3.0.3\",\"paths\":{}}\n",
+        ),
+        // A fault in a schema, in a header of an encoding, and in an operation of a callback.
+        (
+            b"{\"openapi\":\"3.0.3\",\"info\":{\"title\":\"t\",\"version\":\"1\"},\"paths\":{},\"components\":{\"schemas\":{\"a/b~c\":{\"not\":5}}}}",
+            "1: invalid type, expected object at #/components/schemas/a~1b~0c/not",
+        ),
+        (
+            b"{\"openapi\":\"3.0.3\",\"info\":{\"title\":\"t\",\"version\":\"1\"},\"paths\":{},\"components\":{\"headers\":{\"h\":{\"content\":{\"a\":{\"encoding\":{\"e\":{\"headers\":{\"i\":{}}}}}}}}}}",
+            "1: missing field `schema` or `content` at #/components/headers/h/content/a/encoding/e/headers/i",
+        ),
+        (
+            b"{\"openapi\":\"3.0.3\",\"info\":{\"title\":\"t\",\"version\":\"1\"},\"paths\":{\"/a\":{\"get\":{\"responses\":{},\"callbacks\":{\"c\":{\"u\":{\"put\":{}}}}}}}}",
+            "1: missing field `responses` at #/paths/~1a/get/callbacks/c/u/put",
+        ),
+        (
+            b"{\"openapi\":\"3.0.3\",\"info\":{\"title\":\"t\",\"version\":\"1\"},\"paths\":{},\"x-a\":0.5}",
+            "1: number not whole at #/x-a",
+        ),
+        (b"{\"openapi\":", "2: not JSON"),
+    ];
+    for (input, report) in rows {
+        let told = report_of(&rt, Command::Document, input)?;
+        assert_eq!(rt; told.as_str(), report);
+    }
+    Ok(())
+}
+
+/// A document with a schema that is of another sort once it is written.
+const UNSETTLED: &[u8] =
+    b"{\"openapi\":\"3.0.3\",\"info\":{\"title\":\"t\",\"version\":\"1\"},\"paths\":{},\"components\":{\"schemas\":{\"S\":{\"type\":\"integer\",\"exclusiveMinimum\":false,\"required\":[]}}}}";
+
+#[test]
+fn documents_are_settled(rt: HostRuntime) -> Result<(), Fail> {
+    let cleaned = report_of(&rt, Command::Document, UNSETTLED)?;
+    assert_eq!(rt;
+        cleaned.as_str(),
+        "0: {\"components\":{\"schemas\":{\"S\":{\"exclusiveMinimum\":false,\"type\":\"integer\"}}},\"info\":{\"title\":\"t\",\"version\":\"1\"},\"openapi\":\"3.0.3\",\"paths\":{}}\n"
+    );
+    let settled = report_of(&rt, Command::Settle, UNSETTLED)?;
+    assert_eq!(rt;
+        settled.as_str(),
+        "0: {\"components\":{\"schemas\":{\"S\":{\"type\":\"integer\"}}},\"info\":{\"title\":\"t\",\"version\":\"1\"},\"openapi\":\"3.0.3\",\"paths\":{}}\n"
+    );
+    let refused = report_of(&rt, Command::Settle, b"{\"openapi\":5}")?;
+    assert_eq!(rt;
+        refused.as_str(),
+        "1: invalid type, expected text at #/openapi"
+    );
+    Ok(())
+}
+
+#[test]
+fn operations_are_listed(rt: HostRuntime) -> Result<(), Fail> {
+    let rows: [(&[u8], &str); 4] = [
+        (
+            b"{\"openapi\":\"3.0.3\",\"info\":{\"title\":\"t\",\"version\":\"1\"},\"paths\":{\"/b\":{\"trace\":{\"responses\":{}}},\"/r\":{\"$ref\":\"#/x\"},\"/a\":{\"get\":{\"responses\":{}},\"delete\":{\"responses\":{}},\"post\":{\"responses\":{}}},\"c\":7}}",
+            "0: get /a\npost /a\ndelete /a\ntrace /b\n",
+        ),
+        (
+            b"{\"openapi\":\"3.0.3\",\"info\":{\"title\":\"t\",\"version\":\"1\"},\"paths\":{}}",
+            "0: ",
+        ),
+        (b"{}", "1: missing field `openapi` at #"),
+        (b"", "2: not JSON"),
+    ];
+    for (input, report) in rows {
+        let told = report_of(&rt, Command::Operations, input)?;
+        assert_eq!(rt; told.as_str(), report);
+    }
+    Ok(())
+}
+
 // No proper beginning of a JSON object is JSON.
 #[test]
 fn beginnings_are_not_json(rt: HostRuntime) -> Result<(), Fail> {
@@ -337,14 +417,17 @@ fn failures_are_told(rt: HostRuntime) -> Result<(), Fail> {
 fn words_are_commands(rt: HostRuntime) {
     assert_eq!(rt; "tag".parse::<Command>(), Ok(Command::Tag));
     assert_eq!(rt; "schema".parse::<Command>(), Ok(Command::Schema));
+    assert_eq!(rt; "document".parse::<Command>(), Ok(Command::Document));
+    assert_eq!(rt; "settle".parse::<Command>(), Ok(Command::Settle));
+    assert_eq!(rt; "operations".parse::<Command>(), Ok(Command::Operations));
     for word in [
         "",
         "Tag",
         "tags",
         "schemas",
-        "document",
-        "settle",
-        "operations",
+        "documents",
+        "Settle",
+        "operation",
     ] {
         assert!(rt; word.parse::<Command>().is_err(), "{word}");
     }

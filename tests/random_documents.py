@@ -1,0 +1,395 @@
+#!/usr/bin/env python3
+"""Makes random documents from OpenAPI's own tables, and compares the program's answers with what their maker knows.
+
+usage: tests/random_documents.py [--seed N] [--count N] [PROGRAM]
+       (with no PROGRAM: the one that `./check` or `./openapi_clean --build` made)
+
+Each round makes a document that conforms, with members that OpenAPI does not know, nulls where a member may be missing,
+empty lists and maps, flags that are false, names and texts of all sorts, and numbers up to the limits. The maker knows the
+cleaned document, the settled one and the operations, and asks the program for each; what was settled has to settle to
+itself. Then it plants one fault, of which it knows the cause and the place, and asks again. The tables stand in
+`tests/openapi_fields.py`. It is no part of `./check`. The first line tells the seed.
+The last line is `N passed, M failed`.
+"""
+import argparse
+import collections
+import copy
+import json
+import os
+import random
+import subprocess
+import sys
+
+from openapi_fields import KEYWORDS, METHODS, OF_TYPE, TABLES, TAGGED
+
+TOP = os.path.dirname(os.path.dirname(os.path.realpath(__file__)))
+BUILT = f"{TOP}/crates/openapi_clean/out/openapi_clean"
+
+SORTS = [*OF_TYPE, "oneOf", "allOf", "anyOf", "not", "any"]
+LETTERS = ["a", "b", "Z", "0", " ", "/", "~", "{", "}", '"', "\\", ".", "-", "é", "ß", "日", "😀", "\n", "\t", "\x01", "\x7f"]
+LEAST, MOST = -(2**63), 2**64 - 1
+
+# A tree as it is given, as it is cleaned, and as it is settled.
+Made = collections.namedtuple("Made", "given cleaned settled")
+# A fault: how it is planted in the object that was given, and what is said of it.
+Planted = collections.namedtuple("Planted", "place value said")
+ABSENT = object()
+
+
+def same(tree):
+    return Made(tree, tree, tree)
+
+
+def is_whole(value):
+    return isinstance(value, int) and not isinstance(value, bool)
+
+
+def sort_of(members):
+    """The sort of a schema whose members these are: one of SORTS."""
+    present = [name for name in KEYWORDS if members.get(name) is not None]
+    if len(present) == 1 and present[0] in SORTS:
+        return present[0]
+    of = members.get("type")
+    if of not in OF_TYPE or not set(present) <= {"type", *OF_TYPE[of]}:
+        return "any"
+    entries = [it for it in members.get("enum") or [] if it is not None]
+    fits = {
+        "string": lambda: all(isinstance(it, str) for it in entries),
+        "number": lambda: all(is_whole(it) for it in entries),
+        "integer": lambda: all(is_whole(it) and it < 2**63 for it in [
+            *entries, *(members[name] for name in ["multipleOf", "minimum", "maximum"] if members.get(name) is not None)]),
+        "boolean": lambda: all(isinstance(it, bool) for it in entries),
+    }
+    return of if fits.get(of, lambda: True)() else "any"
+
+
+def kept(name, value, sort):
+    """Whether a present member of a schema is written."""
+    if name in ("oneOf", "allOf", "anyOf") and sort == name:
+        return True
+    if value == [] or value == {} and name == "properties":
+        return False
+    return sort == "any" or not (value is False and KEYWORDS[name] == "flag")
+
+
+class Maker:
+    """Makes trees, and keeps the faults that could be planted in what it made."""
+
+    def __init__(self, dice):
+        self.dice = dice
+        self.faults = []
+        self.room = dice.choice([40, 150, 400])
+
+    def likes(self, chance):
+        """Whether a member that need not be there is to be there; the fuller the document, the less."""
+        self.room -= 1
+        return self.dice.random() < (chance if self.room > 0 else 0.02)
+
+    def text(self):
+        return "".join(self.dice.choice(LETTERS) for _ in range(self.dice.choice([0, 1, 2, 5, 9])))
+
+    def number(self, least, most):
+        near = self.dice.randint(-20, 200)
+        return max(least, min(most, self.dice.choice([near, near, near, least, most, self.dice.randint(least, most)])))
+
+    def tree(self, place, depth=2):
+        """Any tree. Each number in it has to be whole."""
+        self.fault(place, 0.5, "number not whole")
+        pick = self.dice.randrange(8 if depth and self.room > 0 else 5)
+        if pick < 5:
+            return [None, self.dice.random() < 0.5, self.number(LEAST, MOST), self.text(), self.text()][pick]
+        if pick == 5:
+            return [self.tree((*place, i), depth - 1) for i in range(self.dice.randrange(3))]
+        return {name: self.tree((*place, name), depth - 1) for name in self.names(self.dice.randrange(3))}
+
+    def names(self, number, first=""):
+        return list(dict.fromkeys(first + self.text() for _ in range(number)))
+
+    def fault(self, place, value, cause, at=None):
+        steps = [str(it).replace("~", "~0").replace("/", "~1") for it in (place if at is None else at)]
+        self.faults.append(Planted(place, value, "/".join([f"{cause} at #", *steps])))
+
+    def wrong(self, place, word, value=5):
+        self.fault(place, value, f"invalid type, expected {word}")
+
+    def make(self, kind, place):
+        """A value of the kind; what could go wrong with it by itself is kept."""
+        if kind[0] == "[":
+            self.wrong(place, "list", {})
+            return self.several(kind[1:-1], place, range(self.dice.choice([0, 1, 1, 2, 3]) if self.room > 0 else 0))
+        if kind[0] == "{":
+            self.wrong(place, "object", [])
+            return self.several(kind[1:-1], place, self.names(self.dice.choice([0, 1, 1, 2, 3]) if self.room > 0 else 0))
+        if kind[0] == "&":
+            if self.dice.random() < 0.25 or self.room <= 0:
+                self.wrong(place, "object")
+                others = {"type": 7, "x-a": None} if self.dice.random() < 0.3 else {}
+                reference = {"$ref": self.text()}
+                return Made({**reference, **others}, reference, reference)
+            made = self.make(kind[1:], place)
+            if self.dice.random() < 0.1 and kind != "&Callback":
+                made.given["$ref"] = self.dice.choice([5, None, {}, ["#/a"]])
+            return made
+        if kind == "any":
+            return same(self.tree(place))
+        if kind == "text":
+            self.wrong(place, "text")
+            return same(self.text())
+        if kind == "flag":
+            self.wrong(place, "flag", "true")
+            return same(self.dice.random() < 0.5)
+        if kind == "size":
+            self.wrong(place, "whole number", "1")
+            self.fault(place, -1, "invalid value")
+            return same(self.number(0, MOST))
+        if kind == "whole":
+            self.wrong(place, "whole number", "1")
+            return same(self.number(LEAST, MOST))
+        if kind == "flag-or-schema":
+            if self.dice.random() < 0.5:
+                self.wrong(place, "flag or object", "no")
+                return same(self.dice.random() < 0.5)
+            made = self.make("&Schema", place)
+            self.faults = [it for it in self.faults if it.place != place]
+            self.wrong(place, "flag or object", [])
+            return made
+        if kind[0].islower():
+            self.wrong(place, "text")
+            self.fault(place, "wat", "unknown variant")
+            return same(self.dice.choice(kind.split("|")))
+        self.wrong(place, "object", [])
+        return self.object(kind, place)
+
+    def several(self, kind, place, steps):
+        """A list or a map of a kind."""
+        made = [(step, self.make(kind, (*place, step))) for step in steps]
+        if isinstance(steps, range):
+            return Made(*([it[way] for _, it in made] for way in range(3)))
+        return Made(*({step: it[way] for step, it in made} for way in range(3)))
+
+    def object(self, kind, place):
+        if kind == "Schema":
+            return self.schema(place)
+        if kind == "Security":
+            return self.several("[text]", place, self.names(self.dice.randrange(3)))
+        made = Made({}, {}, {})
+        if kind == "Paths":
+            self.class_of("&PathItem", self.names(self.dice.randrange(4), "/"), made, place)
+        elif kind == "Callback":
+            names = [it for it in [*self.names(self.dice.randrange(3)), "$ref", "x"][:2] if not it.startswith("x-")]
+            self.class_of("PathItem", names, made, place)
+            self.extend(made, place, [])
+            return made
+        elif kind == "Responses":
+            self.row("default O &Response", made, place)
+            self.codes(made, place)
+        elif kind in TAGGED:
+            self.tagged(kind, made, place)
+        else:
+            self.rows(TABLES[kind], made, place)
+        self.extend(made, place, ["wat", "X-a", "x", "99", "2X", "1000", "-x"])
+        return made
+
+    def extend(self, made, place, unknown):
+        """Puts extensions, and members that OpenAPI does not know."""
+        while self.dice.random() < 0.15:
+            name = "x-" + self.text()
+            if name not in made.given:
+                self.put(made, name, same(self.tree((*place, name))))
+        for name in unknown:
+            if self.dice.random() < 0.03:
+                made.given[name] = self.tree((*place, name))
+
+    @staticmethod
+    def put(made, name, value):
+        for way in range(3):
+            made[way][name] = value[way]
+
+    def class_of(self, kind, names, made, place):
+        for name in names:
+            self.put(made, name, self.make(kind, (*place, name)))
+
+    def codes(self, made, place):
+        """Members by status codes: `2xx` is the code `2XX`, and the later one of the two in name order counts."""
+        names = self.dice.sample(["100", "200", "404", "999", "2XX", "2xX", "2xx", "5Xx", "0XX"], self.dice.randrange(4))
+        for name in sorted(names):
+            value = self.make("&Response", (*place, name))
+            made.given[name] = value.given
+            made.cleaned[name.upper()], made.settled[name.upper()] = value.cleaned, value.settled
+
+    def tagged(self, kind, made, place):
+        name, tables = TAGGED[kind]
+        word = self.dice.choice(list(tables))
+        self.put(made, name, same(word))
+        self.fault((*place, name), ABSENT, f"missing field `{name}`", place)
+        self.fault((*place, name), "wat", "unknown variant")
+        self.wrong((*place, name), "text")
+        if kind == "Parameter":
+            self.rows(TABLES["ParameterData"], made, place)
+        self.rows(tables[word], made, place)
+
+    def rows(self, rows, made, place):
+        rows = rows.split(",")
+        for row in self.dice.sample(rows, len(rows)):
+            self.row(row, made, place)
+
+    def row(self, row, made, place):
+        name, mode, kind = row.split()
+        if mode == "C":
+            self.either(name.split("/"), kind.split("/"), made, place)
+            return
+        here = (*place, name)
+        if mode == "R":
+            self.fault(here, ABSENT, f"missing field `{name}`", place)
+        elif not self.likes(0.3):
+            if mode in "EFS":
+                self.wrong(here, {"[": "list", "{": "object", "f": "flag"}.get(kind[0] if mode != "S" else "", "text"), None)
+            elif self.dice.random() < 0.1:
+                made.given[name] = None
+            if mode in "NS":
+                made.cleaned[name] = made.settled[name] = None if mode == "N" else kind.split("|")[0]
+            return
+        value = self.make(kind, here)
+        made.given[name] = value.given
+        if not (mode in "EF" and not value.given or mode == "O" and value.given is None):
+            made.cleaned[name], made.settled[name] = value.cleaned, value.settled
+
+    def either(self, names, kinds, made, place):
+        """One of two members. Members come in name order; the later one is not looked at."""
+        i = self.dice.randrange(2)
+        other = names[1 - i]
+        self.put(made, names[i], self.make(kinds[i], (*place, names[i])))
+        if names[i] < other and self.dice.random() < 0.2:
+            made.given[other] = self.tree((*place, other))
+        else:
+            self.fault((*place, names[i]), ABSENT, f"missing field `{names[0]}` or `{names[1]}`", place)
+
+    def schema(self, place):
+        made = Made({}, {}, {})
+        self.rows(TABLES["SchemaData"], made, place)
+        members = self.keywords(self.dice.choice(SORTS if self.room > 0 else ["string", "any"]), place)
+        given = {name: it.given for name, it in members.items()}
+        sort = sort_of(given)
+        cleaned = {name: it.cleaned for name, it in members.items() if it.given is not None and kept(name, it.given, sort)}
+        again = sort_of(cleaned)
+        settled = {name: members[name].settled for name in cleaned if kept(name, cleaned[name], again)}
+        for way, tree in enumerate([given, cleaned, settled]):
+            made[way].update(tree)
+        self.extend(made, place, ["wat", "X-a", "x", "const"])
+        return made
+
+    def keywords(self, sort, place):
+        """Members that tell what sort a schema is, most often of this one."""
+        if sort in OF_TYPE:
+            names = [it for it in OF_TYPE[sort] if self.likes(0.4)]
+        else:
+            names = [it for it in KEYWORDS if self.likes(0.12)] if sort == "any" else [sort]
+        made = {}
+        for name in names:
+            here = (*place, name)
+            if name == "type":
+                made[name] = same(self.dice.choice([*OF_TYPE, "null", "String", ""]))
+                self.wrong(here, "text")
+            elif name == "enum" and sort in ("string", "number", "integer", "boolean"):
+                self.wrong(here, "list", {})
+                made[name] = same([self.entry(sort) for _ in range(self.dice.randrange(4))])
+            elif sort == "integer" and KEYWORDS[name] == "whole":
+                self.wrong(here, "whole number", "1")
+                made[name] = same(self.number(LEAST, 2**63 - 1))
+            else:
+                made[name] = self.make(KEYWORDS[name], here)
+        if sort in OF_TYPE:
+            made["type"] = same(sort)
+            self.wrong((*place, "type"), "text")
+        if self.dice.random() < 0.1:
+            made.setdefault(self.dice.choice(list(KEYWORDS)), same(None))
+        if self.dice.random() < 0.15:
+            # (an empty list is there, so the schema is one of any members; it is not written, and then it may be another)
+            made.setdefault(self.dice.choice(["required", "enum", "oneOf", "allOf", "anyOf"]), same([]))
+        return made
+
+    def entry(self, sort):
+        values = {"string": self.text(), "boolean": self.dice.random() < 0.5, "number": self.number(LEAST, MOST),
+                  "integer": self.number(LEAST, 2**63 - 1)}
+        return self.dice.choice([values[sort], values[sort], values[sort], None, 2**63 if sort == "integer" else values[sort]])
+
+
+def with_fault(tree, planted):
+    """The tree with a fault planted in it."""
+    if not planted.place:
+        return planted.value
+    tree = copy.deepcopy(tree)
+    at = tree
+    for step in planted.place[:-1]:
+        at = at[step]
+    if planted.value is ABSENT:
+        at.pop(planted.place[-1], None)
+    else:
+        at[planted.place[-1]] = planted.value
+    return tree
+
+
+def operations(tree):
+    lines = []
+    for path in sorted(it for it in tree["paths"] if it.startswith("/")):
+        item = tree["paths"][path]
+        if not isinstance(item.get("$ref"), str):
+            lines += [f"{method} {path}\n" for method in METHODS if item.get(method) is not None]
+    return "".join(lines).encode()
+
+
+def text_of(tree, dice=None):
+    """The tree as JSON: as the program prints it, or with the members of each object in any order."""
+    if dice is None:
+        return json.dumps(tree, sort_keys=True, ensure_ascii=False, separators=(",", ":")).encode() + b"\n"
+
+    def mixed(it):
+        if isinstance(it, dict):
+            return {name: mixed(it[name]) for name in dice.sample(list(it), len(it))}
+        return [mixed(each) for each in it] if isinstance(it, list) else it
+    return json.dumps(mixed(tree), ensure_ascii=dice.random() < 0.5).encode()
+
+
+def main():
+    parser = argparse.ArgumentParser()
+    parser.add_argument("--seed", type=int, default=random.randrange(10**6))
+    parser.add_argument("--count", type=int, default=1000)
+    parser.add_argument("program", nargs="?", default=BUILT)
+    asked = parser.parse_args()
+    if not os.access(asked.program, os.X_OK):
+        print(f"FAILED: {asked.program} is not built\n0 passed, 1 failed")
+        return 1
+    print(f"seed {asked.seed}, {asked.count} rounds", flush=True)
+    passed = failed = 0
+
+    def compare(what, command, given, *wanted):
+        nonlocal passed, failed
+        ran = subprocess.run([os.path.realpath(asked.program), command], input=given, capture_output=True, timeout=60)
+        came = ran.returncode, ran.stdout, ran.stderr
+        if came == wanted:
+            passed += 1
+            return
+        failed += 1
+        print(f"FAILED: {what}: {command} of {given!r}\n  came: {came}\n  wanted: {wanted}", flush=True)
+
+    for turn in range(asked.count):
+        dice = random.Random(f"{asked.seed} {turn}")
+        for kind, commands in [("OpenAPI", ["document", "settle", "operations"]), ("Schema", ["schema"])]:
+            maker = Maker(dice)
+            made = maker.make(kind, ())
+            given = text_of(made.given, dice)
+            wanted = dict(document=text_of(made.cleaned), settle=text_of(made.settled), schema=text_of(made.cleaned))
+            if kind == "OpenAPI":
+                wanted["operations"] = operations(made.given)
+                compare(f"round {turn}, settled once more", "settle", wanted["settle"], 0, wanted["settle"], b"")
+            for command in commands:
+                compare(f"round {turn}", command, given, 0, wanted[command], b"")
+            for planted in dice.sample(maker.faults, min(3, len(maker.faults))):
+                broken = text_of(with_fault(made.given, planted), dice)
+                compare(f"round {turn}, a fault", dice.choice(commands), broken, 1, b"", planted.said.encode() + b"\n")
+    print(f"{passed} passed, {failed} failed")
+    return 1 if failed else 0
+
+
+if __name__ == "__main__":
+    sys.exit(main())

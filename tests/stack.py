@@ -1,0 +1,96 @@
+#!/usr/bin/env python3
+"""Measures how much stack the built program needs for the deepest JSON, which has 127 levels, in each command.
+
+usage: tests/stack.py [PROGRAM]      (with none: the program that `./check` or `./openapi_clean --build` made)
+
+For each shape the least stack is sought, in steps of 16 kB, under which the program ends with status 0. It is no part of
+`./check`. The last line is the most that any of them needs.
+"""
+import json
+import os
+import resource
+import subprocess
+import sys
+
+TOP = os.path.dirname(os.path.dirname(os.path.realpath(__file__)))
+BUILT = f"{TOP}/crates/openapi_clean/out/openapi_clean"
+LEVELS, STEP = 127, 16
+
+
+def depth(tree):
+    if isinstance(tree, (dict, list)):
+        return 1 + max((depth(it) for it in (tree.values() if isinstance(tree, dict) else tree)), default=0)
+    return 0
+
+
+def nested(wrap, inner, levels):
+    """As many wraps around the innermost tree as the levels allow."""
+    tree = inner
+    while depth(wrap(tree)) <= levels:
+        tree = wrap(tree)
+    return tree
+
+
+SCHEMAS = {
+    "not": (lambda it: {"not": it}, {}),
+    "properties": (lambda it: {"type": "object", "properties": {"p": it}}, {}),
+    "allOf": (lambda it: {"allOf": [it]}, {}),
+    "any": (lambda it: {"allOf": [it], "items": {}}, {}),
+    "items": (lambda it: {"type": "array", "items": it}, {}),
+    "additionalProperties": (lambda it: {"type": "object", "additionalProperties": it}, {}),
+    "extension": (lambda it: {"x-a": [it]}, 0),
+}
+# Each of these leads from a part of a document to the next part of the same kind.
+HEADERS = lambda it: {"content": {"t": {"encoding": {"e": {"headers": {"h": it}}}}}}
+CALLBACKS = lambda it: {"get": {"responses": {}, "callbacks": {"c": {"u": it}}}}
+
+
+def document(**more):
+    return {"openapi": "3.0.3", "info": {"title": "t", "version": "1"}, "paths": {}, **more}
+
+
+def shapes():
+    """The command, the shape's name and the tree."""
+    for name, (wrap, inner) in SCHEMAS.items():
+        yield "schema", name, nested(wrap, inner, LEVELS)
+    yield "tag", "extension", {"name": "t", "x-a": nested(lambda it: [it], [], LEVELS - 1)}
+    for command in ["document", "settle", "operations"]:
+        for name, (wrap, inner) in SCHEMAS.items():
+            yield command, name, document(components={"schemas": {"S": nested(wrap, inner, LEVELS - 3)}})
+        yield command, "headers", document(components={"headers": {"h": nested(HEADERS, {"schema": {}}, LEVELS - 3)}})
+        yield command, "callbacks", document(paths={"/p": nested(CALLBACKS, {}, LEVELS - 2)})
+
+
+def runs(program, command, given, stack):
+    def limit():
+        resource.setrlimit(resource.RLIMIT_STACK, (stack * 1024, stack * 1024))
+    return subprocess.run([program, command], input=given, capture_output=True, preexec_fn=limit).returncode == 0
+
+
+def least(program, command, given):
+    low, high = 0, 65536 // STEP
+    if not runs(program, command, given, high * STEP):
+        sys.exit(f"{command} needs more than {high * STEP} kB, or refuses the input")
+    while high - low > 1:
+        middle = (low + high) // 2
+        if runs(program, command, given, middle * STEP):
+            high = middle
+        else:
+            low = middle
+    return high * STEP
+
+
+def main():
+    program = os.path.realpath(sys.argv[1] if len(sys.argv) > 1 else BUILT)
+    if not os.access(program, os.X_OK):
+        sys.exit(f"{program} is not built")
+    most = 0
+    for command, name, tree in shapes():
+        needs = least(program, command, json.dumps(tree).encode())
+        most = max(most, needs)
+        print(f"{command:10} {name:22} {depth(tree):3} levels  {needs:6} kB", flush=True)
+    print(f"at most {most} kB")
+
+
+if __name__ == "__main__":
+    main()

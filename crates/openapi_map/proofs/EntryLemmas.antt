@@ -35,11 +35,19 @@ module _ {V : Type 0} where
   entry-entries_of (e ∷ es) zero d h = refl
   entry-entries_of (e ∷ es) (suc i) d h = entry-entries_of es i d (omega arith)
 
-  pub name-names_of : (es : List (Entry V)) (i : ℕ) (d : Entry V) → i < length es
-      → slice_get (names_of es) i ≡ Some (string_bytes (get_or es i d).name)
-  name-names_of [] i d h = absurd (omega arith)
-  name-names_of (e ∷ es) zero d h = refl
-  name-names_of (e ∷ es) (suc i) d h = name-names_of es i d (omega arith)
+  pub name-get_or : (es : List (Entry V)) (i : ℕ) (d : Entry V) → i < length es
+      → get_or (names_of es) i [] ≡ string_bytes (get_or es i d).name
+  name-get_or [] i d h = absurd (omega arith)
+  name-get_or (e ∷ es) zero d h = refl
+  name-get_or (e ∷ es) (suc i) d h = name-get_or es i d (omega arith)
+
+  -- the names as far as the next
+  pub names-next : (es : List (Entry V)) (i : ℕ) (d : Entry V) → i < length es
+      → take i (names_of es) ++ string_bytes (get_or es i d).name ∷ [] ≡ take (i + 1) (names_of es)
+  names-next es i d h =
+      let names = names_of es in
+      ap (λ x. take i names ++ x ∷ []) (sym (name-get_or es i d h))
+      ∙ sym (take_more names i [] (omega (arith, h, length-names_of es)))
 
   pub value-entries_of : (es : List (Entry V)) (i : ℕ) (d : Entry V) → i < length es
       → slice_get (values_of (entries_of es)) i ≡ Some (get_or es i d).value

@@ -1,19 +1,31 @@
--- The index: a set of the names beside the entries.
-use Rattle.std.proofs.Common.{◌≡◌, ℕ, suc, ◌+◌, false, ◌||◌, List, [], ◌∷◌, ◌++◌, map, Some, String}
-use Rattle.std.proofs.Common.{string_bytes, slice_get, take, drop, drop-cons, refl, sym, ap, subst, ◌∙◌, if◌then◌else◌}
-use Rattle.std.proofs.Common.{append_assoc, None}
-use Rattle.std.proofs.lemmas.List.{map-append, take-append-drop, take_more}
-use Rattle.std.proofs.lemmas.Map.Keys.{IsDistinct-push}
-use Rattle.std.proofs.lemmas.Option.{slice_get_within, get_or_from_slice_get}
+-- The index: what it is once a name comes or goes, and what a look-up by it finds.
+use Rattle.std.proofs.Common.{◌≡◌, ◌≢◌, ℕ, suc, ◌+◌, ◌-◌, ◌<◌, ◌≤◌, Bool, true, false, cond, eqb, nat_lt, List, [], ◌∷◌, ◌++◌}
+use Rattle.std.proofs.Common.{length, get_or, set, remove, replicate, position, Option, Some, None, IfSome, Vec, vec_len, slice_index}
+use Rattle.std.proofs.Common.{refl, sym, ap, subst, ◌∙◌, arith, true≢false, get_or-set_other}
+use Rattle.std.proofs.lemmas.Bool.{cases_lt, eqb-true, eq-eqb, lt-ltb}
+use Rattle.std.proofs.lemmas.Bool.Decides.{eqb_tells, nat_tests}
+use Rattle.std.proofs.lemmas.Grind.{get_or-set_at}
+use Rattle.std.proofs.lemmas.List.Edits.{get_or-remove_below, get_or-remove_above, length-remove}
+use Rattle.std.proofs.lemmas.List.Sums.{position_or_len_is}
+use Rattle.std.proofs.lemmas.Map.Keys.{IsDistinct-push, apart_from_distinct}
+use Rattle.std.proofs.lemmas.Slice.Eq.{bytes_eq-Decides}
+use Rattle.std.proofs.Math.ListN.{get_or-append}
+use Rattle.std.proofs.Math.Seq.{get_or-append_seam}
+use Rattle.std.proofs.lemmas.List.{length-append, get_or-replicate}
 use Rattle.std.specs.Cmp.Lexicographic.{nat_list_eq_equiv}
-use Rattle.std.specs.List.{IsDistinct, AllByRecursion, list_any}
+use Rattle.std.specs.List.{IsDistinct, position_or_len}
 use Rattle.std.specs.Str.{bytes_eq}
-use Rattle.std.specs.String.{string_eq}
+use Rattle.std.specs.Vec.{with_item}
 use Rattle.std.specs.declared.alloc.Global.{Global}
-use Rattle.indexmap.specs.IndexSet.{insert_key}
+use Rattle.std.specs.declared.boxed.Box.{Box}
+use mathlib.Core.Logic.{inl, inr}
 use Rattle.openapi_map.specs.Entries.{Entries, entries_of, names_of, get, HasDistinctNames}
+use Rattle.openapi_map.specs.Index.{bucket, link_at, moved_link, IsIndex, IsIndexAt}
 use Rattle.openapi_map.specs.declared.Entry.{Entry}
+use Rattle.openapi_map.specs.declared.index.NameIndex.{NameIndex}
 use Rattle.openapi_map.proofs.EntryLemmas.{none-among}
+use Rattle.openapi_map.proofs.LinkLemmas.{link_at-same, link_at-push, link_at-moved, link_at-below, Leads, link_at-Leads}
+use Rattle.openapi_map.proofs.LinkLemmas.{moved-low}
 
 -- ---- names that are distinct
 pub distinct-nil : IsDistinct bytes_eq []
@@ -29,48 +41,227 @@ distinct-names name es rs m same shows distinct absent =
     (IsDistinct-push nat_list_eq_equiv (names_of es) name distinct
     (none-among name (entries_of es) (ap (get name) shows ∙ absent)))
 
-apart-later : (k n : List ℕ) (ns ms : List (List ℕ)) → AllByRecursion (λ x. bytes_eq k x ≡ false) (ns ++ n ∷ ms)
-    → bytes_eq k n ≡ false
-apart-later k n [] ms h = h.0
-apart-later k n (x ∷ ns) ms h = apart-later k n ns ms h.1
+-- ---- a name goes last
+module _ (names : List (List ℕ)) (name : List ℕ) (index : NameIndex) (is : IsIndex names index) where
+  abbrev n : ℕ
+  n = vec_len index.heads
 
--- a name that a list of distinct names has later is not among those before it
-absent-before : (n : List ℕ) (ns ms : List (List ℕ)) → IsDistinct bytes_eq (ns ++ n ∷ ms)
-    → list_any (bytes_eq n) ns ≡ false
-unfolding IsDistinct
-absent-before n [] ms d = refl
-absent-before n (x ∷ ns) ms d =
-    ap (λ b. b || list_any (bytes_eq n) ns) (nat_list_eq_equiv.symm n x ∙ apart-later x n ns ms d.0)
-    ∙ absent-before n ns ms d.1
+  abbrev longer : List (List ℕ)
+  longer = names ++ name ∷ []
 
--- ---- one name after another goes into an index
-module _ (ks : List (String Global)) (k : String Global) where
-  list_any-bytes : (n : List ℕ) (ls : List (String Global))
-      → list_any (λ l. bytes_eq n (string_bytes l)) ls ≡ list_any (bytes_eq n) (map string_bytes ls)
-  list_any-bytes n [] = refl
-  list_any-bytes n (l ∷ ls) = ap (λ b. bytes_eq n (string_bytes l) || b) (list_any-bytes n ls)
+  length-longer : length longer ≡ suc (length names)
+  length-longer = omega (arith, length-append names (name ∷ []))
 
-  -- a name that is new goes last
-  pub index-push : (ns ms : List (List ℕ)) → IsDistinct bytes_eq (ns ++ string_bytes k ∷ ms)
-      → map string_bytes ks ≡ ns → map string_bytes (insert_key string_eq ks k) ≡ ns ++ string_bytes k ∷ []
-  index-push ns ms distinct is =
-      let n = string_bytes k in
-      let absent : list_any (string_eq k) ks ≡ false =
-      list_any-bytes n ks ∙ ap (list_any (bytes_eq n)) is ∙ absent-before n ns ms distinct in
-      ap (λ b. map string_bytes (if b then ks else ks ++ k ∷ [])) absent
-      ∙ map-append string_bytes ks (k ∷ []) ∙ ap (λ l. l ++ n ∷ []) is
+  -- the links below the new place are as they were
+  below : (b k : ℕ) → k ≤ length names → link_at n b longer k ≡ link_at n b names k
+  below b k h = link_at-same n b longer names k (λ j l. get_or-append names (name ∷ []) [] j (omega (arith, h, l)))
 
-  -- and so does the next of a list of names
-  pub index-next : (ns ms : List (List ℕ)) (i : ℕ) → IsDistinct bytes_eq (ns ++ ms)
-      → map string_bytes ks ≡ take i ns → slice_get ns i ≡ Some (string_bytes k)
-      → map string_bytes (insert_key string_eq ks k) ≡ take (i + 1) ns
-  index-next ns ms i distinct is at =
-      let n = string_bytes k in
-      let within = slice_get_within ns i n at in
-      let here = get_or_from_slice_get ns i n n at in
-      let rest = drop-cons ns i n within ∙ ap (λ x. x ∷ drop (suc i) ns) here in
-      let split : ns ++ ms ≡ take i ns ++ n ∷ (drop (suc i) ns ++ ms) =
-      ap (λ l. l ++ ms) (sym (take-append-drop i ns) ∙ ap (λ r. take i ns ++ r) rest)
-      ∙ append_assoc (take i ns) (n ∷ drop (suc i) ns) ms in
-      index-push (take i ns) (drop (suc i) ns ++ ms) (subst (IsDistinct bytes_eq) split distinct) is
-      ∙ sym (take_more ns i n within ∙ ap (λ x. take i ns ++ x ∷ []) here)
+  module _ (b last : ℕ) (falls : b ≡ bucket n name) (within : b < n) (counts : last ≡ length names + 1) where
+    chosen : (c : ℕ) → c < n → slice_index (set index.heads.items b last) c
+        ≡ cond (eqb b c) (suc (length names)) (link_at n c names (length names))
+    chosen c h = by (eqb b c) refl
+      where
+        by : (t : Bool) → eqb b c ≡ t → slice_index (set index.heads.items b last) c
+            ≡ cond t (suc (length names)) (link_at n c names (length names))
+        by true e =
+            let at : c ≡ b = sym (eqb-true b c e) in
+            get_or-set_at index.heads.items b c last 0 at (omega (arith, within, index.heads.ok.0)) ∙ omega (arith, counts)
+        by false e =
+            let apart : c ≢ b = λ q. true≢false (sym (eq-eqb b c (sym q)) ∙ e) in
+            get_or-set_other index.heads.items b c last 0 apart ∙ is.heads c h
+
+    heads-push : (c : ℕ) → c < n → slice_index (set index.heads.items b last) c ≡ link_at n c longer (length longer)
+    heads-push c h =
+        chosen c h ∙ ap (λ x. cond (eqb x c) (suc (length names)) (link_at n c names (length names))) falls
+        ∙ sym (ap (link_at n c longer) length-longer ∙ link_at-push n c names name)
+
+    next-push : (link p : ℕ) → link ≡ slice_index index.heads.items b → p < length longer
+        → slice_index (index.next.items ++ link ∷ []) p ≡ link_at n (bucket n (get_or longer p [])) longer p
+    next-push link p read h = elim (eqb_tells p (length names)) [
+      | inl at ↦
+          let here : get_or longer p [] ≡ name =
+          ap (λ j. get_or longer j []) at.1 ∙ get_or-append_seam names name [] [] in
+          let place : p ≡ length index.next.items = omega (arith, at.1, is.len, index.next.ok.0) in
+          ap (slice_index (index.next.items ++ link ∷ [])) place ∙ get_or-append_seam index.next.items link [] 0
+          ∙ read ∙ is.heads b within ∙ sym (below b (length names) (omega arith))
+          ∙ (λ j. link_at n ((falls ∙ ap (bucket n) (sym here)) j) longer (sym at.1 j))
+      | inr other ↦
+          let low : p < length names = omega (arith, h, other.1, length-longer) in
+          get_or-append index.next.items (link ∷ []) 0 p (omega (arith, low, is.len, index.next.ok.0)) ∙ is.next p low
+          ∙ sym (below _ p (omega (arith, low)))
+          ∙ ap (λ x. link_at n (bucket n x) longer p) (sym (get_or-append names (name ∷ []) [] p low))
+    ]
+
+    pub IsIndex-push : (link : ℕ) (next : Vec ℕ Global) → link ≡ slice_index index.heads.items b
+        → next.items ≡ index.next.items ++ link ∷ [] → vec_len next ≡ vec_len index.next + 1
+        → IsIndex longer (record { heads = with_item index.heads b last; next = next })
+    IsIndex-push link next read items len = record {
+      some_bucket = is.some_bucket;
+      heads = heads-push;
+      len = omega (arith, len, is.len, length-longer);
+      next = λ p h. ap (λ xs. slice_index xs p) items ∙ next-push link p read h;
+    }
+
+-- ---- a place goes
+module _ (names : List (List ℕ)) (index : NameIndex) (is : IsIndex names index) (i : ℕ) (within : i < length names) where
+  abbrev buckets : ℕ
+  buckets = vec_len index.heads
+
+  abbrev before : ℕ
+  before = slice_index index.next.items i
+
+  led : before ≡ link_at buckets (bucket buckets (get_or names i [])) names i
+  led = is.next i within
+
+  -- each link is moved
+  moved-all : (b : ℕ) (k link : ℕ) → i < k → link ≡ link_at buckets b names k
+      → moved_link i before link ≡ link_at buckets b (remove names i) (k - 1)
+  moved-all b k link above known =
+      let up : suc (k - 1) ≡ k = omega (arith, above) in
+      ap (moved_link i before) (known ∙ ap (link_at buckets b names) (sym up))
+      ∙ sym (link_at-moved buckets b names i before within led (k - 1) (omega (arith, above)))
+
+  abbrev left : List (List ℕ)
+  left = remove names i
+
+  all-left : length names - 1 ≡ length left
+  all-left = omega (arith, length-remove names i within)
+
+  next-left : (p : ℕ) → p < length left → moved_link i before (slice_index (remove index.next.items i) p)
+      ≡ link_at buckets (bucket buckets (get_or left p [])) left p
+  next-left p h =
+      let there : i < length index.next.items = omega (arith, within, is.len, index.next.ok.0) in
+      elim (cases_lt p i) [
+        | inl low ↦
+            let b = bucket buckets (get_or names p []) in
+            ap (moved_link i before) (get_or-remove_below index.next.items i 0 p low there ∙ is.next p (omega (arith, low, within)))
+            ∙ moved-low i before (link_at buckets b names p) (omega (arith, (link_at-Leads buckets b names p).le, low))
+            ∙ sym (link_at-below buckets b names i p within (omega (arith, low)))
+            ∙ ap (λ x. link_at buckets (bucket buckets x) left p) (sym (get_or-remove_below names i [] p low within))
+        | inr high ↦
+            let b = bucket buckets (get_or names (p + 1) []) in
+            ap (moved_link i before) (get_or-remove_above index.next.items i 0 p high there)
+            ∙ moved-all b (p + 1) (slice_index index.next.items (p + 1)) (omega (arith, high))
+            (is.next (p + 1) (omega (arith, h, all-left)))
+            ∙ (λ j. link_at buckets (bucket buckets (sym (get_or-remove_above names i [] p high within) j)) left (down p j))
+      ]
+    where
+      down : (p : ℕ) → p + 1 - 1 ≡ p
+      down p = omega arith
+
+  pub IsIndex-remove : (heads next : Vec ℕ Global) → vec_len heads ≡ buckets → vec_len next + 1 ≡ vec_len index.next
+      → ((b : ℕ) → b < length heads.items
+      → slice_index heads.items b ≡ moved_link i before (slice_index index.heads.items b))
+      → ((p : ℕ) → p < length next.items
+      → slice_index next.items p ≡ moved_link i before (slice_index (remove index.next.items i) p))
+      → IsIndex (remove names i) (record { heads = heads; next = next })
+  IsIndex-remove heads next same less heads-moved next-moved = record {
+    some_bucket = omega (arith, is.some_bucket, same);
+    heads = λ b h. heads-moved b (omega (arith, h, heads.ok.0))
+        ∙ moved-all b (length names) (slice_index index.heads.items b) within (is.heads b (omega (arith, h, same)))
+        ∙ (λ j. link_at (sym same j) b left (all-left j));
+    len = omega (arith, less, is.len, length-remove names i within);
+    next = λ p h. next-moved p (omega (arith, h, less, is.len, length-remove names i within, next.ok.0))
+        ∙ next-left p h ∙ (λ j. link_at (sym same j) (bucket (sym same j) (get_or left p [])) left p);
+  }
+
+-- an index, where there is one, has a link at each place
+pub linked : (names : List (List ℕ)) (index : Option (Box NameIndex Global)) (i : ℕ) → IsIndexAt names index
+    → i < length names → IfSome index (λ b. i < vec_len b.value.next)
+linked names None i is within = tt
+linked names (Some b) i is within = omega (arith, is.len, within)
+
+-- ---- an index of no names
+pub IsIndex-none : (heads next : Vec ℕ Global) (n : ℕ) → heads.items ≡ replicate n 0 → vec_len heads ≡ n → 0 < n
+    → vec_len next ≡ 0 → IsIndex [] (record { heads = heads; next = next })
+unfolding link_at
+IsIndex-none heads next n items len some none = record {
+  some_bucket = omega (arith, len, some);
+  heads = λ b h. ap (λ xs. slice_index xs b) items ∙ get_or-replicate n b 0 0 (omega (arith, h, len));
+  len = none;
+  next = λ p h. absurd (omega (arith, h));
+}
+
+-- ---- a look-up
+module _ (name : List ℕ) (names : List (List ℕ)) where
+  -- how far it has come: the link leads to a name of the same bucket, and none behind that one is the name
+  pub record Passed (n link : ℕ) : Type 0 where
+    pub le : link ≤ length names
+    pub there : (p : ℕ) → link ≡ p + 1 → bucket n (get_or names p []) ≡ bucket n name
+    pub none : (p : ℕ) → link ≤ p → p < length names → bytes_eq name (get_or names p []) ≡ false
+
+  -- a name of another bucket is another
+  apart : (n : ℕ) (other : List ℕ) → bucket n other ≢ bucket n name → bytes_eq name other ≡ false
+  apart n other differ = by (bytes_eq name other) refl
+    where
+      by : (t : Bool) → bytes_eq name other ≡ t → t ≡ false
+      by true e = absurd (differ (ap (bucket n) (sym ((bytes_eq-Decides name other).0 e))))
+      by false e = refl
+
+  from_Leads : (n k link : ℕ) → Leads n (bucket n name) names k link → k ≤ length names
+      → ((p : ℕ) → k ≤ p → p < length names → bytes_eq name (get_or names p []) ≡ false) → Passed n link
+  from_Leads n k link leads within rest = record {
+    le = omega (arith, leads.le, within);
+    there = leads.there;
+    none = λ p h l. elim (cases_lt p k) [
+      | inl low ↦ apart n (get_or names p []) (leads.none p h low)
+      | inr high ↦ rest p high l
+    ];
+  }
+
+  module _ (index : NameIndex) (is : IsIndex names index) where
+    -- it begins at the name's bucket
+    pub Passed-first : (b link : ℕ) → b ≡ bucket (vec_len index.heads) name → b < vec_len index.heads
+        → link ≡ slice_index index.heads.items b → Passed (vec_len index.heads) link
+    Passed-first b link falls within read =
+        let n = vec_len index.heads in
+        let leads = link_at-Leads n (bucket n name) names (length names) in
+        let link_is = read ∙ is.heads b within ∙ ap (λ c. link_at n c names (length names)) falls in
+        from_Leads n (length names) link (subst (Leads n (bucket n name) names (length names)) (sym link_is) leads)
+        (omega arith) (λ p h l. absurd (omega (arith, h, l)))
+
+    -- a link at a place leads to one before it
+    pub next-below : (p next : ℕ) → p < length names → next ≡ slice_index index.next.items p → next ≤ p
+    next-below p next within read =
+        let n = vec_len index.heads in
+        let b = bucket n (get_or names p []) in
+        omega (arith, read, is.next p within, (link_at-Leads n b names p).le)
+
+    -- and goes on where the name at the place is another
+    pub Passed-next : (p link next : ℕ) → Passed (vec_len index.heads) link → link ≡ p + 1
+        → bytes_eq name (get_or names p []) ≡ false → next ≡ slice_index index.next.items p
+        → Passed (vec_len index.heads) next
+    Passed-next p link next passed at other read =
+        let n = vec_len index.heads in
+        let within : p < length names = omega (arith, passed.le, at) in
+        let next_is = read ∙ is.next p within ∙ ap (λ c. link_at n c names p) (passed.there p at) in
+        from_Leads n p next (subst (Leads n (bucket n name) names p) (sym next_is) (link_at-Leads n (bucket n name) names p))
+        (omega (arith, within))
+        (λ q h l. elim (cases_lt p q) [
+          | inl high ↦ passed.none q (omega (arith, at, high)) l
+          | inr low ↦ let same : p ≡ q = omega (arith, h, low) in subst (λ r. bytes_eq name (get_or names r []) ≡ false) same other
+        ])
+
+  -- what it finds is the place of the name
+  pub position-found : (p : ℕ) → IsDistinct bytes_eq names → p < length names → bytes_eq name (get_or names p []) ≡ true
+      → Some p ≡ position (bytes_eq name) names
+  position-found p distinct within found =
+      let same : name ≡ get_or names p [] = (bytes_eq-Decides name (get_or names p [])).0 found in
+      let first : position_or_len (bytes_eq name) names ≡ p =
+      position_or_len_is (bytes_eq name) names p [] (omega (arith, within))
+      (λ k h. ap (λ x. bytes_eq x (get_or names k [])) same ∙ nat_list_eq_equiv.symm (get_or names p []) (get_or names k [])
+      ∙ apart_from_distinct bytes_eq names k p [] distinct h within)
+      (λ h. found) in
+      sym (ap (λ t. cond t (Some p) None) (lt-ltb p (length names) within))
+      ∙ ap (λ q. cond (nat_lt q (length names)) (Some q) None) (sym first)
+
+  -- and where it comes to an end, there is none
+  pub position-none : (n link : ℕ) → Passed n link → link ≡ 0 → None ≡ position (bytes_eq name) names
+  position-none n link passed at =
+      let end = length names in
+      let none : position_or_len (bytes_eq name) names ≡ end =
+      position_or_len_is (bytes_eq name) names end [] (omega arith) (λ k h. passed.none k (omega (arith, at)) h)
+      (λ h. absurd (omega (arith, h))) in
+      let past : nat_lt end end ≡ false = grind (arith, nat_tests) in
+      sym (ap (λ t. cond t (Some end) None) past)
+      ∙ ap (λ q. cond (nat_lt q end) (Some q) None) (sym none)

@@ -1,5 +1,5 @@
 -- What is left of a map, and of the names in its index, once a name is gone.
-use Rattle.std.proofs.Common.{◌≡◌, ℕ, zero, suc, Bool, true, false, cond, List, [], ◌∷◌, map, remove, position}
+use Rattle.std.proofs.Common.{◌≡◌, ℕ, zero, suc, Bool, true, false, cond, List, [], ◌∷◌, remove, position}
 use Rattle.std.proofs.Common.{Some, None, string_bytes, refl, sym, ap, ◌∙◌}
 use Rattle.std.specs.List.{IsDistinct, AllByRecursion}
 use Rattle.std.specs.Map.{keys_of}
@@ -9,17 +9,6 @@ use Rattle.indexmap.proofs.CallerLemmas.{keys-shift_remove_entry}
 use Rattle.indexmap.proofs.MapLemmas.{Found-position, remove_entry-first}
 use Rattle.openapi_map.specs.Entries.{Entries, entries_of, names_of, get, remove_entry}
 use Rattle.openapi_map.specs.declared.Entry.{Entry}
-
--- what a test says of things that are read holds of what is read
-pub remove_key-map : {A B : Type 0} (f : A → B) (t : B → Bool) (xs : List A)
-    → map f (remove_key (λ x. t (f x)) xs) ≡ remove_key t (map f xs)
-remove_key-map f t [] = refl
-remove_key-map {A} {B} f t (x ∷ xs) = by (t (f x)) (remove_key-map f t xs)
-  where
-    by : (b : Bool) → map f (remove_key (λ y. t (f y)) xs) ≡ remove_key t (map f xs)
-        → map f (cond b xs (x ∷ remove_key (λ y. t (f y)) xs)) ≡ cond b (map f xs) (f x ∷ remove_key t (map f xs))
-    by true rest = refl
-    by false rest = ap (λ l. f x ∷ l) rest
 
 -- what all names are like, those that are left are
 left : (P : List ℕ → Type 0) (t : List ℕ → Bool) (ns : List (List ℕ)) → AllByRecursion P ns
@@ -49,6 +38,13 @@ module _ {V : Type 0} where
   entries_of-remove [] (suc i) = refl
   entries_of-remove (e ∷ es) zero = refl
   entries_of-remove (e ∷ es) (suc i) = ap (λ r. (string_bytes e.name, e.value) ∷ r) (entries_of-remove es i)
+
+  -- the name at a place goes with its entry
+  pub names_of-remove : (es : List (Entry V)) (i : ℕ) → names_of (remove es i) ≡ remove (names_of es) i
+  names_of-remove [] zero = refl
+  names_of-remove [] (suc i) = refl
+  names_of-remove (e ∷ es) zero = refl
+  names_of-remove (e ∷ es) (suc i) = ap (λ r. string_bytes e.name ∷ r) (names_of-remove es i)
 
   module _ (name : List ℕ) (es : List (Entry V)) (i : ℕ) (found : Some i ≡ position (bytes_eq name) (names_of es)) where
     -- the entry at the place of a name goes

@@ -8,10 +8,12 @@ use Rattle.std.specs.Option.{option_eq, option_map}
 use Rattle.std.specs.Str.{bytes_eq}
 use Rattle.std.specs.declared.alloc.Global.{Global}
 use Rattle.std.specs.declared.boxed.Box.{Box}
+use Rattle.std.proofs.Math.Bridge.{le_prop}
+use Rattle.std.proofs.Math.Nat.{ℕ_set}
 use mathlib.Core.Path.{refl, sym, ap, ◌∙◌}
 use mathlib.Core.HLevel.{×_prop}
 use mathlib.Core.Former.{Former, Count, Row, one_more, this, const, pair, list, via, list_count, list_put, children}
-use base.Stored.{code_map, coded×, coded_list, coded_ℕ, gcons, Coded-set}
+use base.Stored.{code_map, coded×, coded_list, coded_ℕ, gcons}
 use denote.RattleType.{RattleType}
 use denote.HolePlaces.{Recodes}
 use denote.Hole.Carrier.{listed}
@@ -20,7 +22,10 @@ use denote.Param.Nested.{deepest}
 use denote.Param.Weighed.{Weighed, most, none_max, List-puts, w_pair, w_const}
 use Rattle.openapi_map.specs.declared.Entry.{Entry}
 use Rattle.openapi_map.specs.Entries.{Entries, entries_of, names_of}
-use Rattle.openapi_map.specs.Index.{Index, IsIndexAt}
+use Rattle.openapi_map.specs.Index.{IsIndex, IsIndexAt}
+use Rattle.openapi_map.specs.Held.{kept, IsHeldIndexed}
+use Rattle.openapi_map.specs.declared.Held.{Held}
+use Rattle.openapi_map.specs.declared.index.NameIndex.{NameIndex}
 
 -- a name beside one of g's values
 abbrev pub entry : Former {0} → Former {0}
@@ -78,16 +83,23 @@ pub entries_of-held : (X : Type 0) (es : List (Entry X))
 entries_of-held X [] = refl
 entries_of-held X (e ∷ es) = λ i. (one_more (entries_of-held X es i).0, (e.value, (entries_of-held X es i).1))
 
-pub IsIndexAt-prop : (names : List (List ℕ)) (index : Option (Box Index Global)) → IsProp (IsIndexAt names index)
+pub IsIndex-prop : (names : List (List ℕ)) (index : NameIndex) → IsProp (IsIndex names index)
+IsIndex-prop names index = hlevel (le_prop, ℕ_set)
+
+pub IsIndexAt-prop : (names : List (List ℕ)) (index : Option (Box NameIndex Global)) → IsProp (IsIndexAt names index)
 IsIndexAt-prop names None = λ p q. refl
-IsIndexAt-prop names (Some b) = Coded-set (coded_list (coded_list coded_ℕ)) _ _
+IsIndexAt-prop names (Some b) = IsIndex-prop names b.value
 
--- what holds of the names goes along a map of the values
-abbrev pub Indexed : Option (Box Index Global) → List (List ℕ) → Type 0
-Indexed index names = IsDistinct bytes_eq names × IsIndexAt names index
+-- what holds of what a map keeps
+abbrev pub Indexed : {X : Type 0} → Option (Box (Held X) Global) → Type 0
+Indexed o = IsDistinct bytes_eq (names_of (kept o)) × IsHeldIndexed o
 
-pub Indexed-prop : (index : Option (Box Index Global)) (names : List (List ℕ)) → IsProp (Indexed index names)
-Indexed-prop index names = ×_prop (IsDistinct-prop bytes_eq names) (IsIndexAt-prop names index)
+pub IsHeldIndexed-prop : {X : Type 0} (o : Option (Box (Held X) Global)) → IsProp (IsHeldIndexed o)
+IsHeldIndexed-prop None = λ p q. refl
+IsHeldIndexed-prop (Some b) = IsIndexAt-prop (names_of b.value.entries.items) b.value.index
+
+pub Indexed-prop : {X : Type 0} (o : Option (Box (Held X) Global)) → IsProp (Indexed o)
+Indexed-prop o = ×_prop (IsDistinct-prop bytes_eq (names_of (kept o))) (IsHeldIndexed-prop o)
 
 -- whether both entries are there and have equal values, or neither is there
 abbrev agree : {V : Type 0} → (V → V → Bool) → Option (List ℕ × V) → Option (List ℕ × V) → Bool

@@ -1,6 +1,7 @@
 pub mod Entries
 pub mod Equality
 pub mod Former
+pub mod Held
 pub mod Index
 pub mod Lends
 pub mod formers

@@ -4,8 +4,11 @@ ghost use Rattle.std.specs.Iterator.{at_most};
 ghost use Rattle.std.specs.Map.{keys_of, values_of};
 ghost use Rattle.std.specs.Map.Iter.{TakesFirst, ShowsInOrder, ShowsValuesInOrder, deref, deref_pair};
 ghost use Rattle.openapi_map.specs.Entries.{HasDistinctNames, owned_entry};
+ghost use Rattle.openapi_map.specs.Held.{kept};
 
-use crate::{Entry, OrderedMap};
+use crate::lookup::kept_entries;
+use crate::{Entry, Held, OrderedMap};
+use std::alloc::Global;
 use std::marker::Model;
 use std::{slice, vec};
 
@@ -134,7 +137,7 @@ impl<V> OrderedMap<V> {
         ensures fits { length self.now < 2 ^ 63 }
     {
         Iter {
-            entries: self.entries.iter(),
+            entries: kept_entries(&self.held).iter(),
         }
     }
 
@@ -146,7 +149,7 @@ impl<V> OrderedMap<V> {
         ensures fits { length self.now < 2 ^ 63 }
     {
         Keys {
-            entries: self.entries.iter(),
+            entries: kept_entries(&self.held).iter(),
         }
     }
 
@@ -157,7 +160,7 @@ impl<V> OrderedMap<V> {
         ensures fits { length self.now < 2 ^ 63 }
     {
         Values {
-            entries: self.entries.iter(),
+            entries: kept_entries(&self.held).iter(),
         }
     }
 }
@@ -175,6 +178,20 @@ impl<'a, V> IntoIterator for &'a OrderedMap<V> {
     }
 }
 
+/// The entries that a map kept, without their index.
+fn taken_entries<V>(held: Option<Box<Held<V>>>, alloc: Global) -> Vec<Entry<V>>
+    ensures { result.items ≡ kept held }
+{
+    match held {
+        Some(held) => {
+            let Held { entries, index } = Box::into_inner(held);
+            drop(index);
+            entries
+        }
+        None => Vec::new(alloc),
+    }
+}
+
 impl<V: Drop> IntoIterator for OrderedMap<V> {
     type Item = (String, V);
 
@@ -184,10 +201,9 @@ impl<V: Drop> IntoIterator for OrderedMap<V> {
         × ShowsInOrder (owned_entry {V = V}) × ShowsValuesInOrder (owned_entry {V = V}) };
 
     fn into_iter(self) -> IntoIter<V> {
-        let OrderedMap { entries, index } = self;
-        drop(index);
+        let OrderedMap { held, alloc } = self;
         IntoIter {
-            entries: entries.into_iter(),
+            entries: taken_entries(held, alloc).into_iter(),
         }
     }
 }

@@ -4,25 +4,28 @@
 //! It stands where a Rust program has an `IndexMap<String, V>`, for the objects of a JSON document: their members have
 //! names, and are written in the order in which they were read. A program sees it as the list of its entries.
 //!
-//! A map of at most 16 entries is one list, along which a name is looked for. A longer one also keeps a hashed index
-//! of its names, so that a look-up takes the same time however long the map is. The index has a second copy of each
-//! name.
+//! A map of at most 16 entries is one list, along which a name is looked for. A longer one also keeps an index of the
+//! places of its names by their hashes, so that a look-up takes the same time however long the map is.
 ghost use Rattle.std.specs.Prelude.{◌≡◌, ◌-◌, ◌<◌, ◌^◌, ◌↔◌, [], ◌++◌, ◌∷◌, length, slice_get, is_some};
 ghost use Rattle.std.specs.Prelude.{IsTrue, IfOk, OnOk, OnErr, Some, None, string_bytes};
 ghost use Rattle.std.specs.Borrow.{sem};
 ghost use Rattle.std.specs.Option.{option_copied, option_copied_mut, option_map};
 ghost use Rattle.std.specs.Map.{values_of};
 ghost use Rattle.std.specs.Map.Iter.{deref_pair};
-ghost use Rattle.openapi_map.specs.Entries.{get, insert_entry, remove_entry, HasDistinctNames};
+ghost use Rattle.std.specs.List.{remove};
+ghost use Rattle.openapi_map.specs.Held.{kept, IsHeldIndexed};
+ghost use Rattle.openapi_map.specs.Index.{IsIndexAt};
+ghost use Rattle.openapi_map.specs.Entries.{entries_of, names_of, get, insert_entry, remove_entry, HasDistinctNames};
 ghost use Rattle.openapi_map.specs.Lends.{lends_name, lends_place};
 
+use crate::index::NameIndex;
 pub use crate::iter::{IntoIter, Iter, Keys, Values};
-use crate::lookup::{add_name, drop_name, place_of};
-use indexmap::IndexSet;
+use crate::lookup::{add_name, drop_name, kept_entries, place_in};
 use std::alloc::{AllocError, Global};
 use std::marker::Model;
 use std::mem;
 
+mod index;
 mod iter;
 mod lookup;
 mod traits;
@@ -34,28 +37,120 @@ struct Entry<V> {
     value: V,
 }
 
+/// What a map keeps once it has an entry.
+#[derive(Clone, Drop)]
+struct Held<V> {
+    entries: Vec<Entry<V>>,
+    // The places of the names by their hashes, where the entries are many. It is boxed to keep a short map small.
+    index: Option<Box<NameIndex>>,
+}
+
 /// Values by name, in the order in which the names came. Contracts see it as the list of its entries, no two of which
-/// have the same name.
+/// have the same name. It takes 16 bytes where it stands.
 #[derive(Drop)]
 pub struct OrderedMap<V> {
-    entries: Vec<Entry<V>>,
-    // The names in their order, where the entries are many. It is boxed to keep a short map small.
-    index: Option<Box<IndexSet<String>>>,
+    // `None` where there are no entries and none were foreseen.
+    held: Option<Box<Held<V>>>,
+    alloc: Global,
 }
 
 impl<V> Model for OrderedMap<V> {
     ghost use Rattle.std.specs.Coded.{coded_list, coded×, coded_ℕ};
-    ghost use Rattle.openapi_map.specs.Entries.{Entries, entries_of, names_of, HasDistinctNames};
-    ghost use Rattle.openapi_map.specs.Index.{IsIndexAt};
+    ghost use Rattle.openapi_map.specs.Entries.{Entries, entries_of, HasDistinctNames};
+    ghost use Rattle.openapi_map.specs.Held.{kept, IsHeldIndexed};
 
     ghost Value = { Entries V };
 
     ghost coded = { coded_list (coded× (coded_list coded_ℕ) V.code) };
 
-    ghost view = { λ m. entries_of m.entries.items };
+    ghost view = { λ m. entries_of (kept m.held) };
 
-    ghost invariant = { λ m. HasDistinctNames (entries_of m.entries.items)
-        × IsIndexAt (names_of m.entries.items) m.index };
+    ghost invariant = { λ m. HasDistinctNames (entries_of (kept m.held)) × IsHeldIndexed m.held };
+}
+
+impl<V> Held<V> {
+    /// Nothing yet, with room for `capacity` entries.
+    fn with_capacity(alloc: Global, capacity: usize) -> Result<Box<Held<V>>, AllocError>
+    where
+        V: Drop,
+        ensures entries { IfOk result (λ b. b.value.entries.items ≡ []) }
+        ensures index { IfOk result (λ b. b.value.index ≡ None) }
+    {
+        let held = Held {
+            entries: Vec::with_capacity(alloc, capacity)?,
+            index: None,
+        };
+        Ok(Box::new(alloc, held)?)
+    }
+
+    /// Puts an entry last.
+    fn push_last(&mut self, name: String, value: V) -> Result<(), AllocError>
+    where
+        V: Drop,
+        requires { IsIndexAt (names_of self.old.entries.items) self.old.index }
+        ensures entries { OnOk result (self.new.entries.items
+            ≡ self.old.entries.items ++ (record { name = name; value = value }) ∷ []) }
+        ensures err { OnErr result (self.new.entries.items ≡ self.old.entries.items) }
+        ensures index { IsIndexAt (names_of self.new.entries.items) self.new.index }
+    {
+        self.entries.reserve(1)?;
+        add_name(&self.entries, &mut self.index, name.as_str())?;
+        self.entries.push_reserved(Entry { name, value });
+        Ok(())
+    }
+
+    /// Takes the entry at a place out, and gives its value.
+    fn remove_at(&mut self, place: usize) -> V
+        requires within { place < length self.old.entries.items }
+        requires index { IsIndexAt (names_of self.old.entries.items) self.old.index }
+        ensures value { slice_get (values_of (entries_of self.old.entries.items)) place ≡ Some result }
+        ensures entries { self.new.entries.items ≡ remove self.old.entries.items place }
+        ensures index { IsIndexAt (names_of self.new.entries.items) self.new.index }
+    {
+        drop_name(&mut self.index, place);
+        let Entry { name: gone, value } = self.entries.remove(place);
+        drop(gone);
+        value
+    }
+}
+
+/// Puts an entry last among those that a map keeps.
+fn push_kept<V>(
+    held: &mut Option<Box<Held<V>>>,
+    alloc: Global,
+    name: String,
+    value: V,
+) -> Result<(), AllocError>
+where
+    V: Drop,
+    requires { IsHeldIndexed held.old }
+    ensures entries { OnOk result (kept held.new ≡ kept held.old ++ (record { name = name; value = value }) ∷ []) }
+    ensures err { OnErr result (kept held.new ≡ kept held.old) }
+    ensures index { IsHeldIndexed held.new }
+{
+    match held {
+        Some(held) => held.push_last(name, value),
+        None => {
+            let mut made = Held::with_capacity(alloc, 0)?;
+            made.push_last(name, value)?;
+            *held = Some(made);
+            Ok(())
+        }
+    }
+}
+
+/// Takes the entry at a place out of those that a map keeps, and gives its value.
+fn remove_kept<V>(held: &mut Option<Box<Held<V>>>, place: usize) -> V
+    requires within { place < length (kept held.old) }
+    requires index { IsHeldIndexed held.old }
+    ensures value { slice_get (values_of (entries_of (kept held.old))) place ≡ Some result }
+    ensures entries { kept held.new ≡ remove (kept held.old) place }
+    ensures index { IsHeldIndexed held.new }
+{
+    match held {
+        Some(held) => held.remove_at(place),
+        None => unreachable!(),
+    }
 }
 
 impl<V> OrderedMap<V> {
@@ -63,19 +158,21 @@ impl<V> OrderedMap<V> {
     pub fn new(alloc: Global) -> OrderedMap<V>
         ensures { result ≡ [] }
     {
-        OrderedMap {
-            entries: Vec::new(alloc),
-            index: None,
-        }
+        OrderedMap { held: None, alloc }
     }
 
     /// An empty map with room for `capacity` entries. An `Err` says that there was no memory for them.
     pub fn with_capacity(alloc: Global, capacity: usize) -> Result<OrderedMap<V>, AllocError>
+    where
+        V: Drop,
         ensures { IfOk result (λ m. m ≡ []) }
     {
+        if capacity == 0 {
+            return Ok(OrderedMap::new(alloc));
+        }
         Ok(OrderedMap {
-            entries: Vec::with_capacity(alloc, capacity)?,
-            index: None,
+            held: Some(Held::with_capacity(alloc, capacity)?),
+            alloc,
         })
     }
 
@@ -85,7 +182,7 @@ impl<V> OrderedMap<V> {
         ensures small { result < 2 ^ 63 }
         ensures distinct { HasDistinctNames self.now }
     {
-        self.entries.len()
+        kept_entries(&self.held).len()
     }
 
     /// Whether there are no entries.
@@ -97,7 +194,7 @@ impl<V> OrderedMap<V> {
 
     /// The allocator that the map was made with.
     pub fn allocator(&self) -> &Global {
-        self.entries.allocator()
+        &self.alloc
     }
 
     /// Whether the map has the name.
@@ -111,8 +208,8 @@ impl<V> OrderedMap<V> {
     pub fn get(&self, name: &str) -> Option<&V>
         ensures { option_copied result ≡ get name.now self.now }
     {
-        match place_of(&self.entries, &self.index, name) {
-            Some(place) => Some(&self.entries[place].value),
+        match place_in(&self.held, name) {
+            Some(place) => Some(&kept_entries(&self.held)[place].value),
             None => None,
         }
     }
@@ -122,7 +219,7 @@ impl<V> OrderedMap<V> {
         requires { index < length self.now }
         ensures { slice_get self.now index ≡ Some (result.0.now, result.1.now) }
     {
-        let entry = &self.entries[index];
+        let entry = &kept_entries(&self.held)[index];
         (entry.name.as_str(), &entry.value)
     }
 
@@ -160,8 +257,8 @@ impl<V> OrderedMap<V> {
         ensures entries { OnOk result (self.new ≡ insert_entry self.old (string_bytes name) value) }
         ensures err { OnErr result (self.new ≡ self.old) }
     {
-        match place_of(&self.entries, &self.index, name.as_str()) {
-            Some(place) => Ok(Some(mem::replace(&mut self.entries[place].value, value))),
+        match place_in(&self.held, name.as_str()) {
+            Some(place) => Ok(Some(mem::replace(self.value_at(place), value))),
             None => {
                 self.push_new(name, value)?;
                 Ok(None)
@@ -178,9 +275,7 @@ impl<V> OrderedMap<V> {
         ensures entries { OnOk result (self.new ≡ self.old ++ (string_bytes name, value) ∷ []) }
         ensures err { OnErr result (self.new ≡ self.old) }
     {
-        self.entries.reserve(1)?;
-        add_name(&self.entries, &mut self.index, name.as_str())?;
-        self.entries.push_reserved(Entry { name, value });
+        push_kept(&mut self.held, self.alloc, name, value)?;
         Ok(())
     }
 
@@ -190,7 +285,7 @@ impl<V> OrderedMap<V> {
         ensures* writes_back { sem 𝓛 (lends_name V.row self.entry name.now result) }
         ensures value { option_copied_mut result ≡ get name.now self.old }
     {
-        match place_of(&self.entries, &self.index, name) {
+        match place_in(&self.held, name) {
             Some(place) => Some(self.value_at(place)),
             None => None,
         }
@@ -202,8 +297,13 @@ impl<V> OrderedMap<V> {
         ensures* writes_back { sem 𝓛 (lends_place V.row self.entry place result) }
         ensures value { slice_get (values_of self.old) place ≡ Some result.now }
     {
-        let entry = &mut self.entries[place];
-        &mut entry.value
+        match &mut self.held {
+            Some(held) => {
+                let entry = &mut held.entries[place];
+                &mut entry.value
+            }
+            None => unreachable!(),
+        }
     }
 
     /// Takes the name out, and gives back the value that was there, or `None` where the map lacks it. The entries
@@ -212,10 +312,7 @@ impl<V> OrderedMap<V> {
         ensures old { result ≡ get name.now self.old }
         ensures entries { self.new ≡ remove_entry name.now self.old }
     {
-        let place = place_of(&self.entries, &self.index, name)?;
-        drop_name(&mut self.index, name);
-        let Entry { name: gone, value } = self.entries.remove(place);
-        drop(gone);
-        Some(value)
+        let place = place_in(&self.held, name)?;
+        Some(remove_kept(&mut self.held, place))
     }
 }

@@ -16,8 +16,8 @@ impl<V: Clone> Clone for OrderedMap<V> {
 
     fn clone(&self) -> Result<OrderedMap<V>, AllocError> {
         Ok(OrderedMap {
-            entries: self.entries.clone()?,
-            index: self.index.clone()?,
+            held: self.held.clone()?,
+            alloc: self.alloc,
         })
     }
 }

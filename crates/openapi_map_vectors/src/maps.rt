@@ -205,7 +205,7 @@ fn prints_names_with_their_values(rt: HostRuntime) -> Result<(), Fail> {
 
 #[test]
 fn clones_change_alone(rt: HostRuntime) -> Result<(), Fail> {
-    for count in [0, 16, 17] {
+    for count in [0, 16, 17, 300] {
         let numbers = numbered(rt.alloc(), count)?;
         let mut cloned = numbers.clone()?;
         assert!(rt; numbers == cloned, "of {count}");
@@ -263,7 +263,7 @@ fn takes_names_out_in_place(rt: HostRuntime) -> Result<(), Fail> {
 fn finds_names_after_others_are_gone(rt: HostRuntime) -> Result<(), Fail> {
     let alloc = rt.alloc();
     // every even number goes, so a map that had an index falls below 17 entries; then 1 goes and comes last
-    for count in [16, 17, 18, 30, 40] {
+    for count in [16, 17, 18, 30, 40, 300] {
         let mut numbers = numbered(alloc, count)?;
         for half in 0..count / 2 {
             let even = half * 2;

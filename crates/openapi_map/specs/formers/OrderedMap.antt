@@ -1,30 +1,44 @@
 -- `OrderedMap` as a type that may hold the type that holds it, by its values.
-use Rattle.std.specs.Prelude.{◌≡◌, List, [], Option}
+use Rattle.std.specs.Prelude.{◌≡◌, List, [], Option, Some, None}
 use mathlib.Core.Path.{refl, sym, subst}
-use mathlib.Core.Former.{Former, this, const, pair, list, via, children}
+use mathlib.Core.Former.{Former, this, const, pair, or, list, via, children}
+use mathlib.Core.Logic.{◌⊎◌, inl, inr}
+use base.Fml.{ftrue}
+use base.Stored.{gnil}
+use denote.Memory.{part_of}
+use denote.RawPtr.{Ptr}
+use denote.Sharing.{nothing}
 use denote.RattleType.{RattleType}
 use denote.HoleLaws.{Alike}
-use denote.HolePlaces.{Recodes, struct_places, laid}
+use denote.HolePlaces.{Recodes, struct_places, enum_places, eachs, laid, one_value}
 use denote.Hole.Carrier.{listed}
 use denote.Hole.Fix.{over}
 use denote.Param.Weighed.{Weighed, most}
-use denote.Model.Placed.{view_places}
+use denote.Model.Placed.{held, view_places}
+use Rattle.std.specs.List.{IsDistinct}
+use Rattle.std.specs.Str.{bytes_eq}
 use Rattle.std.specs.Map.{values_of}
 use Rattle.std.specs.declared.alloc.Global.{Global}
 use Rattle.std.specs.declared.boxed.Box.{Box}
 use Rattle.std.specs.declared.cmp.PartialEq as eq
 use Rattle.std.specs.formers.vec.Vec as vec
+use Rattle.std.specs.contracts.boxed.Box as box
+use Rattle.std.specs.contracts.option.Option as option
 use Rattle.std.specs.contracts.alloc.Global as heap
 use Rattle.std.specs.contracts.impls.GlobalAllocator.TheImpl.{ghosts}
-use Rattle.openapi_map.specs.Entries.{Entries, names_of}
+use Rattle.openapi_map.specs.Entries.{Entries, entries_of}
+use Rattle.openapi_map.specs.Held.{kept}
+use Rattle.openapi_map.specs.Index.{IsIndexAt}
+use Rattle.openapi_map.specs.declared.Held.{Held}
 use Rattle.openapi_map.specs.Equality.{entries_eq}
-use Rattle.openapi_map.specs.Index.{Index}
+use Rattle.openapi_map.specs.declared.index.NameIndex.{NameIndex}
 use Rattle.openapi_map.specs.Former.{entry, stored, on_stored, entries_puts, values_listed, entries_recoded}
 use Rattle.openapi_map.specs.Former.{entries_of-map, names_of-map, entries_of-held, entries_eq-map}
 use Rattle.openapi_map.specs.Former.{Indexed, Indexed-prop}
 use Rattle.openapi_map.specs.declared.OrderedMap.TheInside.{Inside}
 use Rattle.openapi_map.specs.declared.OrderedMap.TheView.{view, invariant}
 use Rattle.openapi_map.specs.contracts.Entry as E
+use Rattle.openapi_map.specs.contracts.Held as H
 use Rattle.openapi_map.specs.contracts.OrderedMap as C
 use Rattle.openapi_map.specs.contracts.OrderedMap.TheInside as I
 
@@ -48,10 +62,100 @@ pub the_items_listed : (X : Type 0) (es : Entries X)
 the_items_listed X es = values_listed X es
 
 -- what the code keeps for a map
+abbrev helds : Former {0}
+helds =
+    via (pair (vec.the_former stored Global) (const (Option (Box NameIndex Global)))) Held
+    (λ X a. (a.entries, a.index)) (λ X v. record { entries = v.0; index = v.1 }) (λ X a. refl) (λ X v. refl)
+
+abbrev with_value : {X Y : Type 0} → Box X Global → Y → Box Y Global
+with_value b y = record { ptr = b.ptr; alloc = b.alloc; value = y }
+
+abbrev boxes : Former {0}
+boxes =
+    via (pair (const (Ptr × Global)) helds) (λ X. Box (Held X) Global)
+    (λ X b. ((b.ptr, b.alloc), b.value)) (λ X v. record { ptr = v.0.0; alloc = v.0.1; value = v.1 })
+    (λ X b. refl) (λ X v. refl)
+
+module _ {B : Type 0} where
+  abbrev split : Option B → Unit {0} ⊎ B
+  split None = inl tt
+  split (Some b) = inr b
+
+  abbrev join : Unit {0} ⊎ B → Option B
+  join (inl u) = None
+  join (inr b) = Some b
+
+  join-split : (o : Option B) → join (split o) ≡ o
+  join-split None = refl
+  join-split (Some b) = refl
+
+  split-join : (o : Unit {0} ⊎ B) → split (join o) ≡ o
+  split-join (inl u) = refl
+  split-join (inr b) = refl
+
+abbrev options : Former {0}
+options =
+    via (or (const (Unit {0})) boxes) (λ X. Option (Box (Held X) Global))
+    (λ X. split) (λ X. join) (λ X. join-split) (λ X. split-join)
+
 abbrev fields : Former {0}
 fields =
-    via (pair (vec.the_former stored Global) (const (Option (Box Index Global)))) Inside
-    (λ X a. (a.entries, a.index)) (λ X v. record { entries = v.0; index = v.1 }) (λ X a. refl) (λ X v. refl)
+    via (pair options (const Global)) Inside
+    (λ X a. (a.held, a.alloc)) (λ X v. record { held = v.0; alloc = v.1 }) (λ X a. refl) (λ X v. refl)
+
+module _ {X Y : Type 0} (h : X → Y) where
+  abbrev on_held : Held X → Held Y
+  on_held d = record { entries = vec.mapped (on_stored h) d.entries; index = d.index }
+
+  abbrev on_box : Box (Held X) Global → Box (Held Y) Global
+  on_box b = with_value b (on_held b.value)
+
+  abbrev on_option : Option (Box (Held X) Global) → Option (Box (Held Y) Global)
+  on_option None = None
+  on_option (Some b) = Some (on_box b)
+
+  over_option : (o : Option (Box (Held X) Global)) → options.map X Y h o ≡ on_option o
+  over_option None = refl
+  over_option (Some b) = refl
+
+  -- the view goes along the map
+  natural : (o : Option (Box (Held X) Global))
+      → entries_of (kept (options.map X Y h o)) ≡ (the_former this).map X Y h (entries_of (kept o))
+  natural None = refl
+  natural (Some b) = entries_of-map h b.value.entries.items
+
+  -- and so does what holds of the fields
+  Indexed-to : (o : Option (Box (Held X) Global)) → Indexed o → Indexed (options.map X Y h o)
+  Indexed-to None s = s
+  Indexed-to (Some b) s =
+      subst (λ names. IsDistinct bytes_eq names × IsIndexAt names b.value.index)
+      (sym (names_of-map h b.value.entries.items)) s
+
+  Indexed-from : (o : Option (Box (Held X) Global)) → Indexed (options.map X Y h o) → Indexed o
+  Indexed-from None s = s
+  Indexed-from (Some b) s =
+      subst (λ names. IsDistinct bytes_eq names × IsIndexAt names b.value.index)
+      (names_of-map h b.value.entries.items) s
+
+-- the view shows what the fields hold
+keeps : (X : Type 0) (o : Option (Box (Held X) Global)) (z : Global)
+    → held (the_former this) X (entries_of (kept o)) ≡ held fields X (record { held = o; alloc = z })
+keeps X None z = refl
+keeps X (Some b) z = entries_of-held X b.value.entries.items
+
+abbrev box_of : RattleType → RattleType
+box_of R = box.the_row R heap.the_row ghosts
+
+box_places : (R R' : RattleType) (h : R.Denot → R'.Denot) → Alike R R' h
+    → Alike (box_of R) (box_of R') (λ b. with_value b (h b.value))
+unfolding part_of
+box_places R R' h a = record {
+  mir_same = λ i. (box_of (one_value R (a.mir_same i) (λ _. ftrue) (λ _ _. nothing) gnil)).mir;
+  own_same = λ b i.
+      (box_of (one_value R (a.mir_same i) (a.own_same b.value i) (a.shr_same b.value i) gnil)).own_val (with_value b tt);
+  shr_same = λ b i.
+      (box_of (one_value R (a.mir_same i) (a.own_same b.value i) (a.shr_same b.value i) gnil)).shr_at (with_value b tt);
+}
 
 module _ (R R' : RattleType) (h : R.Denot → R'.Denot) where
   stored_places : Alike R R' h → Alike (E.the_row R) (E.the_row R') (on_stored h)
@@ -59,23 +163,40 @@ module _ (R R' : RattleType) (h : R.Denot → R'.Denot) where
       struct_places (E.the_type R) (E.the_type R') (λ n. n, (h, tt)) _ (λ d. refl) refl
       ((refl, (λ n. refl, λ n. refl)), (laid _ _ _ a, tt))
 
+  held_places : Alike R R' h → Alike (H.the_row R) (H.the_row R') (on_held h)
+  held_places a =
+      struct_places (H.the_type R) (H.the_type R') (vec.mapped (on_stored h), (λ n. n, tt)) _ (λ d. refl) refl (
+        laid _ _ _ (vec.the_places heap.the_row ghosts (E.the_row R) (E.the_row R') (on_stored h) (stored_places a)),
+        ((refl, (λ n. refl, λ n. refl)), tt),
+      )
+
+  abbrev boxed : RattleType → RattleType
+  boxed S = box_of (H.the_row S)
+
+  variant : (o : Option (Box (Held R.Denot) Global)) → (option.enum (boxed R')).as_values (on_option h o)
+      ≡ eachs (option.enum (boxed R)).parts (option.enum (boxed R')).parts (tt, ((on_box h, tt), tt))
+      ((option.enum (boxed R)).as_values o)
+  variant None = refl
+  variant (Some b) = refl
+
+  option_places : Alike R R' h → Alike (option.the_row (boxed R)) (option.the_row (boxed R')) (on_option h)
+  option_places a =
+      enum_places (option.enum (boxed R)) (option.enum (boxed R')) (tt, ((on_box h, tt), tt)) (on_option h) variant refl
+      (tt, ((laid _ _ _ (box_places (H.the_row R) (H.the_row R') (on_held h) (held_places a)), tt), tt))
+
   pub the_places : Alike R R' h
       → Alike (C.the_row R) (C.the_row R') ((the_former this).map R.Denot R'.Denot h)
   the_places a =
       view_places fields (the_former this) view
-      (λ X Y k u i. entries_of-map k u.entries.items i)
-      (λ X u. entries_of-held X u.entries.items)
+      (λ X Y k u. natural k u.held) (λ X u. keeps X u.held u.alloc)
       R.Denot R'.Denot h (C.the_row R).coded (C.the_row R').coded
       (invariant R.Denot) (invariant R'.Denot)
-      (λ u. Indexed-prop u.index (names_of u.entries.items))
-      (λ u. Indexed-prop u.index (names_of u.entries.items))
-      (λ u. subst (Indexed u.index) (sym (names_of-map h u.entries.items)))
-      (λ u. subst (Indexed u.index) (names_of-map h u.entries.items))
+      (λ u. Indexed-prop u.held) (λ u. Indexed-prop u.held)
+      (λ u. Indexed-to h u.held) (λ u. Indexed-from h u.held)
       (over (I.the_row R)) (over (I.the_row R'))
-      (struct_places (I.the_type R) (I.the_type R') (vec.mapped (on_stored h), (λ n. n, tt)) _ (λ d. refl) refl (
-        laid _ _ _ (vec.the_places heap.the_row ghosts (E.the_row R) (E.the_row R') (on_stored h) (stored_places a)),
-        ((refl, (λ n. refl, λ n. refl)), tt),
-      ))
+      (struct_places (I.the_type R) (I.the_type R') (on_option h, (λ n. n, tt)) _
+      (λ d i. (over_option h d.held i, (d.alloc, tt))) refl
+      (laid _ _ _ (option_places a), ((refl, (λ n. refl, λ n. refl)), tt)))
 
   pub the_codes_placed : Recodes R R' h
       → Recodes (C.the_row R) (C.the_row R') ((the_former this).map R.Denot R'.Denot h)

@@ -1,7 +1,5 @@
-use Rattle.std.proofs.Common.{sym, subst}
-use Rattle.openapi_map.specs.Entries.{entries_of, HasDistinctNames}
 use Rattle.openapi_map.proofs.IndexLemmas.{distinct-nil}
 use Rattle.openapi_map.proofs.OrderedMap.new.Goals as goal
 
 pub invariant_of-result : goal.invariant_of-result
-invariant_of-result g c = (subst (λ es. HasDistinctNames (entries_of es)) (sym c.new.ensures.items) distinct-nil, tt)
+invariant_of-result g c = (distinct-nil, tt)

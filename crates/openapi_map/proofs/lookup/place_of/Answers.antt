@@ -1,18 +1,14 @@
-use Rattle.std.proofs.Common.{◌≡◌, map, position, string_bytes, ap, subst, ◌∙◌}
+use Rattle.std.proofs.Common.{position, string_bytes, ap, subst, sym, ◌∙◌}
 use Rattle.std.specs.Str.{bytes_eq}
 use Rattle.openapi_map.specs.Entries.{names_of}
-use Rattle.openapi_map.specs.Index.{IsIndexAt}
+use Rattle.openapi_map.specs.Index.{IsIndexAt, IsIndex}
 use Rattle.openapi_map.proofs.EntryLemmas.{position-map, names_of-map}
 use Rattle.openapi_map.proofs.lookup.place_of.Goals as goal
 
-pub returns-in-Some : goal.returns-in-Some
-returns-in-Some g c =
-    let test = bytes_eq c.args.name.now in
+pub place_of-requires-clause-index : goal.place_of-requires-clause-index
+place_of-requires-clause-index g c =
     let names = names_of c.args.entries.now.items in
-    let known = c.deref.result.now.keys in
-    let same : map string_bytes known ≡ names =
-    ap (λ s. map string_bytes s.keys) c.deref.ensures ∙ subst (IsIndexAt names) c.in-Some.is c.requires in
-    c.get_index_of.ensures.index ∙ position-map string_bytes test known ∙ ap (position test) same
+    subst (IsIndex names) (sym c.deref.ensures) (subst (IsIndexAt names) c.in-Some.is c.requires.index)
 
 pub returns-in-None : goal.returns-in-None
 returns-in-None g c =

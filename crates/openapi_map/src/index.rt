@@ -1,0 +1,124 @@
+//! The index of a long map: it leads from a hash to the places of the names that have it, and holds no names.
+ghost use Rattle.std.specs.Prelude.{◌≡◌, ◌+◌, ◌<◌, [], ◌++◌, ◌∷◌, ℕ, List, length, position, slice_index, EachIndex};
+ghost use Rattle.std.specs.Prelude.{IfOk, OnOk, OnErr};
+ghost use Rattle.std.specs.List.{IsDistinct, remove};
+ghost use Rattle.std.specs.Str.{bytes_eq};
+ghost use Rattle.std.specs.Vec.{vec_len, vec_capacity};
+ghost use Rattle.openapi_map.specs.Entries.{names_of};
+ghost use Rattle.openapi_map.specs.Index.{IsIndex, HasRoom, bucket, moved_link};
+
+use crate::Entry;
+use crate::lookup::is_name;
+use std::alloc::AllocError;
+use std::hash::{FoldHasher, Hasher};
+
+/// Links that lead from each bucket back along the places of the names that fall into it. A link is one more than the
+/// place that it leads to, and 0 leads nowhere.
+#[derive(Clone, Drop)]
+pub(crate) struct NameIndex {
+    // At each bucket the link to the last place whose name falls into it.
+    heads: Vec<usize>,
+    // At each place the link to the last place before it whose name falls into the same bucket.
+    next: Vec<usize>,
+}
+
+impl NameIndex {
+    /// An index of the names of the entries, with twice as many buckets.
+    pub(crate) fn of_names<V>(entries: &Vec<Entry<V>>) -> Result<NameIndex, AllocError>
+        requires { 0 < vec_len entries.now }
+        ensures is { IfOk result (IsIndex (names_of entries.now.items)) }
+        ensures room { IfOk result HasRoom }
+    {
+        let alloc = *entries.allocator();
+        let buckets = 2 * entries.len();
+        let mut index = NameIndex {
+            heads: vec![in alloc; 0; buckets]?,
+            next: Vec::with_capacity(alloc, buckets)?,
+        };
+        for entry in entries {
+            index.link_last(entry.name.as_str());
+        }
+        Ok(index)
+    }
+
+    /// Makes room for one more name. There are as many buckets as names or more, so that few names share one.
+    pub(crate) fn make_room<V>(&mut self, entries: &Vec<Entry<V>>) -> Result<(), AllocError>
+        requires { IsIndex (names_of entries.now.items) self.old }
+        ensures index { IsIndex (names_of entries.now.items) self.new }
+        ensures room { OnOk result (HasRoom self.new) }
+    {
+        if entries.len() < self.heads.len() {
+            self.next.reserve(1)
+        } else {
+            *self = NameIndex::of_names(entries)?;
+            Ok(())
+        }
+    }
+
+    /// Links the place of a name that goes last.
+    pub(crate) fn link_last(&mut self, name: &str)
+        requires buckets { 0 < vec_len self.old.heads }
+        requires room { HasRoom self.old }
+        ensures index { (names : List (List ℕ)) → IsIndex names self.old → IsIndex (names ++ name.now ∷ []) self.new }
+        ensures buckets { vec_len self.new.heads ≡ vec_len self.old.heads }
+        ensures capacity { vec_capacity self.new.next ≡ vec_capacity self.old.next }
+    {
+        let bucket = bucket_of(name, self.heads.len());
+        self.next.push_reserved(self.heads[bucket]);
+        self.heads[bucket] = self.next.len();
+    }
+
+    /// The place of a name, or `None` where no entry has it.
+    pub(crate) fn place_of<V>(&self, entries: &Vec<Entry<V>>, name: &str) -> Option<usize>
+        requires index { IsIndex (names_of entries.now.items) self.now }
+        requires distinct { IsDistinct bytes_eq (names_of entries.now.items) }
+        ensures { result ≡ position (bytes_eq name.now) (names_of entries.now.items) }
+    {
+        let mut link = self.heads[bucket_of(name, self.heads.len())];
+        while link > 0 {
+            let place = link - 1;
+            if is_name(&entries[place].name, name) {
+                return Some(place);
+            }
+            link = self.next[place];
+        }
+        None
+    }
+
+    /// Takes a place out. Those behind it move up by one.
+    pub(crate) fn unlink(&mut self, place: usize)
+        requires { place < vec_len self.old.next }
+        ensures { (names : List (List ℕ)) → IsIndex names self.old → IsIndex (remove names place) self.new }
+    {
+        let before = self.next.remove(place);
+        move_links(&mut self.heads, place, before);
+        move_links(&mut self.next, place, before);
+    }
+}
+
+/// Moves each link behind a place up by one, as the place goes. A link to the place leads to what it led to.
+fn move_links(links: &mut Vec<usize>, place: usize, before: usize)
+    ensures len { vec_len links.new ≡ vec_len links.old }
+    ensures each { EachIndex links.new.items (λ k.
+        slice_index links.new.items k ≡ moved_link place before (slice_index links.old.items k)) }
+{
+    for link in links.iter_mut() {
+        if *link > place {
+            *link -= 1;
+            if *link == place {
+                *link = before;
+            }
+        }
+    }
+}
+
+/// The bucket of a name. Of a hash it takes as many low bits as number the buckets, which are a power of two.
+fn bucket_of(name: &str, buckets: usize) -> usize
+    requires { 0 < buckets }
+    ensures is { result ≡ bucket buckets name.now }
+    ensures within { result < buckets }
+{
+    let mut hasher = FoldHasher::default();
+    hasher.write(name.as_bytes());
+    hasher.finish() as usize & (buckets - 1)
+}

@@ -12,7 +12,7 @@ use Rattle.serde_json.specs.Events.{members_len}
 use Rattle.serde_json.specs.Find.{get_member}
 
 -- a name is below those of all members
-abbrev Below : List ℕ → Members → Type 0
+abbrev pub Below : List ℕ → Members → Type 0
 Below k no_members = Unit {0}
 Below k (member l d ms) = (slice_cmp nat_cmp k l ≡ Less) × Below k ms
 
@@ -57,7 +57,7 @@ first_found : (k : List ℕ) (d : Data) (ms : Members) → get_member k (member 
 first_found k d ms =
     ap (λ o. match_ordering o (get_member k ms) (Some d) (get_member k ms)) (tied_itself nat_list_cmp_total k)
 
-tied : (k l : List ℕ) → slice_cmp nat_cmp k l ≡ Equal → k ≡ l
+pub tied : (k l : List ℕ) → slice_cmp nat_cmp k l ≡ Equal → k ≡ l
 tied k l h = (bytes_eq-Decides k l).0 (sym (is_eq-slice_cmp k l) ∙ ap is_eq h)
 
 skips : (k l : List ℕ) (d : Data) (ms : Members) → (k ≡ l → ⊥) → get_member k (member l d ms) ≡ get_member k ms

@@ -2,6 +2,7 @@ pub mod DataOrder
 pub mod EqualLemmas
 pub mod JsonLemmas
 mod NamedLemmas
+mod PairLemmas
 pub mod SameValue
 pub mod TreeLemmas
 pub mod Walks

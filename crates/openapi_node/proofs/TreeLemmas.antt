@@ -1,37 +1,60 @@
 -- The values in a part of a list or of an object, one child after another.
-use Rattle.std.proofs.Common.{◌≡◌, ℕ, zero, suc, ◌+◌, ◌<◌, ◌≤◌, List, [], ◌∷◌, ◌++◌, length, get_or, take, Bool}
-use Rattle.std.proofs.Common.{true, false, cond, Option, None, Some, IfSome, slice_get, refl, ap, ◌∙◌, arith}
-use Rattle.std.proofs.Common.{add-one}
-use Rattle.std.proofs.lemmas.List.{take_more}
+use Rattle.std.proofs.Common.{◌≡◌, ℕ, ◌+◌, ◌<◌, ◌≤◌, List, [], ◌∷◌, ◌++◌, length, get_or, take, drop, Bool}
+use Rattle.std.proofs.Common.{true, false, cond, Option, None, Some, IfSome, slice_get, refl, sym, ap, ◌∙◌, arith}
+use Rattle.std.proofs.Common.{append_assoc}
+use Rattle.std.proofs.lemmas.List.{take_more, take-append-drop}
 use Rattle.std.proofs.lemmas.Option.{slice_get_within, get_or_from_slice_get}
 use Rattle.std.specs.Str.{bytes_eq}
 use Rattle.openapi_map.specs.Entries.{get}
 use Rattle.openapi_node.specs.Tree.{Tree, find, object, size_of, items_size, members_size, items_of, members_of}
 
-items_size-suc : (ts : List Tree) (i : ℕ) (t : Tree) → i < length ts
-    → items_size (items_of (take (suc i) ts)) ≡ items_size (items_of (take i ts)) + size_of (get_or ts i t)
-items_size-suc [] i t h = absurd (omega arith)
-items_size-suc (x ∷ xs) zero t h = omega arith
-items_size-suc (x ∷ xs) (suc i) t h = omega (arith, items_size-suc xs i t (omega arith))
+pub take_next : {X : Type 0} (xs : List X) (i : ℕ) (x : X) → slice_get xs i ≡ Some x
+    → take (i + 1) xs ≡ take i xs ++ x ∷ []
+take_next xs i x at = take_more xs i x (slice_get_within xs i x at)
+    ∙ ap (λ y. take i xs ++ y ∷ []) (get_or_from_slice_get xs i x x at)
 
-items_size-part : (ts : List Tree) (i : ℕ) → items_size (items_of (take i ts)) ≤ items_size (items_of ts)
-items_size-part [] zero = omega arith
-items_size-part [] (suc i) = omega arith
-items_size-part (x ∷ xs) zero = omega arith
-items_size-part (x ∷ xs) (suc i) = omega (arith, items_size-part xs i)
+items_size-append : (ts us : List Tree)
+    → items_size (items_of (ts ++ us)) ≡ items_size (items_of ts) + items_size (items_of us)
+items_size-append [] us = omega arith
+items_size-append (t ∷ ts) us = omega (arith, items_size-append ts us)
 
-members_size-suc : (ms : List (List ℕ × Tree)) (i : ℕ) (m : List ℕ × Tree) → i < length ms
-    → members_size (members_of (take (suc i) ms)) ≡ members_size (members_of (take i ms)) + size_of (get_or ms i m).1
-members_size-suc [] i m h = absurd (omega arith)
-members_size-suc (x ∷ xs) zero m h = omega arith
-members_size-suc (x ∷ xs) (suc i) m h = omega (arith, members_size-suc xs i m (omega arith))
+members_size-append : (ms ns : List (List ℕ × Tree))
+    → members_size (members_of (ms ++ ns)) ≡ members_size (members_of ms) + members_size (members_of ns)
+members_size-append [] ns = omega arith
+members_size-append (m ∷ ms) ns = omega (arith, members_size-append ms ns)
 
-members_size-part : (ms : List (List ℕ × Tree)) (i : ℕ)
-    → members_size (members_of (take i ms)) ≤ members_size (members_of ms)
-members_size-part [] zero = omega arith
-members_size-part [] (suc i) = omega arith
-members_size-part (x ∷ xs) zero = omega arith
-members_size-part (x ∷ xs) (suc i) = omega (arith, members_size-part xs i)
+-- the item behind those that are done adds its size, within that of the list
+pub record ItemAfter (ts done : List Tree) (t : Tree) : Type 0 where
+  pub adds : items_size (items_of (done ++ t ∷ [])) ≡ items_size (items_of done) + size_of t
+  pub within : items_size (items_of done) + size_of t ≤ items_size (items_of ts)
+
+pub item_after : (ts done : List Tree) (t : Tree) (more : List Tree) → ts ≡ done ++ t ∷ more → ItemAfter ts done t
+item_after ts done t more split =
+    let whole : items_size (items_of ts) ≡ items_size (items_of done) + items_size (items_of (t ∷ more)) =
+    ap (λ us. items_size (items_of us)) split ∙ items_size-append done (t ∷ more) in
+    record { adds = omega (arith, items_size-append done (t ∷ [])); within = omega (arith, whole) }
+
+-- and so does a member
+pub record MemberAfter (ms done : List (List ℕ × Tree)) (t : Tree) : Type 0 where
+  pub adds : (name : List ℕ)
+      → members_size (members_of (done ++ (name, t) ∷ [])) ≡ members_size (members_of done) + size_of t
+  pub within : members_size (members_of done) + size_of t ≤ members_size (members_of ms)
+
+pub member_after : (ms done : List (List ℕ × Tree)) (m : List ℕ × Tree) (more : List (List ℕ × Tree))
+    → ms ≡ done ++ m ∷ more → MemberAfter ms done m.1
+member_after ms done m more split =
+    let whole : members_size (members_of ms) ≡ members_size (members_of done) + members_size (members_of (m ∷ more)) =
+    ap (λ ns. members_size (members_of ns)) split ∙ members_size-append done (m ∷ more) in
+    record {
+      adds = λ name. omega (arith, members_size-append done ((name, m.1) ∷ []));
+      within = omega (arith, whole);
+    }
+
+-- a list is what stands before an index, what stands there, and the rest
+split_at : {X : Type 0} (xs : List X) (i : ℕ) (x : X) → take (i + 1) xs ≡ take i xs ++ x ∷ []
+    → xs ≡ take i xs ++ x ∷ drop (i + 1) xs
+split_at xs i x next = sym (take-append-drop (i + 1) xs) ∙ ap (λ ys. ys ++ drop (i + 1) xs) next
+    ∙ append_assoc (take i xs) (x ∷ []) (drop (i + 1) xs)
 
 -- the item at an index adds its size, within that of the list
 pub record NextItem (ts : List Tree) (i : ℕ) (t : Tree) : Type 0 where
@@ -40,10 +63,10 @@ pub record NextItem (ts : List Tree) (i : ℕ) (t : Tree) : Type 0 where
 
 pub next_item : (ts : List Tree) (i : ℕ) (t : Tree) → i < length ts → t ≡ get_or ts i t → NextItem ts i t
 next_item ts i t h e =
-    let same : size_of t ≡ size_of (get_or ts i t) = ap size_of e in
-    let adds : items_size (items_of (take (i + 1) ts)) ≡ items_size (items_of (take i ts)) + size_of t =
-    rw add-one (omega (arith, items_size-suc ts i t h, same)) in
-    record { adds = adds; within = omega (arith, adds, items_size-part ts (i + 1)) }
+    let next : take (i + 1) ts ≡ take i ts ++ t ∷ [] =
+    take_more ts i t h ∙ ap (λ u. take i ts ++ u ∷ []) (sym e) in
+    let after = item_after ts (take i ts) t (drop (i + 1) ts) (split_at ts i t next) in
+    record { adds = ap (λ us. items_size (items_of us)) next ∙ after.adds; within = after.within }
 
 pub record NextMember (ms : List (List ℕ × Tree)) (i : ℕ) (t : Tree) : Type 0 where
   pub adds : members_size (members_of (take (i + 1) ms)) ≡ members_size (members_of (take i ms)) + size_of t
@@ -52,20 +75,18 @@ pub record NextMember (ms : List (List ℕ × Tree)) (i : ℕ) (t : Tree) : Type
 pub next_member : (ms : List (List ℕ × Tree)) (i : ℕ) (m : List ℕ × Tree) → slice_get ms i ≡ Some m
     → NextMember ms i m.1
 next_member ms i m at =
-    let same : size_of (get_or ms i m).1 ≡ size_of m.1 =
-    ap (λ (e : List ℕ × Tree). size_of e.1) (get_or_from_slice_get ms i m m at) in
-    let adds : members_size (members_of (take (i + 1) ms)) ≡ members_size (members_of (take i ms)) + size_of
-    m.1 = rw add-one (omega (arith, members_size-suc ms i m (slice_get_within ms i m at), same)) in
-    record { adds = adds; within = omega (arith, adds, members_size-part ms (i + 1)) }
+    let next = take_next ms i m at in
+    let after = member_after ms (take i ms) m (drop (i + 1) ms) (split_at ms i m next) in
+    record { adds = ap (λ ns. members_size (members_of ns)) next ∙ after.adds m.0; within = after.within }
 
 pub members_size-take : (ms : List (List ℕ × Tree)) (i : ℕ)
     → members_size (members_of (take i ms)) ≤ members_size (members_of ms)
-members_size-take = members_size-part
-
-pub take_next : {X : Type 0} (xs : List X) (i : ℕ) (x : X) → slice_get xs i ≡ Some x
-    → take (i + 1) xs ≡ take i xs ++ x ∷ []
-take_next xs i x at = take_more xs i x (slice_get_within xs i x at)
-    ∙ ap (λ y. take i xs ++ y ∷ []) (get_or_from_slice_get xs i x x at)
+members_size-take ms i =
+    let whole : members_size (members_of ms)
+    ≡ members_size (members_of (take i ms)) + members_size (members_of (drop i ms)) =
+    ap (λ ns. members_size (members_of ns)) (sym (take-append-drop i ms))
+    ∙ members_size-append (take i ms) (drop i ms) in
+    omega (arith, whole)
 
 find_cond : (b : Bool) (t : Tree) (r s : Option Tree) → r ≡ s → cond b (Some t) r ≡ cond b (Some t) s
 find_cond b t r s e = ap (λ x. cond b (Some t) x) e

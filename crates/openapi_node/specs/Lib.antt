@@ -3,6 +3,7 @@ pub mod Falls
 pub mod Fault
 pub mod Json
 pub mod Named
+pub mod Pairs
 pub mod Place
 pub mod Shape
 pub mod Tree

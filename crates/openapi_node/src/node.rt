@@ -4,6 +4,7 @@ ghost use Rattle.std.specs.Option.{option_copied, option_map};
 ghost use Rattle.openapi_node.specs.Tree.{null, flag, whole, text, list, object, items_of, members_of};
 ghost use Rattle.openapi_node.specs.Tree.{flag_in, whole_in, text_in, items_in, members_in};
 ghost use Rattle.openapi_node.specs.Named.{well_named};
+ghost use Rattle.openapi_node.specs.Shape.{tree_of};
 ghost use Rattle.openapi_node.specs.View.{shown};
 
 use crate::steps::Steps;
@@ -158,6 +159,15 @@ impl Node {
             Shape::List(items) => View::List(items.as_slice()),
             Shape::Object(members) => View::Object(members),
         }
+    }
+
+    /// What the node holds, which is taken out of it after a look. So it raises the count by one, as the look does.
+    pub(crate) fn take(self, steps: &mut Steps) -> Shape
+        ensures held { tree_of result ≡ self }
+        ensures counted { steps.new ≡ steps.old + 1 }
+    {
+        let _ = self.open(steps);
+        self.shape
     }
 }
 

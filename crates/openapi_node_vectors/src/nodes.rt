@@ -36,6 +36,11 @@ fn written(alloc: Global, node: &Node, steps: &mut Steps) -> Result<String, Fail
     Ok(value.to_string(alloc)?)
 }
 
+fn turned(alloc: Global, node: Node, steps: &mut Steps) -> Result<String, Fail> {
+    let value = node.into_value(alloc, steps)?;
+    Ok(value.to_string(alloc)?)
+}
+
 fn debug(alloc: Global, node: &Node) -> Result<String, AllocError> {
     format!(in alloc; "{node:?}")
 }
@@ -224,7 +229,31 @@ fn values_there_and_back(rt: HostRuntime) -> Result<(), Fail> {
         let node = read(rt.alloc(), given)?;
         let text = written(rt.alloc(), &node, &mut Steps::new(&rt))?;
         assert_eq!(rt; text.as_str(), back);
+        let text = turned(rt.alloc(), node, &mut Steps::new(&rt))?;
+        assert_eq!(rt; text.as_str(), back);
     }
+    Ok(())
+}
+
+#[test]
+fn long_objects_go_by_name(rt: HostRuntime) -> Result<(), Fail> {
+    let alloc = rt.alloc();
+    let mut steps = Steps::new(&rt);
+    let numbers = [
+        ("i", 9),
+        ("a", 1),
+        ("h", 8),
+        ("b", 2),
+        ("g", 7),
+        ("c", 3),
+        ("f", 6),
+        ("d", 4),
+        ("e", 5),
+    ];
+    let by_name = "{\"a\":1,\"b\":2,\"c\":3,\"d\":4,\"e\":5,\"f\":6,\"g\":7,\"h\":8,\"i\":9}";
+    let node = object(alloc, &numbers)?;
+    assert_eq!(rt; written(alloc, &node, &mut steps)?.as_str(), by_name);
+    assert_eq!(rt; turned(alloc, node, &mut steps)?.as_str(), by_name);
     Ok(())
 }
 

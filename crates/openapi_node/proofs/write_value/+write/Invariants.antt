@@ -2,18 +2,22 @@ use Rattle.std.proofs.Common.{◌≡◌, ◌+◌, ◌*◌, take, map}
 use Rattle.serde_json.specs.Data.{no_members}
 use Rattle.serde_json.specs.View.{view, members_view}
 use Rattle.openapi_node.specs.Json.{data_of, members_data}
+use Rattle.openapi_node.specs.Pairs.{pair_view, pair_data}
 use Rattle.openapi_node.specs.Tree.{size_of, items_size, members_size, items_of, members_of}
 use Rattle.openapi_node.proofs.write_value.+write.Given as goal
 
 -- a list is below the node that holds it, and a node is no more than the list that it stands in
 abbrev pub decreases-write_node : goal.decreases-write_node
-decreases-write_node l = 2 * size_of l.node.now
+decreases-write_node l = 3 * size_of l.node.now
 
 abbrev pub decreases-write_items : goal.decreases-write_items
-decreases-write_items l = 2 * items_size (items_of l.items.now) + 1
+decreases-write_items l = 3 * items_size (items_of l.items.now) + 1
 
 abbrev pub decreases-write_members : goal.decreases-write_members
-decreases-write_members l = 2 * members_size (members_of l.members.now) + 1
+decreases-write_members l = 3 * members_size (members_of l.members.now) + 2
+
+abbrev pub decreases-write_pairs : goal.decreases-write_pairs
+decreases-write_pairs l = 3 * members_size (members_of l.members.now) + 1
 
 abbrev pub invariant-write_items-loop-item : goal.invariant-write_items-loop-item
 invariant-write_items-loop-item l =
@@ -26,5 +30,12 @@ abbrev pub invariant-write_members-loop-i : goal.invariant-write_members-loop-i
 invariant-write_members-loop-i l =
     record {
       written : members_view l.values.entries ≡ members_data (members_of (take l.i l.members)) no_members;
+      counted : l.steps ≡ l.initial.steps + members_size (members_of (take l.i l.members));
+    }
+
+abbrev pub invariant-write_pairs-loop-i : goal.invariant-write_pairs-loop-i
+invariant-write_pairs-loop-i l =
+    record {
+      written : map pair_view l.pairs.items ≡ map pair_data (take l.i l.members);
       counted : l.steps ≡ l.initial.steps + members_size (members_of (take l.i l.members));
     }

@@ -8,7 +8,8 @@ An edit (edits/CRATE/NAME.edit) turns one meaning of a crate: a line `file:` nam
 lines `old:` and `new:` replaces a text that stands in it once. The prover must refuse the crate with the edit. The edits
 of crates that are proved quickly stand in crates/CRATE/must-fail, where `rt ci` tries them each time; those here are dear,
 so they are tried when their crate has changed. `edits/verdicts` has a line for each crate: its name, the number of edits
-that were refused, the line of `rt version`, and a hash of the crate's sources, specs, proofs and edits.
+that were refused, the line of `rt version`, and a hash of the crate's sources, specs, proofs and edits. A verdict holds
+for each release of the kit that has the same logic, which the line of `rt version` names too.
 
 Edits of different functions are tried together: no body is seen by the proof of another function, so each of these
 functions has to be refused for itself, at a place in its body or in its own proof (in that of its circle, at a goal of its
@@ -98,6 +99,17 @@ def wanted(name, kit):
     return len(edits), kit, hash_of(text_of(name) + edits)
 
 
+def logic_of(kit):
+    """Returns what a line of `rt version` says of the logic, apart from the release of the kit."""
+    return kit[kit.find("logic ") :]
+
+
+def is_tried(name, kit, found):
+    """Returns whether what was found of the crate is what is wanted of its text as it stands, under the same logic."""
+    number, before, whole = found.get(name, (0, "", ""))
+    return (number, logic_of(kit), whole) == wanted(name, logic_of(before))
+
+
 def record(name, line):
     kept = {it: given for it, given in verdicts().items() if it in crates_with_edits()}
     kept[name] = line
@@ -110,10 +122,9 @@ def compare():
     """Tells of each crate with edits whether they were tried on its text as it stands."""
     passed, failed, kit, found = 0, 0, version(), verdicts()
     for name in crates_with_edits():
-        number, now = found.get(name, (0, "", ""))[0], wanted(name, kit)
-        if found.get(name) == now:
-            passed += number
-            print(f"edits of {name}: {number} were refused, on the text that stands")
+        if is_tried(name, kit, found):
+            passed += found[name][0]
+            print(f"edits of {name}: {found[name][0]} were refused, on the text that stands")
         else:
             failed += 1
             told = "changed since its edits were tried" if name in found else "has edits that were never tried"
@@ -355,7 +366,7 @@ def main():
     if given.compare:
         return compare()
     found, kit = verdicts(), version()
-    changed = [it for it in crates_with_edits() if found.get(it) != wanted(it, kit)]
+    changed = [it for it in crates_with_edits() if not is_tried(it, kit, found)]
     return try_all(given.crates or changed, given.jobs)
 
 

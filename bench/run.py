@@ -4,11 +4,12 @@
 usage: bench/run.py [--sizes 1,4,16] [--runs N] [--command tag] [--only NAME] [--other PROGRAM] [--instructions]
                     [PROGRAM]
 
-PROGRAM is the program to measure, by default the one that `./openapi_clean` built. A second program may be given by
-`--other`: it is run with the same argument on the same inputs in the same run. For each shape of input and each size
-in megabytes it prints the bytes read in a second (the best of the runs), the peak memory for each byte read, and how
-the time grew straight: the time for each byte at the largest size over that at the smallest. With `--instructions` and
-valgrind it counts the instructions for each byte too, at the two smallest sizes.
+PROGRAM is the program to measure, by default the one that `./openapi_clean` built. For each shape of input and each
+size in megabytes it prints the bytes read in a second by the clock (the best of the runs) and the peak memory for each
+byte read, and how straight the time grew: the time for each byte at the largest size over that at the smallest. With
+`--instructions` and valgrind it counts the instructions for each byte too, at the two smallest sizes. A second program
+may be given by `--other`: it is run with the same argument on the same inputs, in turn with the first, and a line gives
+the time, the memory and the instructions of the first as shares of those of the second. It needs a C compiler.
 """
 import argparse
 import os
@@ -159,26 +160,29 @@ SHAPES = {
 }
 
 
-def make(shape, size, path):
-    """Writes an input, in a process of its own: the peak memory of this one counts as that of what it starts."""
-    child = os.fork()
-    if child == 0:
+def made(shape, megabytes, folder):
+    """The file of an input, and its size in bytes."""
+    path = os.path.join(folder, f"{shape.__name__}-{megabytes}.json")
+    if not os.path.exists(path):
         with open(path, "w") as file:
-            file.write(shape(size))
-        os._exit(0)
-    if os.waitpid(child, 0)[1] != 0:
-        sys.exit(f"could not make {path}")
+            file.write(shape(int(megabytes * MEGABYTE)))
+    return path, os.path.getsize(path)
 
 
-def measured(program, command, path):
-    """Seconds of processor time and peak bytes of one run."""
-    with open(path, "rb") as source, open(os.devnull, "wb") as sink:
-        child = subprocess.Popen([program, command], stdin=source, stdout=sink)
-        _, status, usage = os.wait4(child.pid, 0)
-        child.returncode = os.waitstatus_to_exitcode(status)
-    if child.returncode != 0:
-        sys.exit(f"{program} {command} ended with status {child.returncode} on {path}")
-    return usage.ru_utime + usage.ru_stime, usage.ru_maxrss * 1024
+def launcher(folder):
+    """Compiles the small program by which others are run."""
+    program = os.path.join(folder, "launch")
+    subprocess.run(["cc", "-O1", "-o", program, os.path.join(TOP, "bench", "launch.c")], check=True)
+    return program
+
+
+def measured(launch, program, command, path):
+    """Seconds by the clock and peak bytes of one run."""
+    run = subprocess.run([launch, path, program, command], capture_output=True, text=True)
+    if run.returncode != 0:
+        sys.exit(f"{program} {command} failed on {path}: {run.stderr.strip()}")
+    seconds, peak = run.stdout.split()
+    return float(seconds), int(peak)
 
 
 def instructions(program, command, path):
@@ -193,33 +197,47 @@ def instructions(program, command, path):
     return 0
 
 
-def report(label, program, arguments, shape, folder):
-    """Runs one program on one shape of input, at each size."""
-    rates = []
-    for megabytes in arguments.sizes:
-        path = os.path.join(folder, f"{shape.__name__}-{megabytes}.json")
-        if not os.path.exists(path):
-            make(shape, int(megabytes * MEGABYTE), path)
-        size = os.path.getsize(path)
-        runs = [measured(program, arguments.command, path) for _ in range(arguments.runs)]
-        seconds, peak = min(run[0] for run in runs), max(run[1] for run in runs)
-        rates.append(seconds / size)
-        print(f"{label:6} {shape.__name__:8} {size / MEGABYTE:6.1f} MB  {size / seconds / MEGABYTE:7.1f} MB/s"
+def timed(launch, programs, arguments, shape, megabytes, folder):
+    """Runs each program in turn on one input, and prints a line for each and their ratios; returns the seconds a byte of each."""
+    path, size = made(shape, megabytes, folder)
+    runs = {label: [] for label, _ in programs}
+    for _ in range(arguments.runs):
+        for label, program in programs:
+            runs[label].append(measured(launch, program, arguments.command, path))
+    best = {label: (min(it[0] for it in found), max(it[1] for it in found)) for label, found in runs.items()}
+    for label, (seconds, peak) in best.items():
+        print(f"{label:6} {shape.__name__:12} {size / MEGABYTE:6.1f} MB  {size / seconds / MEGABYTE:7.1f} MB/s"
               f"  {peak / size:6.1f} bytes of memory a byte", flush=True)
-    if len(rates) > 1:
-        print(f"{label:6} {shape.__name__:8} growth {rates[-1] / rates[0]:.2f}", flush=True)
-    if arguments.instructions and shutil.which("valgrind"):
-        report_instructions(label, program, arguments, shape, folder)
+    if len(programs) > 1:
+        (ours, room), (theirs, their_room) = best["this"], best["other"]
+        print(f"ratio  {shape.__name__:12} {size / MEGABYTE:6.1f} MB  time {ours / theirs:.2f}"
+              f"  memory {room / their_room:.2f}", flush=True)
+    return {label: seconds / size for label, (seconds, _) in best.items()}
 
 
-def report_instructions(label, program, arguments, shape, folder):
+def counted(programs, arguments, shape, folder):
     """Counts the instructions for each byte at the two smallest sizes, which no other work on the machine disturbs."""
-    counts = []
-    for megabytes in arguments.sizes[:2]:
-        path = os.path.join(folder, f"{shape.__name__}-{megabytes}.json")
-        counts.append(instructions(program, arguments.command, path) / os.path.getsize(path))
-    growth = f", growth {counts[-1] / counts[0]:.2f}" if len(counts) > 1 else ""
-    print(f"{label:6} {shape.__name__:8} {counts[0]:.0f} instructions a byte{growth}", flush=True)
+    first = {}
+    for label, program in programs:
+        counts = []
+        for megabytes in arguments.sizes[:2]:
+            path, size = made(shape, megabytes, folder)
+            counts.append(instructions(program, arguments.command, path) / size)
+        growth = f", growth {counts[-1] / counts[0]:.2f}" if len(counts) > 1 else ""
+        print(f"{label:6} {shape.__name__:12} {counts[0]:.0f} instructions a byte{growth}", flush=True)
+        first[label] = counts[0]
+    if len(programs) > 1:
+        print(f"ratio  {shape.__name__:12} instructions {first['this'] / first['other']:.2f}", flush=True)
+
+
+def report(launch, programs, arguments, shape, folder):
+    """Measures the programs on one shape of input, at each size."""
+    rates = [timed(launch, programs, arguments, shape, it, folder) for it in arguments.sizes]
+    if len(rates) > 1:
+        for label, _ in programs:
+            print(f"{label:6} {shape.__name__:12} growth {rates[-1][label] / rates[0][label]:.2f}", flush=True)
+    if arguments.instructions and shutil.which("valgrind"):
+        counted(programs, arguments, shape, folder)
 
 
 def main():
@@ -237,10 +255,10 @@ def main():
     programs = [("this", arguments.program)] + ([("other", arguments.other)] if arguments.other else [])
     started = time.time()
     with tempfile.TemporaryDirectory() as folder:
+        launch = launcher(folder)
         for shape in SHAPES[arguments.command]:
             if arguments.only in (None, shape.__name__):
-                for label, program in programs:
-                    report(label, program, arguments, shape, folder)
+                report(launch, programs, arguments, shape, folder)
     print(f"{time.time() - started:.0f} seconds in all")
 
 

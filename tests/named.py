@@ -14,8 +14,8 @@ import re
 import sys
 
 TOP = os.path.dirname(os.path.dirname(os.path.realpath(__file__)))
-# Crates and modules of tests, and the program, whose functions are its own.
-NO_LIBRARY = re.compile(r"_vectors$|^openapi_(checks|clean)$")
+# Crates and modules of tests, and the programs, whose functions are their own.
+NO_LIBRARY = re.compile(r"_vectors$|^openapi_(checks|clean|memory)$")
 # An `impl` with the type that it is for; the end of an item; a public function with its indentation and its name, and the
 # word `self` if it is a method. The head of a function may take several lines.
 ITEM = re.compile(
@@ -65,7 +65,7 @@ def is_named(tests, owner, name, is_method):
 
 def main():
     texts = list(sources())
-    tests = "\n".join(text for crate, name, text in texts if crate.endswith("_vectors") or name == "tests.rt")
+    tests = "\n".join(text for crate, name, text in texts if crate.endswith("_vectors") or name.endswith("tests.rt"))
     passed = failed = 0
     for crate, name, text in texts:
         if NO_LIBRARY.search(crate):

@@ -1,7 +1,8 @@
 #!/usr/bin/env bash
 # Runs the built program with its Nth request for memory refused, for N from 1 until a run meets no refusal. Each run
-# that met one must write nothing, say `out of memory` and end with status 3; the last must write what a run with ample
-# memory does. The last line is `N passed, M failed`, in which each command on a file counts once.
+# that met one must write nothing, say `out of memory` and end with status 3; or, where the request was for room that it
+# can do without (to sort the names of a long object), write what a run with ample memory does, as the last must. It tells
+# how many of those there were. The last line is `N passed, M failed`, in which each command on a file counts once.
 #
 # usage: tests/refusals.sh [COMMAND FILE ..]      (with none: the examples of the repository)
 #
@@ -20,39 +21,11 @@ passed=0 failed=0
 work=$(mktemp -d)
 trap 'rm -rf "$work"' EXIT
 
-cat > "$work/refuse.c" <<'C'
-#define _GNU_SOURCE
-#include <dlfcn.h>
-#include <errno.h>
-#include <stdlib.h>
-#include <unistd.h>
-
-/* Refuses one request for memory, the one whose number REFUSE gives, and tells on descriptor 9 that it did. */
-static long number = -1, count;
-
-static int refused(void) {
-    if (number < 0) {
-        const char *text = getenv("REFUSE");
-        number = text ? atol(text) : 0;
-    }
-    if (++count != number) return 0;
-    if (write(9, "refused\n", 8) < 0) abort();
-    errno = ENOMEM;
-    return 1;
-}
-
-#define REAL(name) static __typeof__(&name) real; if (!real) real = dlsym(RTLD_NEXT, #name)
-
-void *malloc(size_t size) { REAL(malloc); return refused() ? 0 : real(size); }
-void *realloc(void *p, size_t size) { REAL(realloc); return refused() ? 0 : real(p, size); }
-void *aligned_alloc(size_t a, size_t size) { REAL(aligned_alloc); return refused() ? 0 : real(a, size); }
-int posix_memalign(void **p, size_t a, size_t size) { REAL(posix_memalign); return refused() ? ENOMEM : real(p, a, size); }
-C
-cc -shared -fPIC -O1 -o "$work/refuse.so" "$work/refuse.c" -ldl
+cc -shared -fPIC -O1 -o "$work/refuse.so" "$top/tests/refuse.c" -ldl
 
 # Tells of one command on one input what came of refusing each request in turn; ends with 1 at the first that is not told.
 refuse_each() {
-  local command=$1 input=$2 want met=0 n status said
+  local command=$1 input=$2 want met=0 spared=0 n status said
   want=$("$program" "$command" < "$input")
   for ((n = 1; ; n++)); do
     status=0
@@ -61,6 +34,10 @@ refuse_each() {
     if [ ! -s "$work/met" ]; then break; fi
     met=$((met + 1))
     said=$(cat "$work/err")
+    if [ $status -eq 0 ] && [ -z "$said" ] && [ "$(cat "$work/out")" = "$want" ]; then
+      spared=$((spared + 1))
+      continue
+    fi
     if [ $status -ne 3 ] || [ -s "$work/out" ] || [ "$said" != 'out of memory' ]; then
       echo "FAILED: request $n of $command on $input refused: status $status, said '$said'"
       return 1
@@ -70,7 +47,8 @@ refuse_each() {
     echo "FAILED: $command on $input: with none refused, status $status, after $met refusals"
     return 1
   fi
-  echo "$command on $input: each of $met requests for memory was refused in turn and told as out of memory"
+  echo "$command on $input: each of $met requests for memory was refused in turn; $((met - spared)) were told as out of" \
+    "memory, and $spared it did without"
 }
 
 while [ $# -gt 1 ]; do

@@ -1,0 +1,133 @@
+//! The calls that know nothing of the types of OpenAPI, and those that need no tree.
+
+use crate::marks::{Moment, mark};
+use crate::samples::Sample;
+use crate::told::{Told, told_by, told_by_growth};
+use crate::typed;
+use openapi_checks::trees::tree;
+use openapiv3::{Node, OpenAPI, Operation, OrderedMap, ReferenceOr, Responses, Schema, Steps};
+use serde_json::Value;
+use std::alloc::{AllocError, Global};
+use std::test::Fail;
+
+/// What comes of a call that is made on no sample.
+pub fn alone(rt: &HostRuntime, call: &str) -> Result<Told, Fail> {
+    match call {
+        "ref_" => reference(rt.alloc()),
+        "boxed_item" => boxed_item(rt.alloc(), tree(rt, Sample::Document.text())?),
+        "insert" => insert(rt.alloc()),
+        _ => Err(Fail::new("no such call")),
+    }
+}
+
+/// What comes of a call that is made on a sample.
+pub fn on_sample(rt: &HostRuntime, call: &str, sample: Sample) -> Result<Told, Fail> {
+    match call {
+        "from_value" => from_value(rt, sample.text()),
+        "to_value" => to_value(rt, sample.text()),
+        "copy" => copy(rt, sample.text()),
+        "clone" => clone(rt, sample.text()),
+        _ => match sample {
+            Sample::Schema => typed::on_sample::<Schema>(rt, call, sample),
+            Sample::Responses | Sample::Refused => typed::on_sample::<Responses>(rt, call, sample),
+            Sample::Document => typed::on_sample::<OpenAPI>(rt, call, sample),
+            Sample::Operation => typed::on_sample::<Operation>(rt, call, sample),
+        },
+    }
+}
+
+/// Makes a node of a value.
+fn from_value(rt: &HostRuntime, text: &str) -> Result<Told, Fail> {
+    let alloc = rt.alloc();
+    let value = Value::from_slice(alloc, text.as_bytes())?;
+    let before = value.clone()?;
+    let wanted = tree(rt, text)?;
+    mark(alloc, Moment::CallBegins)?;
+    let answer = Node::from_value(alloc, &value);
+    mark(alloc, Moment::CallEnds)?;
+    Ok(told_by(answer, &wanted).if_kept(&value, &before))
+}
+
+/// Makes a value of a node.
+fn to_value(rt: &HostRuntime, text: &str) -> Result<Told, Fail> {
+    let alloc = rt.alloc();
+    let node = tree(rt, text)?;
+    let before = node.clone()?;
+    let wanted = Value::from_slice(alloc, text.as_bytes())?;
+    let mut steps = Steps::new(rt);
+    mark(alloc, Moment::CallBegins)?;
+    let answer = node.to_value(alloc, &mut steps);
+    mark(alloc, Moment::CallEnds)?;
+    Ok(told_by(answer, &wanted).if_kept(&node, &before))
+}
+
+/// Copies a node, with its looks counted.
+fn copy(rt: &HostRuntime, text: &str) -> Result<Told, Fail> {
+    let alloc = rt.alloc();
+    let node = tree(rt, text)?;
+    let wanted = tree(rt, text)?;
+    let mut steps = Steps::new(rt);
+    mark(alloc, Moment::CallBegins)?;
+    let answer = node.copy(alloc, &mut steps);
+    mark(alloc, Moment::CallEnds)?;
+    Ok(told_by(answer, &wanted).if_kept(&node, &wanted))
+}
+
+/// Clones a node.
+fn clone(rt: &HostRuntime, text: &str) -> Result<Told, Fail> {
+    let alloc = rt.alloc();
+    let node = tree(rt, text)?;
+    let wanted = tree(rt, text)?;
+    mark(alloc, Moment::CallBegins)?;
+    let answer: Result<Node, AllocError> = node.clone();
+    mark(alloc, Moment::CallEnds)?;
+    Ok(told_by_growth(answer, &wanted).if_kept(&node, &wanted))
+}
+
+/// Makes a reference of a text.
+fn reference(alloc: Global) -> Result<Told, Fail> {
+    let text = "#/components/schemas/Pet";
+    let wanted = ReferenceOr::<Node>::Reference {
+        reference: String::from_str(alloc, text)?,
+    };
+    mark(alloc, Moment::CallBegins)?;
+    let answer = ReferenceOr::<Node>::ref_(alloc, text);
+    mark(alloc, Moment::CallEnds)?;
+    Ok(told_by_growth(answer, &wanted))
+}
+
+/// Puts an item in a box. The item is the call's, and is let go of where there is no memory for the box.
+fn boxed_item(alloc: Global, item: Node) -> Result<Told, Fail> {
+    let wanted = ReferenceOr::Item(Box::new(alloc, item.clone()?)?);
+    mark(alloc, Moment::CallBegins)?;
+    let answer = ReferenceOr::boxed_item(alloc, item);
+    mark(alloc, Moment::CallEnds)?;
+    Ok(told_by_growth(answer, &wanted))
+}
+
+/// A map with the first of these names, each beside its length.
+fn map_of(alloc: Global, names: &[&str]) -> Result<OrderedMap<usize>, Fail> {
+    let mut map = OrderedMap::new(alloc);
+    for name in names {
+        map.insert(String::from_str(alloc, name)?, name.len())?;
+    }
+    Ok(map)
+}
+
+/// Puts the seventeenth name in a map, which then makes an index of its names.
+fn insert(alloc: Global) -> Result<Told, Fail> {
+    let names = [
+        "a", "b", "c", "d", "e", "f", "g", "h", "i", "j", "k", "l", "m", "n", "o", "p",
+    ];
+    let mut map = map_of(alloc, &names)?;
+    let before = map.clone()?;
+    let mut wanted = map_of(alloc, &names)?;
+    wanted.insert(String::from_str(alloc, "seventeenth")?, 17)?;
+    let name = String::from_str(alloc, "seventeenth")?;
+    mark(alloc, Moment::CallBegins)?;
+    let answer = map.insert(name, 17);
+    mark(alloc, Moment::CallEnds)?;
+    let now = if answer.is_ok() { &wanted } else { &before };
+    let told = told_by_growth(answer, &None).if_kept(&map, now);
+    Ok(told.if_kept(&map.len(), &now.len()))
+}

@@ -1,0 +1,78 @@
+//! The trees on which calls are made.
+
+use std::str::FromStr;
+
+/// A tree, which is read as one type.
+#[derive(Clone, Copy)]
+pub enum Sample {
+    /// A Schema Object that is held as Any, and is an integer once it is written.
+    Schema,
+    /// A Responses Object with two names of one code, and a name that is no code.
+    Responses,
+    /// A Responses Object that is refused.
+    Refused,
+    /// A whole document.
+    Document,
+    /// An Operation Object.
+    Operation,
+}
+
+impl FromStr for Sample {
+    type Err = &'static str;
+
+    /// The sample of a word.
+    fn from_str(word: &str) -> Result<Sample, &'static str> {
+        match word {
+            "schema" => Ok(Sample::Schema),
+            "responses" => Ok(Sample::Responses),
+            "refused" => Ok(Sample::Refused),
+            "document" => Ok(Sample::Document),
+            "operation" => Ok(Sample::Operation),
+            _ => Err("no such sample"),
+        }
+    }
+}
+
+const DOCUMENT: &str =
+    r##"{"openapi":"3.0.0","info":{"title":"Swagger Petstore","license":{"name":"MIT"},"version":"1.0.0","x-hash":"abc123"},"servers":[{"url":"http://petstore.swagger.io/v1"}],"paths":{},"components":{"schemas":{"Cat":{"description":"A representation of a cat","allOf":[{"$ref":"#/components/schemas/Pet"},{"type":"object","properties":{"huntingSkill":{"description":"The measured skill for hunting","type":"string","enum":["clueless","lazy","adventurous","aggressive"]}},"required":["huntingSkill"]}]},"Dog":{"description":"A representation of a dog","allOf":[{"$ref":"#/components/schemas/Pet"},{"type":"object","properties":{"packSize":{"description":"the size of the pack the dog is from","type":"integer","format":"int32","minimum":0}},"required":["packSize"]}]},"Pet":{"discriminator":{"propertyName":"petType"},"type":"object","properties":{"name":{"type":"string"},"petType":{"type":"string"}},"required":["name","petType"]}}}}"##;
+
+const OPERATION: &str =
+    r#"{"responses":{"default":{"$ref":"def"},"666":{"$ref":"demo"},"418":{"$ref":"demo"}}}"#;
+
+impl Sample {
+    /// The tree as JSON text.
+    pub fn text(self) -> &'static str {
+        match self {
+            Sample::Schema => r#"{"type":"integer","exclusiveMinimum":false,"required":[]}"#,
+            Sample::Responses => {
+                r#"{"2xx":{"description":"a"},"404":{"description":"b"},"2XX":{"description":"c"},"wat":7}"#
+            }
+            Sample::Refused => {
+                r#"{"200":{"content":{"application/json":{"schema":{"type":"string"}}}}}"#
+            }
+            Sample::Document => DOCUMENT,
+            Sample::Operation => OPERATION,
+        }
+    }
+
+    /// What is written of what is read of the tree, as JSON text; or what is told of the fault that refuses it.
+    pub fn cleaned(self) -> Result<&'static str, &'static str> {
+        match self {
+            Sample::Schema => Ok(r#"{"type":"integer","exclusiveMinimum":false}"#),
+            Sample::Responses => { Ok(r#"{"2XX":{"description":"c"},"404":{"description":"b"}}"#) }
+            Sample::Refused => Err("missing field `description` at #/200"),
+            Sample::Document => Ok(DOCUMENT),
+            Sample::Operation => Ok(OPERATION),
+        }
+    }
+
+    /// What the tree settles to, in the same way.
+    pub fn settled(self) -> Result<&'static str, &'static str> {
+        match self {
+            Sample::Schema => Ok(r#"{"type":"integer"}"#),
+            Sample::Responses | Sample::Refused | Sample::Document | Sample::Operation => {
+                self.cleaned()
+            }
+        }
+    }
+}

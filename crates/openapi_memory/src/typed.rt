@@ -1,0 +1,97 @@
+//! The calls of the types of OpenAPI.
+
+use crate::marks::{Moment, mark};
+use crate::samples::Sample;
+use crate::told::{Told, told_by, told_by_fault, told_by_value};
+use openapi_checks::trees::{fault_text, tree};
+use openapiv3::{Fault, FromNode, Node, Settle, Steps, ToNode};
+use std::test::Fail;
+
+/// What comes of a call that is made on a sample, which is read as a `T`.
+pub fn on_sample<T: ToNode + Clone + PartialEq + Drop>(
+    rt: &HostRuntime,
+    call: &str,
+    sample: Sample,
+) -> Result<Told, Fail> {
+    match call {
+        "from_node" => from_node::<T>(rt, sample),
+        "to_node" => to_node::<T>(rt, sample),
+        "settle" => settle::<T>(rt, sample),
+        _ => Err(Fail::new("no such call")),
+    }
+}
+
+/// Reads a tree. What was read is told by what is written of it.
+fn from_node<T: ToNode + Drop>(rt: &HostRuntime, sample: Sample) -> Result<Told, Fail> {
+    let alloc = rt.alloc();
+    let node = tree(rt, sample.text())?;
+    let before = node.clone()?;
+    let mut steps = Steps::new(rt);
+    mark(alloc, Moment::CallBegins)?;
+    let answer = T::from_node(alloc, &node, &mut steps);
+    mark(alloc, Moment::CallEnds)?;
+    let written = match answer {
+        Ok(value) => value.to_node(alloc),
+        Err(fault) => Err(fault),
+    };
+    let told = told_by_tree(rt, written, sample.cleaned())?;
+    Ok(told.if_kept(&node, &before))
+}
+
+/// Settles a tree.
+fn settle<T: ToNode + Drop>(rt: &HostRuntime, sample: Sample) -> Result<Told, Fail> {
+    let alloc = rt.alloc();
+    let node = tree(rt, sample.text())?;
+    let before = node.clone()?;
+    let mut steps = Steps::new(rt);
+    mark(alloc, Moment::CallBegins)?;
+    let answer = T::settle(alloc, &node, &mut steps);
+    mark(alloc, Moment::CallEnds)?;
+    let told = told_by_tree(rt, answer, sample.settled())?;
+    Ok(told.if_kept(&node, &before))
+}
+
+/// What came of a call that gives a tree, or a fault that prints as a text where the call refuses its own.
+fn told_by_tree(
+    rt: &HostRuntime,
+    answer: Result<Node, Fault>,
+    wanted: Result<&str, &str>,
+) -> Result<Told, Fail> {
+    match (answer, wanted) {
+        (Ok(node), Ok(text)) => Ok(told_by_value(&node, &tree(rt, text)?)),
+        (Ok(_), Err(_)) => Ok(Told::Differs("the tree was not refused")),
+        (Err(fault), Ok(_)) => Ok(told_by_fault(&fault)),
+        (Err(fault), Err(text)) => {
+            if fault_text(rt, &fault)?.as_str() == text {
+                Ok(Told::Answered)
+            } else {
+                Ok(told_by_fault(&fault))
+            }
+        }
+    }
+}
+
+/// Writes what was read of a tree.
+fn to_node<T: ToNode + Clone + PartialEq + Drop>(
+    rt: &HostRuntime,
+    sample: Sample,
+) -> Result<Told, Fail> {
+    let mut steps = Steps::new(rt);
+    let value = T::from_node(rt.alloc(), &tree(rt, sample.text())?, &mut steps)?;
+    write(rt, &value, sample)
+}
+
+/// Writes a value.
+fn write<T: ToNode + Clone + PartialEq + Drop>(
+    rt: &HostRuntime,
+    value: &T,
+    sample: Sample,
+) -> Result<Told, Fail> {
+    let alloc = rt.alloc();
+    let before = value.clone()?;
+    mark(alloc, Moment::CallBegins)?;
+    let answer = value.to_node(alloc);
+    mark(alloc, Moment::CallEnds)?;
+    let told = told_by_tree(rt, answer, sample.cleaned())?;
+    Ok(told.if_kept(value, &before))
+}

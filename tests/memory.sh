@@ -1,0 +1,65 @@
+#!/usr/bin/env bash
+# Makes each call of crates/openapi_memory with the Nth request for memory that the call makes refused, for N from 1
+# until a run meets no refusal. Each run that met one must tell `refused: out of memory`, and the last `answered`, by
+# which the program also says that what the call was lent is as it was; and every run must have let go of each block that
+# it took. The last line is `N passed, M failed`, in which each call on a tree counts once.
+#
+# usage: tests/memory.sh [CALL [SAMPLE]]      (with none: each call)
+#
+# The program is the one that `./check` or `rt run` in its folder made.
+set -eu
+top=$(cd "$(dirname "${BASH_SOURCE[0]}")/.." && pwd)
+program=$top/crates/openapi_memory/out/openapi_memory
+if [ ! -x "$program" ]; then
+  printf 'FAILED: %s is not built\n0 passed, 1 failed\n' "$program"
+  exit 1
+fi
+passed=0 failed=0 all=0
+work=$(mktemp -d)
+trap 'rm -rf "$work"' EXIT
+cc -shared -fPIC -O1 -o "$work/refuse.so" "$top/tests/refuse.c" -ldl
+
+# Tells of one call what came of refusing each of its requests in turn; ends with 1 at the first that is not told.
+refuse_each() {
+  local n status told met wanted
+  for ((n = 1; ; n++)); do
+    status=0
+    told=$(MARKED=1 REFUSE=$n LD_PRELOAD=$work/refuse.so "$program" "$@" 2>&1 9> "$work/said") || status=$?
+    met=$(cat "$work/said")
+    case $met in
+      $'refused\nkept 0') wanted='refused: out of memory' ;;
+      'kept 0') wanted=answered ;;
+      *) wanted='that all is let go of' ;;
+    esac
+    if [ $status -ne 0 ] || [ "$told" != "$wanted" ]; then
+      echo "FAILED: $* with request $n refused: status $status, told '$told', watched '${met//$'\n'/, }'"
+      return 1
+    fi
+    if [ "$told" = answered ]; then break; fi
+  done
+  if [ $n -eq 1 ]; then
+    echo "FAILED: $* made no request"
+    return 1
+  fi
+  all=$((all + n - 1))
+  echo "$*: each of $((n - 1)) requests for memory was refused in turn and told as out of memory"
+}
+
+count() {
+  if refuse_each "$@"; then passed=$((passed + 1)); else failed=$((failed + 1)); fi
+}
+
+if [ $# -gt 0 ]; then
+  count "$@"
+else
+  for sample in schema responses refused document operation; do
+    for call in from_value copy clone to_value from_node settle to_node; do
+      # (the refused one is never an object that could be written)
+      if [ "$sample $call" != 'refused to_node' ]; then count "$call" "$sample"; fi
+    done
+  done
+  for call in ref_ boxed_item insert; do count "$call"; done
+fi
+echo "$all requests for memory were refused in all"
+echo "$passed passed, $failed failed"
+[ $failed -eq 0 ]

@@ -5,7 +5,6 @@ ghost use Rattle.std.specs.Prelude.{◌≡◌, ◌≢◌, ◌⊎◌, ◌++◌, �
 ghost use Rattle.openapi_clean.specs.Commands.{kind_of};
 ghost use Rattle.openapi_clean.specs.Output.{IsAnswer, IsJsonOf, IsLineOf, IsNoJson, IsRefusalOf, HoldsFraction};
 ghost use Rattle.openapi_clean.specs.Output.{IsUnwhole, Explains, line_of, lines_of, operation_line};
-ghost use Rattle.openapi_documents.specs.Documents.{document_form};
 ghost use Rattle.openapi_node.specs.Json.{IsTreeOf, data_of};
 ghost use Rattle.openapi_settle.specs.Settled.{settled};
 ghost use Rattle.openapi_tables.specs.Conforms.{conforms};
@@ -225,12 +224,12 @@ fn line_of_tree(alloc: Global, node: Node, steps: &mut Steps) -> Result<String, 
     line_of_value(alloc, &value)
 }
 
-/// The value of a tree, which is let go of.
+/// The value of a tree, which is taken apart for it.
 fn value_of_tree(alloc: Global, node: Node, steps: &mut Steps) -> Result<Value, RunFault>
     ensures ok { IfOk result (λ v. view v ≡ data_of node) }
     ensures err { IfErr result (λ e. e ≡ RunFault.Memory) }
 {
-    match node.to_value(alloc, steps) {
+    match node.into_value(alloc, steps) {
         Ok(value) => Ok(value),
         Err(_) => Err(RunFault::Memory),
     }

@@ -7,6 +7,8 @@
 mod answer;
 mod command;
 mod fault;
+#[cfg(test)]
+mod input_tests;
 mod outcome;
 mod run;
 #[cfg(test)]

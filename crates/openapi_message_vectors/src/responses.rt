@@ -163,6 +163,16 @@ fn later_responses_of_a_code_stand_in_the_earlier_place(rt: HostRuntime) -> Resu
     )
 }
 
+#[test]
+fn the_one_code_among_other_names_is_kept(rt: HostRuntime) -> Result<(), Fail> {
+    let responses = read(
+        &rt,
+        r#"{"99":5,"1000":5,"+20":5,"2X":5,"é0":5,"2xX":{"description":"d"}}"#,
+    )?;
+    assert_eq!(rt; responses.responses.len(), 1);
+    check_entries(&rt, &responses, &[(StatusCode::Range(2), "d")])
+}
+
 /// That a clone of responses equals them, differs from others, and is written as a text.
 fn check_clone(
     rt: &HostRuntime,

@@ -4,7 +4,9 @@ use openapi_documents::{Components, OpenAPI};
 use openapi_node::{Node, OrderedMap};
 use openapi_operations::PathItem;
 use openapi_rows::ToNode;
+use openapi_schema::{AnySchema, ObjectType, Schema, SchemaData, SchemaKind, SchemaType};
 use openapi_values::ReferenceOr;
+use std::alloc::Global;
 use std::test::Fail;
 
 /// That a value is written as this text.
@@ -32,12 +34,16 @@ fn told<T: ToNode + Drop>(rt: &HostRuntime, value: T) -> Result<String, Fail> {
     write_refusal(rt, &value)
 }
 
+/// A map of one name.
+fn one_member<T: Drop>(rt: &HostRuntime, name: &str, value: T) -> Result<OrderedMap<T>, Fail> {
+    let mut members = OrderedMap::new(rt.alloc());
+    members.insert(name.to_string(rt.alloc())?, value)?;
+    Ok(members)
+}
+
 /// An empty path item under a name.
 fn paths_of(rt: &HostRuntime, name: &str) -> Result<OrderedMap<ReferenceOr<PathItem>>, Fail> {
-    let mut paths = OrderedMap::new(rt.alloc());
-    let item = ReferenceOr::Item(PathItem::new(rt.alloc()));
-    paths.insert(name.to_string(rt.alloc())?, item)?;
-    Ok(paths)
+    one_member(rt, name, ReferenceOr::Item(PathItem::new(rt.alloc())))
 }
 
 /// A document with these paths.
@@ -49,9 +55,7 @@ fn with_paths(rt: &HostRuntime, paths: OrderedMap<ReferenceOr<PathItem>>) -> Ope
 
 /// An extension under a name.
 fn extension_of(rt: &HostRuntime, name: &str) -> Result<OrderedMap<Node>, Fail> {
-    let mut extensions = OrderedMap::new(rt.alloc());
-    extensions.insert(name.to_string(rt.alloc())?, Node::null())?;
-    Ok(extensions)
+    one_member(rt, name, Node::null())
 }
 
 /// A document whose components have these extensions.
@@ -85,6 +89,67 @@ fn names_of_extensions_that_are_not_read_again_are_refused(rt: HostRuntime) -> R
     ];
     for (name, wanted) in rows {
         let text = told(&rt, with_extensions(&rt, extension_of(&rt, name)?))?;
+        check_same(&rt, text.as_str(), wanted)?;
+    }
+    Ok(())
+}
+
+/// A schema of no sort in particular with these extensions.
+fn extended(alloc: Global, extensions: OrderedMap<Node>) -> Schema {
+    let mut schema_data = SchemaData::new(alloc);
+    schema_data.extensions = extensions;
+    Schema {
+        schema_data,
+        schema_kind: SchemaKind::Any(AnySchema::new(alloc)),
+    }
+}
+
+/// A schema with an extension of this name, in a box.
+fn boxed_with(rt: &HostRuntime, name: &str) -> Result<ReferenceOr<Box<Schema>>, Fail> {
+    let schema = extended(rt.alloc(), extension_of(rt, name)?);
+    Ok(ReferenceOr::boxed_item(rt.alloc(), schema)?)
+}
+
+/// A schema of an object with these properties.
+fn with_properties(alloc: Global, properties: OrderedMap<ReferenceOr<Box<Schema>>>) -> Schema {
+    let mut object = ObjectType::new(alloc);
+    object.properties = properties;
+    Schema {
+        schema_data: SchemaData::new(alloc),
+        schema_kind: SchemaKind::Typed(SchemaType::Object(object)),
+    }
+}
+
+/// The same where a reference may stand.
+fn item_with(
+    alloc: Global,
+    properties: OrderedMap<ReferenceOr<Box<Schema>>>,
+) -> ReferenceOr<Schema> {
+    ReferenceOr::Item(with_properties(alloc, properties))
+}
+
+/// A document whose components have these schemas.
+fn with_schemas(rt: &HostRuntime, schemas: OrderedMap<ReferenceOr<Schema>>) -> OpenAPI {
+    let mut components = Components::new(rt.alloc());
+    components.schemas = schemas;
+    let mut document = OpenAPI::new(rt.alloc());
+    document.components = Some(components);
+    document
+}
+
+#[test]
+fn names_of_extensions_are_looked_at_in_schemas(rt: HostRuntime) -> Result<(), Fail> {
+    let rows = [
+        ("x-a", "written"),
+        (
+            "foo",
+            "name not writable at #/components/schemas/S/properties/p/foo",
+        ),
+    ];
+    for (name, wanted) in rows {
+        let properties = one_member(&rt, "p", boxed_with(&rt, name)?)?;
+        let schemas = one_member(&rt, "S", item_with(rt.alloc(), properties))?;
+        let text = told(&rt, with_schemas(&rt, schemas))?;
         check_same(&rt, text.as_str(), wanted)?;
     }
     Ok(())

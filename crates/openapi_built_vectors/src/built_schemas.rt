@@ -1,7 +1,7 @@
 //! Schemas that are built, and not read.
 
 use crate::schema_references::unwritable_box;
-use openapi_checks::trees::{check_same, check_tree, tree, write_refusal};
+use openapi_checks::trees::{check_same, check_tree, map_with, tree, write_refusal};
 use openapiv3::{
     AdditionalProperties, AnySchema, BooleanType, FromNode, IntegerType, Node, NumberType,
     ObjectType, OrderedMap, ReferenceOr, Schema, SchemaData, SchemaKind, SchemaType, Steps,
@@ -130,16 +130,9 @@ fn with_xml(alloc: Global, xml: Xml) -> Schema {
 #[test]
 fn extensions_of_schemas_need_their_prefix(rt: HostRuntime) -> Result<(), Fail> {
     let mut xml = Xml::new(rt.alloc());
-    xml.extensions = one_member(&rt, "foo", Node::null())?;
+    xml.extensions = map_with(&rt, "foo", Node::null())?;
     let schema = with_xml(rt.alloc(), xml);
     check_refused(&rt, schema, "name not writable at #/xml/foo")
-}
-
-/// A map of one name.
-fn one_member<T: Drop>(rt: &HostRuntime, name: &str, value: T) -> Result<OrderedMap<T>, Fail> {
-    let mut members = OrderedMap::new(rt.alloc());
-    members.insert(name.to_string(rt.alloc())?, value)?;
-    Ok(members)
 }
 
 /// A schema of an object with these properties.
@@ -154,7 +147,7 @@ fn with_properties(alloc: Global, properties: OrderedMap<ReferenceOr<Box<Schema>
 
 #[test]
 fn extensions_of_members_need_their_prefix(rt: HostRuntime) -> Result<(), Fail> {
-    let properties = one_member(&rt, "p", unwritable_box(&rt)?)?;
+    let properties = map_with(&rt, "p", unwritable_box(&rt)?)?;
     let schema = with_properties(rt.alloc(), properties);
     let found = write_refusal(&rt, &schema)?;
     check_same(

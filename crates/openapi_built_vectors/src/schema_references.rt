@@ -1,6 +1,6 @@
 //! Schemas and references to them, in a box and without one.
 
-use openapi_checks::trees::{check_cleaned, check_fault, check_tree, tree};
+use openapi_checks::trees::{check_cleaned, check_fault, check_tree, map_with, tree};
 use openapiv3::{
     AnySchema, Node, OrderedMap, ReferenceOr, Schema, SchemaData, SchemaKind, Steps,
     boxed_schema_ref_from_node, boxed_schema_ref_to_node, schema_ref_from_node, schema_ref_to_node,
@@ -128,8 +128,7 @@ fn extended(alloc: Global, extensions: OrderedMap<Node>) -> Schema {
 
 /// A schema with an extension whose name lacks its prefix.
 fn unwritable(rt: &HostRuntime) -> Result<Schema, Fail> {
-    let mut extensions = OrderedMap::new(rt.alloc());
-    extensions.insert("foo".to_string(rt.alloc())?, Node::null())?;
+    let extensions = map_with(rt, "foo", Node::null())?;
     Ok(extended(rt.alloc(), extensions))
 }
 

@@ -110,6 +110,14 @@ pub fn members(rt: &HostRuntime, given: &[(&str, &str)]) -> Result<OrderedMap<No
     Ok(out)
 }
 
+/// A map with one entry.
+pub fn map_with<V: Drop>(rt: &HostRuntime, name: &str, value: V) -> Result<OrderedMap<V>, Fail> {
+    let name = name.to_string(rt.alloc())?;
+    let mut map = OrderedMap::new(rt.alloc());
+    map.insert(name, value)?;
+    Ok(map)
+}
+
 /// A tree as text, with the members of each object as they stand. Equality of nodes does not see their order.
 pub fn shown(rt: &HostRuntime, node: &Node) -> Result<String, Fail> {
     Ok(format!(in rt.alloc(); "{node:?}")?)

@@ -1,6 +1,6 @@
 //! Headers, media types and encodings.
 use openapi_checks::trees::{
-    check_same, check_texts, check_tree, check_written, members, tree, write_refusal,
+    check_same, check_texts, check_tree, check_written, map_with, members, tree, write_refusal,
 };
 use openapi_contents::{
     Content, Encoding, Header, MediaType, ParameterSchemaOrContent, content_from_node,
@@ -96,19 +96,25 @@ fn headers_are_read_at_every_depth(rt: HostRuntime) -> Result<(), Fail> {
     check_texts::<ReferenceOr<Header>>(&rt, &rows)
 }
 
-/// A content with one media type of this name, which has one encoding of this name, which has a null extension.
-fn content_with(rt: &HostRuntime, name: &str) -> Result<Content, Fail> {
-    let mut encoding = Encoding::new(rt.alloc());
+/// An encoding with these extensions.
+fn encoding_with(alloc: Global, extensions: OrderedMap<Node>) -> Encoding {
+    let mut encoding = Encoding::new(alloc);
+    encoding.extensions = extensions;
     encoding
-        .extensions
-        .insert(name.to_string(rt.alloc())?, Node::null())?;
-    let mut media_type = MediaType::new(rt.alloc());
+}
+
+/// A media type with these encodings.
+fn media_type_with(alloc: Global, encodings: OrderedMap<Encoding>) -> MediaType {
+    let mut media_type = MediaType::new(alloc);
+    media_type.encoding = encodings;
     media_type
-        .encoding
-        .insert("p".to_string(rt.alloc())?, encoding)?;
-    let mut content: Content = OrderedMap::new(rt.alloc());
-    content.insert("a/b".to_string(rt.alloc())?, media_type)?;
-    Ok(content)
+}
+
+/// A content with one media type, which has one encoding, which has a null extension of this name.
+fn content_with(rt: &HostRuntime, name: &str) -> Result<Content, Fail> {
+    let extensions = map_with(rt, name, Node::null())?;
+    let encodings = map_with(rt, "p", encoding_with(rt.alloc(), extensions))?;
+    map_with(rt, "a/b", media_type_with(rt.alloc(), encodings))
 }
 
 #[test]

@@ -1,5 +1,5 @@
 //! Documents and components that are built: what `new` makes, and which names are written.
-use openapi_checks::trees::{check_same, check_tree, write_refusal};
+use openapi_checks::trees::{check_same, check_tree, map_with, write_refusal};
 use openapi_documents::{Components, OpenAPI};
 use openapi_node::{Node, OrderedMap};
 use openapi_operations::PathItem;
@@ -34,16 +34,9 @@ fn told<T: ToNode + Drop>(rt: &HostRuntime, value: T) -> Result<String, Fail> {
     write_refusal(rt, &value)
 }
 
-/// A map of one name.
-fn one_member<T: Drop>(rt: &HostRuntime, name: &str, value: T) -> Result<OrderedMap<T>, Fail> {
-    let mut members = OrderedMap::new(rt.alloc());
-    members.insert(name.to_string(rt.alloc())?, value)?;
-    Ok(members)
-}
-
 /// An empty path item under a name.
 fn paths_of(rt: &HostRuntime, name: &str) -> Result<OrderedMap<ReferenceOr<PathItem>>, Fail> {
-    one_member(rt, name, ReferenceOr::Item(PathItem::new(rt.alloc())))
+    map_with(rt, name, ReferenceOr::Item(PathItem::new(rt.alloc())))
 }
 
 /// A document with these paths.
@@ -55,7 +48,7 @@ fn with_paths(rt: &HostRuntime, paths: OrderedMap<ReferenceOr<PathItem>>) -> Ope
 
 /// An extension under a name.
 fn extension_of(rt: &HostRuntime, name: &str) -> Result<OrderedMap<Node>, Fail> {
-    one_member(rt, name, Node::null())
+    map_with(rt, name, Node::null())
 }
 
 /// A document whose components have these extensions.
@@ -147,8 +140,8 @@ fn names_of_extensions_are_looked_at_in_schemas(rt: HostRuntime) -> Result<(), F
         ),
     ];
     for (name, wanted) in rows {
-        let properties = one_member(&rt, "p", boxed_with(&rt, name)?)?;
-        let schemas = one_member(&rt, "S", item_with(rt.alloc(), properties))?;
+        let properties = map_with(&rt, "p", boxed_with(&rt, name)?)?;
+        let schemas = map_with(&rt, "S", item_with(rt.alloc(), properties))?;
         let text = told(&rt, with_schemas(&rt, schemas))?;
         check_same(&rt, text.as_str(), wanted)?;
     }

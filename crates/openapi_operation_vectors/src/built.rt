@@ -1,5 +1,5 @@
 //! Operations, path items, callbacks and paths that are built: what `new` makes, and which names are written.
-use openapi_checks::trees::{check_same, check_tree, check_written, tree, write_refusal};
+use openapi_checks::trees::{check_same, check_tree, check_written, map_with, tree, write_refusal};
 use openapi_node::{Node, OrderedMap, Steps};
 use openapi_operations::{Callback, Operation, PathItem, Paths};
 use openapi_rows::{FromNode, ToNode};
@@ -21,14 +21,6 @@ fn new_ones_are_empty(rt: HostRuntime) -> Result<(), Fail> {
     check_built(&rt, PathItem::new(rt.alloc()), Ok("{}"))?;
     check_built(&rt, Callback::new(rt.alloc()), Ok("{}"))?;
     check_built(&rt, Paths::new(rt.alloc()), Ok("{}"))
-}
-
-/// A map with one entry.
-fn map_with<V: Drop>(rt: &HostRuntime, name: &str, value: V) -> Result<OrderedMap<V>, Fail> {
-    let name = name.to_string(rt.alloc())?;
-    let mut map = OrderedMap::new(rt.alloc());
-    map.insert(name, value)?;
-    Ok(map)
 }
 
 /// A map with one entry, which is no reference.

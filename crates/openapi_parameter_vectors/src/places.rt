@@ -1,7 +1,7 @@
 //! The places of parameters: what tells them apart, the styles of each, and what they have in common.
 
 use openapi_checks::trees::{
-    check_cleaned, check_same, check_texts, check_written, object, tree, write_refusal,
+    check_cleaned, check_same, check_texts, check_written, map_with, object, tree, write_refusal,
 };
 use openapi_contents::ParameterSchemaOrContent;
 use openapi_node::{Fault, Node, OrderedMap, Steps};
@@ -237,19 +237,23 @@ fn parameters_have_data_in_each_place(rt: HostRuntime) -> Result<(), Fail> {
 
 /// What parameters have, with a null extension of this name.
 fn data_with(rt: &HostRuntime, name: &str) -> Result<ParameterData, Fail> {
-    let mut extensions = OrderedMap::new(rt.alloc());
-    extensions.insert(name.to_string(rt.alloc())?, Node::null())?;
-    Ok(ParameterData {
-        name: "n".to_string(rt.alloc())?,
+    let extensions = map_with(rt, name, Node::null())?;
+    Ok(data_of(rt.alloc(), "n".to_string(rt.alloc())?, extensions))
+}
+
+/// What parameters have, with this name, an empty content and these extensions.
+fn data_of(alloc: Global, name: String, extensions: OrderedMap<Node>) -> ParameterData {
+    ParameterData {
+        name,
         description: None,
         required: false,
         deprecated: None,
-        format: ParameterSchemaOrContent::Content(OrderedMap::new(rt.alloc())),
+        format: ParameterSchemaOrContent::Content(OrderedMap::new(alloc)),
         example: None,
-        examples: OrderedMap::new(rt.alloc()),
+        examples: OrderedMap::new(alloc),
         explode: None,
         extensions,
-    })
+    }
 }
 
 /// A parameter in a path that has this data.

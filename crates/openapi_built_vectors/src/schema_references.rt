@@ -28,13 +28,23 @@ fn check_plain(rt: &HostRuntime, found: &ReferenceOr<Schema>, wanted: &str) -> R
     check_tree(rt, &schema_ref_to_node(rt.alloc(), found)?, wanted)
 }
 
-/// The same of one in a box.
-fn check_boxed(
-    rt: &HostRuntime,
-    found: &ReferenceOr<Box<Schema>>,
-    wanted: &str,
-) -> Result<(), Fail> {
-    check_tree(rt, &boxed_schema_ref_to_node(rt.alloc(), found)?, wanted)
+/// What the schema or the reference of a JSON text is written as.
+fn plain_written(rt: &HostRuntime, text: &str) -> Result<Node, Fail> {
+    let schema = plain(rt, text)?;
+    Ok(schema_ref_to_node(rt.alloc(), &schema)?)
+}
+
+/// What it is written as out of a box.
+fn boxed_written(rt: &HostRuntime, text: &str) -> Result<Node, Fail> {
+    let schema = boxed(rt, text)?;
+    Ok(boxed_schema_ref_to_node(rt.alloc(), &schema)?)
+}
+
+/// Whether it is the same out of its box as without one.
+fn is_unboxed(rt: &HostRuntime, text: &str) -> Result<bool, Fail> {
+    let one = plain(rt, text)?;
+    let other = boxed(rt, text)?;
+    Ok(other.unbox() == one)
 }
 
 #[test]
@@ -52,11 +62,9 @@ fn references_stand_for_schemas(rt: HostRuntime) -> Result<(), Fail> {
         (r#"{"type":"array"}"#, r#"{"type":"array"}"#),
     ];
     for (given, wanted) in rows {
-        let one = plain(&rt, given)?;
-        check_plain(&rt, &one, wanted)?;
-        let other = boxed(&rt, given)?;
-        check_boxed(&rt, &other, wanted)?;
-        assert!(rt; other.unbox() == one, "{given}");
+        check_tree(&rt, &plain_written(&rt, given)?, wanted)?;
+        check_tree(&rt, &boxed_written(&rt, given)?, wanted)?;
+        assert!(rt; is_unboxed(&rt, given)?, "{given}");
     }
     Ok(())
 }

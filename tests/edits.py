@@ -17,6 +17,9 @@ own). One that is not refused so is tried alone, and at last from nothing. Check
 over a copy of what a check of the crate left, as many side by side as there are processors. Which edits were refused is
 kept in the crate's out/edits, so that a run that was ended goes on where it stopped. The last line is
 `N passed, M failed`.
+
+Lines that say no more than how a function is to be inlined count neither for the hash nor for the text: they are hints to
+the compiler that makes a program of what is proved, and no proof sees them.
 """
 import argparse
 import hashlib
@@ -36,6 +39,8 @@ import time
 TOP = os.path.dirname(os.path.dirname(os.path.realpath(__file__)))
 VERDICTS = f"{TOP}/edits/verdicts"
 HEAD = "# For each crate: the edits that were refused, the kit, and the hash of its sources, specs, proofs and edits.\n"
+# A line that is a hint on inlining and nothing else.
+INLINING = re.compile(rb"^[ \t]*#\[(?:inline(?:\((?:never|always)\))?|cold)\]\n", re.M)
 # How many edits are tried in one check at the most.
 TOGETHER = 12
 
@@ -69,7 +74,10 @@ def hash_of(files):
     found = hashlib.sha256()
     for file in files:
         with open(file, "rb") as it:
-            found.update(repr((os.path.relpath(file, TOP), it.read())).encode())
+            text = it.read()
+        if file.endswith(".rt"):
+            text = INLINING.sub(b"", text)
+        found.update(repr((os.path.relpath(file, TOP), text)).encode())
     return found.hexdigest()
 
 

@@ -1,8 +1,10 @@
-//! Items and references to them, put into the boxes in which other items hold them.
+//! Items and references to them, and the boxes in which other items hold them.
+ghost use Rattle.std.specs.Prelude.{◌≡◌, None};
 ghost use Rattle.openapi_node.specs.Tree.{Tree};
 ghost use Rattle.openapi_tables.specs.Form.{Form};
-ghost use Rattle.openapi_tables.specs.Kind.{Kind};
+ghost use Rattle.openapi_tables.specs.Kind.{Kind, ref_to};
 ghost use Rattle.openapi_rows.specs.Gives.{Gives};
+ghost use Rattle.openapi_rows.specs.References.{reference_in};
 ghost use Rattle.openapi_values.specs.Reference.{reference_form};
 
 use openapi_node::Fault;
@@ -10,7 +12,21 @@ use openapi_rows::boxed;
 use openapi_values::ReferenceOr;
 use std::alloc::Global;
 
+/// What was read of a tree that is no reference, where one might stand. It stands in a function of its own, as the boxes
+/// below do, so that no function of a circle makes room for a second copy of what may be large.
+#[inline(never)]
+pub fn as_item<T: Drop>(read: Result<T, Fault>) -> Result<ReferenceOr<T>, Fault>
+    ensures { (view : T → Form) (k : Kind) (t : Tree) → reference_in t ≡ None → Gives view read k t
+        → Gives (reference_form view) result (ref_to k) t }
+{
+    match read {
+        Ok(value) => Ok(ReferenceOr::Item(value)),
+        Err(fault) => Err(fault),
+    }
+}
+
 /// What was read, with an item in a box; or want of memory.
+#[inline(never)]
 pub fn in_inner_box<T: Drop>(
     alloc: Global,
     read: Result<ReferenceOr<T>, Fault>,
@@ -31,6 +47,7 @@ pub fn in_inner_box<T: Drop>(
 }
 
 /// What was read, in a box; or want of memory.
+#[inline(never)]
 pub fn in_outer_box<T: Drop>(
     alloc: Global,
     read: Result<ReferenceOr<T>, Fault>,

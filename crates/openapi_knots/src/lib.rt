@@ -6,7 +6,7 @@ mod boxes;
 mod members;
 mod objects;
 
-pub use boxes::{in_inner_box, in_outer_box};
+pub use boxes::{as_item, in_inner_box, in_outer_box};
 pub use members::{
     append, as_some, only_row, put_decided, put_row, put_written, record_rows, whole_object,
 };

@@ -22,7 +22,9 @@ pub fn members_shown<'a>(alloc: Global, view: &View<'a>) -> Result<&'a OrderedMa
     }
 }
 
-/// Puts what was read of an entry last, under a name that is not there yet; or leads its refusal on.
+/// Puts what was read of an entry last, under a name that is not there yet; or leads its refusal on. It stands by itself on
+/// the stack, so that the functions of a circle make no room for the copies that are made of a large value here.
+#[inline(never)]
 pub fn put_read<T: Drop>(
     alloc: Global,
     values: &mut OrderedMap<T>,

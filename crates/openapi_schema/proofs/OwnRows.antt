@@ -27,7 +27,7 @@ use Rattle.openapi_schema.specs.declared.composite_types.ObjectType.{roll-Object
 use Rattle.openapi_schema.specs.declared.kind_names.FirstNames.{FirstNames}
 use Rattle.openapi_schema.specs.declared.kind_names.LastNames.{LastNames}
 use Rattle.openapi_schema.proofs.KindForms.{Array, Object, array_rows-roll, object_rows-roll}
-use Rattle.openapi_knots.proofs.JoinedRows.{rows_join, rows_weight-join}
+use Rattle.openapi_knots.proofs.JoinedRows.{rows_join}
 use Rattle.openapi_schema.proofs.KindGives.{none_broken}
 use Rattle.openapi_schema.proofs.OpenedForms.{array_rows-out, object_rows-out}
 use Rattle.openapi_rows.proofs.Referring.{fails_moved}

@@ -2,7 +2,14 @@
 use Rattle.std.proofs.Common.{
   ◌≡◌,
   ◌+◌,
+  ◌*◌,
+  ◌≤◌,
+  ℕ,
   List,
+  Option,
+  Some,
+  None,
+  option_map,
   Result,
   Ok,
   Err,
@@ -13,6 +20,7 @@ use Rattle.std.proofs.Common.{
   ap,
   ◌∙◌,
   subst,
+  arith,
   rules,
 }
 use Rattle.std.specs.Global.{Box}
@@ -31,7 +39,7 @@ use Rattle.openapi_values.specs.Reference.{reference_form}
 use Rattle.openapi_values.specs.declared.reference.ReferenceOr.{ReferenceOr}
 use Rattle.openapi_values.specs.declared.reference.ReferenceOr.TheVariants as r
 use Rattle.openapi_schema.specs.KindNames.{first_rows, last_rows, kind_name_rows}
-use Rattle.openapi_schema.specs.Kinds.{IsKind}
+use Rattle.openapi_schema.specs.Kinds.{IsKind, entries_left, entries_weight, trees_in}
 use Rattle.openapi_schema.specs.Present.{additional_level}
 use Rattle.openapi_schema.specs.RawSlots.{optional_rows}
 use Rattle.openapi_schema.specs.Reading.{GivesKind, first_optional, last_optional, outer_box_form, schema_kind_form}
@@ -81,6 +89,18 @@ pub kind_read : (r : Result SchemaKind Fault) (a : FirstNames) (b : LastNames) (
     → GivesKind r ms
 kind_read (Ok k) a b ms rows h g = (kind_name_rows a b, rows, h ms rows)
 kind_read (Err f) a b ms rows h g = memory_fails f a_schema_kind (object ms) g
+
+-- where no reference was read, none stands there
+pub none_referred : {X : Type 0} (f : X → List ℕ) (o : Option X) (r : Option (List ℕ)) → ((x : X) → o ≡ Some x → ⊥)
+    → option_map f o ≡ r → r ≡ None
+none_referred f None r h e = sym e
+none_referred f (Some x) r h e = absurd (h x refl)
+
+-- the entries that are left to look at
+pub entries_left-le : (r : Result LastNames Fault) (n m : ℕ) → n ≤ m
+    → IfOk r (λ b. n + 2 * entries_weight (trees_in b.enumeration) ≤ m) → n + 2 * entries_left r ≤ m
+entries_left-le (Ok b) n m h k = k
+entries_left-le (Err f) n m h k = omega (arith, h)
 
 -- a kind by itself
 pub kind_reads : (k : SchemaKind) (ms : Members) → GivesKind (Ok k) ms → Reads schema_kind_form k a_schema_kind

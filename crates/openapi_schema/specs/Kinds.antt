@@ -57,6 +57,11 @@ abbrev pub entries_weight : Option (List Tree) → ℕ
 entries_weight None = 0
 entries_weight (Some ts) = items_size (items_of ts)
 
+-- how many values are in the entries of an enumeration that was read with the last names
+abbrev pub entries_left : Result LastNames Fault → ℕ
+entries_left (Ok b) = entries_weight (trees_in b.enumeration)
+entries_left (Err f) = 0
+
 -- whether a limit fits 64 bits with sign
 abbrev pub limit_test : Option ℤ → Bool
 limit_test None = true

@@ -7,7 +7,8 @@ ghost use Rattle.openapi_rows.specs.Gives.{Gives, Refuses};
 ghost use Rattle.openapi_schema.specs.Reading.{inner_box_form, schema_kind_form};
 ghost use Rattle.openapi_schema.specs.SchemaForms.{additional_form, schema_form};
 
-use crate::read::{read_additional_in, read_kind, read_schema, read_schema_ref};
+use crate::joined::schema_with;
+use crate::read::{read_additional_in, read_kind, read_schema_ref};
 use crate::schema::{AdditionalProperties, Schema, SchemaKind};
 use openapi_knots::in_inner_box;
 use openapi_node::{Cause, Expected, Fault, Node, Steps, View};
@@ -38,7 +39,9 @@ impl FromNode for Schema {
 
     fn from_view(alloc: Global, view: &View<'_>, steps: &mut Steps) -> Result<Schema, Fault> {
         match view {
-            View::Object(members) => read_schema(alloc, members, steps),
+            View::Object(members) => {
+                schema_with(alloc, members, read_kind(alloc, members, steps), steps)
+            }
             _ => Err(Fault::new(alloc, Cause::WrongKind(Expected::Object))),
         }
     }

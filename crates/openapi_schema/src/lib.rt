@@ -7,6 +7,7 @@ mod boxes;
 mod clone;
 mod composite_types;
 mod from_node;
+mod joined;
 mod kind_names;
 mod kinds;
 mod members;

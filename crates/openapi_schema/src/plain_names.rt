@@ -38,6 +38,7 @@ pub(crate) struct PlainLast {
 
 /// Reads the texts, numbers and flags under the first twelve names, the texts last.
 #[tactic(auto, unfolding(openapi_tables::specs::Members::checked_rows, openapi_tables::specs::Tables::any_rows, crate::specs::RawSlots::optional_rows, crate::specs::Reading::first_optional, crate::specs::PlainNames::plain_first))]
+#[inline(never)]
 pub(crate) fn read_plain_first(
     alloc: Global,
     members: &OrderedMap<Node>,
@@ -62,6 +63,7 @@ pub(crate) fn read_plain_first(
 
 /// Reads the texts, numbers and flags under the last twelve names, the text last.
 #[tactic(auto, unfolding(openapi_tables::specs::Members::checked_rows, openapi_tables::specs::Tables::any_rows, crate::specs::RawSlots::optional_rows, crate::specs::Reading::last_optional, crate::specs::PlainNames::plain_last))]
+#[inline(never)]
 pub(crate) fn read_plain_last(
     alloc: Global,
     members: &OrderedMap<Node>,

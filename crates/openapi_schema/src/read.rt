@@ -18,15 +18,14 @@ ghost use Rattle.openapi_schema.specs.Reading.{ref_form, inner_box_form, outer_b
 ghost use Rattle.openapi_schema.specs.SchemaForms.{additional_form, schema_form};
 
 use crate::boxes::in_additional;
+use crate::joined::{item_with, kind_with};
 use crate::kind_names::{FirstNames, KindNames, LastNames};
 use crate::plain_names::{read_plain_first, read_plain_last};
 use crate::presence::lent_entries;
 use crate::schema::{AdditionalProperties, Schema, SchemaKind};
-use crate::schema_kind::schema_kind;
 use openapi_knots::{in_inner_box, in_outer_box};
 use openapi_node::{Cause, Expected, Fault, Node, OrderedMap, Steps, View};
-use openapi_parts::SchemaData;
-use openapi_rows::{Record, as_member, at_name, optional, present_view, push, put, read_reference};
+use openapi_rows::{as_member, at_name, optional, present_view, push, put, read_reference};
 use openapi_values::ReferenceOr;
 use std::alloc::Global;
 
@@ -60,16 +59,10 @@ pub(crate) fn read_schema_ref(
     let View::Object(members) = view else {
         return Err(Fault::new(alloc, Cause::WrongKind(Expected::Object)));
     };
-    match read_reference(alloc, view, steps) {
-        Ok(reference) => match reference {
-            Some(reference) => Ok(ReferenceOr::Reference { reference }),
-            None => match read_schema(alloc, members, steps) {
-                Ok(schema) => Ok(ReferenceOr::Item(schema)),
-                Err(fault) => Err(fault),
-            },
-        },
-        Err(fault) => Err(fault),
+    if let Some(reference) = read_reference(alloc, view, steps)? {
+        return Ok(ReferenceOr::Reference { reference });
     }
+    item_with(alloc, members, read_kind(alloc, members, steps), steps)
 }
 
 /// Reads a schema in a box or a reference to one, of which a look was taken already. Its callers leave it to this
@@ -102,29 +95,6 @@ fn read_boxed_ref(
     in_outer_box(alloc, read_schema_ref(alloc, view, steps))
 }
 
-/// Reads a schema among the members of an object.
-#[cycle(read)]
-pub(crate) fn read_schema(
-    alloc: Global,
-    members: &OrderedMap<Node>,
-    steps: &mut Steps,
-) -> Result<Schema, Fault>
-    ensures reads { Gives schema_form result kinds.a_schema (object (members_of members.now)) }
-    ensures rises { steps.old ≤ steps.new }
-    ensures count { steps.new ≤ steps.old + 3 * members_size (members_of members.now) }
-{
-    match SchemaData::from_members(alloc, members, steps) {
-        Ok(schema_data) => match read_kind(alloc, members, steps) {
-            Ok(schema_kind) => Ok(Schema {
-                schema_data,
-                schema_kind,
-            }),
-            Err(fault) => Err(fault),
-        },
-        Err(fault) => Err(fault),
-    }
-}
-
 /// Reads the kind of a schema among the members of an object.
 #[cycle(read)]
 pub(crate) fn read_kind(
@@ -136,18 +106,14 @@ pub(crate) fn read_kind(
     ensures rises { steps.old ≤ steps.new }
     ensures count { steps.new ≤ steps.old + 3 * rows_weight optional_rows (members_of members.now) }
 {
-    match read_first_names(alloc, members, steps) {
-        Ok(first) => match read_last_names(alloc, members, steps) {
-            Ok(last) => schema_kind(alloc, first, last, steps),
-            Err(fault) => Err(fault),
-        },
-        Err(fault) => Err(fault),
-    }
+    let first = read_first_names(alloc, members, steps)?;
+    kind_with(alloc, first, read_last_names(alloc, members, steps), steps)
 }
 
 /// Reads what stands under the first twelve names that tell the kinds of schemas apart.
 #[cycle(read)]
 #[tactic(auto, unfolding(openapi_tables::specs::Members::checked_rows, openapi_tables::specs::Tables::any_rows))]
+#[inline(never)]
 fn read_first_names(
     alloc: Global,
     members: &OrderedMap<Node>,
@@ -172,6 +138,7 @@ fn read_first_names(
 /// Reads what stands under the last twelve names. What is left to look at pays for the entries of the enumeration.
 #[cycle(read)]
 #[tactic(auto, unfolding(openapi_tables::specs::Members::checked_rows, openapi_tables::specs::Tables::any_rows))]
+#[inline(never)]
 fn read_last_names<'a>(
     alloc: Global,
     members: &'a OrderedMap<Node>,

@@ -17,22 +17,23 @@ use Rattle.openapi_tables.specs.Slots.{pairs_of}
 use Rattle.openapi_rows.specs.Entries.{chosen, entries_size}
 use Rattle.openapi_rows.specs.Forms.{list_form, map_form}
 use Rattle.openapi_rows.specs.Gives.{Gives}
-use Rattle.openapi_rows.proofs.Below.{fails_above, memory_fails, refuses, size-positive, step_ok, step_err}
+use Rattle.openapi_rows.specs.References.{reference_in}
+use Rattle.openapi_rows.proofs.Below.{fails_above, refuses, size-positive, step_ok, step_err}
 use Rattle.openapi_rows.proofs.Below.{wrong_here, not_list, not_map}
 use Rattle.openapi_rows.proofs.Chosen.{entry_fails, next_within, next_size, next_holds, next_same, next_new}
 use Rattle.openapi_rows.proofs.Elements.{list_gives, every-more, each-more, item_leads, next_here}
 use Rattle.openapi_rows.proofs.Mapped.{map_gives, all_chosen, all_size}
-use Rattle.openapi_rows.proofs.Referring.{fails_item, reads_item, reads_reference}
+use Rattle.openapi_rows.proofs.Referring.{reads_reference}
 use Rattle.openapi_rows.proofs.RowReading.{weight_of_name}
 use Rattle.openapi_schema.specs.RawSlots.{optional_rows}
 use Rattle.openapi_knots.specs.Reading.{any_name}
 use Rattle.openapi_schema.specs.Reading.{ref_form, inner_box_form, outer_box_form}
 use Rattle.openapi_schema.specs.SchemaForms.{additional_form, schema_form}
-use Rattle.openapi_schema.proofs.KindGives.{kind_fails, schema_weight-le}
+use Rattle.openapi_schema.proofs.KindGives.{schema_weight-le}
 use Rattle.openapi_schema.proofs.PartRows.{first_whole, first_weight, last_whole, last_weight}
 use Rattle.openapi_knots.proofs.PresentRows.{row_gone, row_read}
-use Rattle.openapi_schema.proofs.Refusals.{data_fails, not_object_fails, not_flag_or_object}
-use Rattle.openapi_schema.proofs.SchemaReads.{kind_read, names_rows, names_weight, schema_reads}
+use Rattle.openapi_schema.proofs.Refusals.{not_object_fails, not_flag_or_object}
+use Rattle.openapi_schema.proofs.SchemaReads.{entries_left-le, names_weight, none_referred}
 use Rattle.openapi_schema.proofs.SchemaReads.{additional-any}
 use Rattle.openapi_schema.proofs.read.+read.Goals as goal
 
@@ -63,37 +64,30 @@ read_schema_ref-returns-in_default t c =
 pub read_schema_ref-returns-in-Some-clause-reads : goal.read_schema_ref-returns-in-Some-clause-reads
 read_schema_ref-returns-in-Some-clause-reads t c =
     reads_reference a_schema schema_form (shown c.args.view.now) (string_bytes c.in-Some.reference)
-    (sym (rw c.in-Some.is at c.in-Ok.ensures.reads))
+    (sym (rw c.in-Some.is at c.in_ok-reference.ensures.reads))
 
 pub read_schema_ref-returns-in-Some-clause-count : goal.read_schema_ref-returns-in-Some-clause-count
 read_schema_ref-returns-in-Some-clause-count t c =
-    rw c.in-Object.is (omega (arith, c.read_reference.ensures.count))
+    rw c.in-Object.is (omega (arith, c.in_ok-reference.ensures.count))
 
-pub read_schema_ref-returns-in-Ok-read_schema-clause-reads : goal.read_schema_ref-returns-in-Ok-read_schema-clause-reads
-read_schema_ref-returns-in-Ok-read_schema-clause-reads t c =
-    reads_item a_schema schema_form (shown c.args.view.now) c.in-Ok-read_schema.schema
-    (sym (rw c.in-None.is at c.in-Ok.ensures.reads)) (rw c.in-Object.is c.in-Ok-read_schema.ensures.reads)
+pub read_schema_ref-returns-clause-reads : goal.read_schema_ref-returns-clause-reads
+read_schema_ref-returns-clause-reads t c =
+    let none = none_referred string_bytes c.in_ok-reference.field-0 (reference_in (shown c.args.view.now))
+    c.in_default-2.not-Some c.in_ok-reference.ensures.reads in
+    rw c.in-Object.is (c.item_with.ensures.reads c.read_kind.ensures.reads (rw c.in-Object.is at none))
 
-pub read_schema_ref-returns-in-Ok-read_schema-clause-count : goal.read_schema_ref-returns-in-Ok-read_schema-clause-count
-read_schema_ref-returns-in-Ok-read_schema-clause-count t c =
-    rw c.in-Object.is (omega (arith, c.read_reference.ensures.count, c.read_schema.ensures.count))
-
-pub read_schema_ref-returns-in-Err-read_schema-clause-reads : goal.read_schema_ref-returns-in-Err-read_schema-clause-reads
-read_schema_ref-returns-in-Err-read_schema-clause-reads t c =
-    fails_item a_schema schema_form (shown c.args.view.now) c.in-Err-read_schema.fault
-    (sym (rw c.in-None.is at c.in-Ok.ensures.reads)) (rw c.in-Object.is c.in-Err-read_schema.ensures.reads)
-
-pub read_schema_ref-returns-in-Err-read_schema-clause-count : goal.read_schema_ref-returns-in-Err-read_schema-clause-count
-read_schema_ref-returns-in-Err-read_schema-clause-count t c =
-    rw c.in-Object.is (omega (arith, c.read_reference.ensures.count, c.read_schema.ensures.count))
-
-pub read_schema_ref-returns-in-Err-clause-reads : goal.read_schema_ref-returns-in-Err-clause-reads
-read_schema_ref-returns-in-Err-clause-reads t c =
-    memory_fails c.in-Err.fault (ref_to a_schema) (shown c.args.view.now) c.in-Err.ensures.err
-
-pub read_schema_ref-returns-in-Err-clause-count : goal.read_schema_ref-returns-in-Err-clause-count
-read_schema_ref-returns-in-Err-clause-count t c =
-    rw c.in-Object.is (omega (arith, c.read_reference.ensures.count))
+pub read_schema_ref-returns-clause-count : goal.read_schema_ref-returns-clause-count
+read_schema_ref-returns-clause-count t c =
+    let ms = members_of c.in-Object.members.now in
+    let w : rows_weight (rows_asked final_tables (by schema_data)) ms + rows_weight optional_rows ms ≤ members_size ms =
+    schema_weight-le ms in
+    rw c.in-Object.is (omega (
+      arith,
+      w,
+      c.in_ok-reference.ensures.count,
+      c.read_kind.ensures.count,
+      c.item_with.ensures.count,
+    ))
 
 pub read_boxed_schema_ref-returns-clause-reads : goal.read_boxed_schema_ref-returns-clause-reads
 read_boxed_schema_ref-returns-clause-reads t c =
@@ -103,65 +97,24 @@ pub read_boxed_ref-returns-clause-reads : goal.read_boxed_ref-returns-clause-rea
 read_boxed_ref-returns-clause-reads t c =
     c.in_outer_box.ensures schema_form (ref_to a_schema) (shown c.args.view.now) c.read_schema_ref.ensures.reads
 
-pub read_schema-returns-in-Ok-read_kind-clause-reads : goal.read_schema-returns-in-Ok-read_kind-clause-reads
-read_schema-returns-in-Ok-read_kind-clause-reads t c =
-    schema_reads (record { schema_data = c.in-Ok.schema_data; schema_kind = c.in-Ok-read_kind.schema_kind })
-    (members_of c.args.members.now) c.in-Ok.ensures.reads c.in-Ok-read_kind.ensures.reads
+pub read_kind-returns-in_err-first-clause-count : goal.read_kind-returns-in_err-first-clause-count
+read_kind-returns-in_err-first-clause-count t c =
+    omega (arith, names_weight (members_of c.args.members.now), c.in_err-first.ensures.count)
 
-pub read_schema-returns-in-Ok-read_kind-clause-count : goal.read_schema-returns-in-Ok-read_kind-clause-count
-read_schema-returns-in-Ok-read_kind-clause-count t c =
-    let ms = members_of c.args.members.now in
-    let w : rows_weight (rows_asked final_tables (by schema_data)) ms + rows_weight optional_rows ms ≤ members_size ms =
-    schema_weight-le ms in
-    omega (arith, w, c.from_members.ensures.count, c.read_kind.ensures.count)
+pub read_kind-returns-clause-reads : goal.read_kind-returns-clause-reads
+read_kind-returns-clause-reads t c =
+    c.kind_with.ensures.reads (members_of c.args.members.now) c.in_ok-first.ensures.reads c.read_last_names.ensures.reads
 
-pub read_schema-returns-in-Err-read_kind-clause-reads : goal.read_schema-returns-in-Err-read_kind-clause-reads
-read_schema-returns-in-Err-read_kind-clause-reads t c =
-    kind_fails c.in-Err-read_kind.fault (members_of c.args.members.now) c.in-Err-read_kind.ensures.reads
-
-pub read_schema-returns-in-Err-read_kind-clause-count : goal.read_schema-returns-in-Err-read_kind-clause-count
-read_schema-returns-in-Err-read_kind-clause-count t c =
-    let ms = members_of c.args.members.now in
-    let w : rows_weight (rows_asked final_tables (by schema_data)) ms + rows_weight optional_rows ms ≤ members_size ms =
-    schema_weight-le ms in
-    omega (arith, w, c.from_members.ensures.count, c.read_kind.ensures.count)
-
-pub read_schema-returns-in-Err-clause-reads : goal.read_schema-returns-in-Err-clause-reads
-read_schema-returns-in-Err-clause-reads t c =
-    data_fails c.in-Err.fault (members_of c.args.members.now) c.in-Err.ensures.reads
-
-pub read_schema-returns-in-Err-clause-count : goal.read_schema-returns-in-Err-clause-count
-read_schema-returns-in-Err-clause-count t c =
-    let ms = members_of c.args.members.now in
-    let w : rows_weight (rows_asked final_tables (by schema_data)) ms + rows_weight optional_rows ms ≤ members_size ms =
-    schema_weight-le ms in
-    omega (arith, w, c.from_members.ensures.count)
-
-pub read_kind-returns-in-Ok-read_last_names-clause-reads : goal.read_kind-returns-in-Ok-read_last_names-clause-reads
-read_kind-returns-in-Ok-read_last_names-clause-reads t c =
-    let ms = members_of c.args.members.now in
-    let a = c.in-Ok.first in
-    let b = c.in-Ok-read_last_names.last in
-    kind_read c.schema_kind.result a b ms (names_rows a b ms c.in-Ok.ensures.reads c.in-Ok-read_last_names.ensures.reads)
-    c.schema_kind.ensures.reads c.schema_kind.ensures.err
-
-pub read_kind-returns-in-Ok-read_last_names-clause-count : goal.read_kind-returns-in-Ok-read_last_names-clause-count
-read_kind-returns-in-Ok-read_last_names-clause-count t c =
+pub read_kind-returns-clause-count : goal.read_kind-returns-clause-count
+read_kind-returns-clause-count t c =
     omega (
       arith,
       names_weight (members_of c.args.members.now),
-      c.read_first_names.ensures.count,
-      c.in-Ok-read_last_names.ensures.left,
-      c.schema_kind.ensures.count,
+      c.in_ok-first.ensures.count,
+      entries_left-le c.read_last_names.result c.read_last_names.new.steps _ c.read_last_names.ensures.count
+          c.read_last_names.ensures.left,
+      c.kind_with.ensures.count,
     )
-
-pub read_kind-returns-in-Err-read_last_names-clause-count : goal.read_kind-returns-in-Err-read_last_names-clause-count
-read_kind-returns-in-Err-read_last_names-clause-count t c =
-    omega (arith, names_weight (members_of c.args.members.now), c.read_first_names.ensures.count, c.read_last_names.ensures.count)
-
-pub read_kind-returns-in-Err-clause-count : goal.read_kind-returns-in-Err-clause-count
-read_kind-returns-in-Err-clause-count t c =
-    omega (arith, names_weight (members_of c.args.members.now), c.read_first_names.ensures.count)
 
 pub read_first_names-returns-in_err-plain-clause-count : goal.read_first_names-returns-in_err-plain-clause-count
 read_first_names-returns-in_err-plain-clause-count t c =

@@ -25,9 +25,6 @@ decreases-read_boxed_schema_ref l = 8 * size_of (shown l.view.now) + 1
 abbrev pub decreases-read_boxed_ref : goal.decreases-read_boxed_ref
 decreases-read_boxed_ref l = 8 * size_of (shown l.view.now) + 1
 
-abbrev pub decreases-read_schema : goal.decreases-read_schema
-decreases-read_schema l = 8 * members_size (members_of l.members.now) + 6
-
 abbrev pub decreases-read_kind : goal.decreases-read_kind
 decreases-read_kind l = 8 * members_size (members_of l.members.now) + 5
 

@@ -1,16 +1,24 @@
 use Rattle.std.proofs.Common.{arith}
+use Rattle.openapi_node.specs.Tree.{members_of}
 use Rattle.openapi_node.specs.View.{shown}
 use Rattle.openapi_node.specs.declared.fault.Expected.TheVariants as words
 use Rattle.openapi_tables.specs.Kind.{a_schema}
 use Rattle.openapi_rows.proofs.Below.{wrong_here, size-positive}
+use Rattle.openapi_schema.proofs.KindGives.{schema_weight-le}
 use Rattle.openapi_schema.proofs.Refusals.{not_schema}
 use Rattle.openapi_schema.proofs.from_node.SchemaFromNode.from_view.Goals as goal
 
 pub returns-in-Object-clause-reads : goal.returns-in-Object-clause-reads
-returns-in-Object-clause-reads c = rw c.in-Object.is c.read_schema.ensures.reads
+returns-in-Object-clause-reads c = rw c.in-Object.is (c.schema_with.ensures.reads c.read_kind.ensures.reads)
 
 pub returns-in-Object-clause-count : goal.returns-in-Object-clause-count
-returns-in-Object-clause-count c = rw c.in-Object.is (omega (arith, c.read_schema.ensures.count))
+returns-in-Object-clause-count c =
+    rw c.in-Object.is (omega (
+      arith,
+      schema_weight-le (members_of c.in-Object.members.now),
+      c.read_kind.ensures.count,
+      c.schema_with.ensures.count,
+    ))
 
 pub returns-in_default-clause-reads : goal.returns-in_default-clause-reads
 returns-in_default-clause-reads c =

@@ -142,6 +142,7 @@ pub(crate) fn read_beside(
 }
 
 /// Reads a path item whose operations were read.
+#[inline(never)]
 pub(crate) fn path_item_with(
     alloc: Global,
     members: &OrderedMap<Node>,

@@ -1,10 +1,10 @@
 #!/usr/bin/env python3
-"""Measures how much stack the built program needs for the deepest JSON, which has 127 levels, in each command.
+"""Asks that the built program needs less than a megabyte of stack for the deepest JSON, which has 127 levels, in each command.
 
 usage: tests/stack.py [PROGRAM]      (with none: the program that `./check` or `./openapi_clean --build` made)
 
-For each shape the least stack is sought, in steps of 16 kB, under which the program ends with status 0. It is no part of
-`./check`. The last line is the most that any of them needs.
+For each shape the least stack is sought, in steps of 16 kB, under which the program ends with status 0. The last line is
+`N passed, M failed`, in which each command on a shape counts once; the line before it tells the most that any of them needs.
 """
 import json
 import os
@@ -14,7 +14,7 @@ import sys
 
 TOP = os.path.dirname(os.path.dirname(os.path.realpath(__file__)))
 BUILT = f"{TOP}/crates/openapi_clean/out/openapi_clean"
-LEVELS, STEP = 127, 16
+LEVELS, STEP, MOST = 127, 16, 1000
 
 
 def depth(tree):
@@ -68,9 +68,10 @@ def runs(program, command, given, stack):
 
 
 def least(program, command, given):
+    """The least stack in kB; None where the program does not end well with 64 MB either."""
     low, high = 0, 65536 // STEP
     if not runs(program, command, given, high * STEP):
-        sys.exit(f"{command} needs more than {high * STEP} kB, or refuses the input")
+        return None
     while high - low > 1:
         middle = (low + high) // 2
         if runs(program, command, given, middle * STEP):
@@ -83,14 +84,18 @@ def least(program, command, given):
 def main():
     program = os.path.realpath(sys.argv[1] if len(sys.argv) > 1 else BUILT)
     if not os.access(program, os.X_OK):
-        sys.exit(f"{program} is not built")
-    most = 0
+        print(f"FAILED: {program} is not built\n0 passed, 1 failed")
+        return 1
+    passed, failed, most = 0, 0, 0
     for command, name, tree in shapes():
         needs = least(program, command, json.dumps(tree).encode())
-        most = max(most, needs)
-        print(f"{command:10} {name:22} {depth(tree):3} levels  {needs:6} kB", flush=True)
-    print(f"at most {most} kB")
+        good = needs is not None and needs <= MOST
+        passed, failed, most = passed + good, failed + (not good), max(most, needs or 0)
+        told = "refused, or needs more than 64 MB" if needs is None else f"{needs:6} kB"
+        print(f"{command:10} {name:22} {depth(tree):3} levels  {told}{'' if good else '  FAILED'}", flush=True)
+    print(f"at most {most} kB\n{passed} passed, {failed} failed")
+    return failed != 0
 
 
 if __name__ == "__main__":
-    main()
+    sys.exit(main())

@@ -2,7 +2,8 @@
 use crate::writing::no_members;
 use openapi_checks::trees::{check_read, check_written, tree};
 use openapi_knots::{
-    append, as_some, in_inner_box, in_outer_box, only_row, put_row, put_written, record_rows,
+    append, as_item, as_some, in_inner_box, in_outer_box, only_row, put_row, put_written,
+    record_rows,
 };
 use openapi_node::{Cause, Fault, Node, OrderedMap, Steps};
 use openapi_records::{Example, License};
@@ -91,6 +92,25 @@ fn members_are_appended(rt: HostRuntime) -> Result<(), Fail> {
     put(alloc, &mut out, "b", Node::null())?;
     append(alloc, &mut out, more)?;
     check_written(&rt, Ok(Node::object(out)), Ok("{\"b\":null,\"a\":true}"))
+}
+
+// What was read of a tree that is no reference is an item, and a refusal stays as it is.
+#[test]
+fn what_was_read_is_an_item(rt: HostRuntime) -> Result<(), Fail> {
+    let alloc = rt.alloc();
+    let rows = [
+        ("{\"summary\":\"s\"}", Ok("{\"summary\":\"s\"}")),
+        (
+            "{\"summary\":5}",
+            Err("invalid type, expected text at #/summary"),
+        ),
+    ];
+    let mut steps = Steps::new(&rt);
+    for (given, wanted) in rows {
+        let read = Example::from_node(alloc, &tree(&rt, given)?, &mut steps);
+        check_read(&rt, as_item(read), wanted)?;
+    }
+    Ok(())
 }
 
 // An item goes into a box, and a reference and a refusal stay as they are.

@@ -1,6 +1,7 @@
 //! Headers, media types and encodings.
 use openapi_checks::trees::{
-    check_same, check_texts, check_tree, check_written, map_with, members, tree, write_refusal,
+    check_read, check_same, check_texts, check_tree, check_written, map_with, members, tree,
+    write_refusal,
 };
 use openapi_contents::{
     Content, Encoding, Header, MediaType, ParameterSchemaOrContent, content_from_node,
@@ -8,7 +9,6 @@ use openapi_contents::{
     write_format,
 };
 use openapi_node::{Fault, Node, OrderedMap, Steps};
-use openapi_rows::ToNode;
 use openapi_values::ReferenceOr;
 use std::alloc::Global;
 use std::test::Fail;
@@ -135,10 +135,12 @@ fn extensions_of_encodings_need_their_prefix(rt: HostRuntime) -> Result<(), Fail
 
 #[test]
 fn new_media_types_and_encodings_are_empty(rt: HostRuntime) -> Result<(), Fail> {
-    let media_type = MediaType::new(rt.alloc()).to_node(rt.alloc())?;
-    check_tree(&rt, &media_type, "{}")?;
-    let encoding = Encoding::new(rt.alloc()).to_node(rt.alloc())?;
-    check_tree(&rt, &encoding, r#"{"contentType":null}"#)
+    check_read(&rt, Ok(MediaType::new(rt.alloc())), Ok("{}"))?;
+    check_read(
+        &rt,
+        Ok(Encoding::new(rt.alloc())),
+        Ok(r#"{"contentType":null}"#),
+    )
 }
 
 #[test]

@@ -200,12 +200,21 @@ fn data_given(alloc: Global, node: &Node, steps: &mut Steps) -> Result<Node, Fau
     }
 }
 
-/// Reads a parameter, and writes the data that it lends.
-fn data_lent(alloc: Global, node: &Node, steps: &mut Steps) -> Result<Node, Fault> {
-    match Parameter::from_node(alloc, node, steps) {
-        Ok(read) => read.parameter_data_ref().to_node(alloc),
-        Err(fault) => Err(fault),
+/// What lends the data of parameters.
+trait LendsData {
+    /// What the data is written as.
+    fn lent(&self, alloc: Global) -> Result<Node, Fault>;
+}
+
+impl LendsData for Parameter {
+    fn lent(&self, alloc: Global) -> Result<Node, Fault> {
+        self.parameter_data_ref().to_node(alloc)
     }
+}
+
+/// What the data is written as that a value lends which was read.
+fn data_lent<T: LendsData + Drop>(alloc: Global, read: Result<T, Fault>) -> Result<Node, Fault> {
+    read?.lent(alloc)
 }
 
 #[test]
@@ -232,7 +241,8 @@ fn parameters_have_data_in_each_place(rt: HostRuntime) -> Result<(), Fail> {
     for (given, wanted) in rows {
         let node = tree(&rt, given)?;
         check_written(&rt, data_given(rt.alloc(), &node, &mut steps), Ok(wanted))?;
-        check_written(&rt, data_lent(rt.alloc(), &node, &mut steps), Ok(wanted))?;
+        let read = Parameter::from_node(rt.alloc(), &node, &mut steps);
+        check_written(&rt, data_lent(rt.alloc(), read), Ok(wanted))?;
     }
     Ok(())
 }

@@ -149,5 +149,10 @@ fn with_properties(alloc: Global, properties: OrderedMap<ReferenceOr<Box<Schema>
 fn extensions_of_members_need_their_prefix(rt: HostRuntime) -> Result<(), Fail> {
     let properties = map_with(&rt, "p", unwritable_box(&rt)?)?;
     let schema = with_properties(rt.alloc(), properties);
-    check_refused(&rt, schema, "name not writable at #/properties/p/foo")
+    let found = write_refusal(&rt, &schema)?;
+    check_same(
+        &rt,
+        found.as_str(),
+        "name not writable at #/properties/p/foo",
+    )
 }

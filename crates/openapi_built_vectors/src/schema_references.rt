@@ -2,7 +2,7 @@
 
 use openapi_checks::trees::{check_cleaned, check_fault, check_tree, map_with, tree};
 use openapiv3::{
-    AnySchema, Fault, Node, OrderedMap, ReferenceOr, Schema, SchemaData, SchemaKind, Steps,
+    AnySchema, Node, OrderedMap, ReferenceOr, Schema, SchemaData, SchemaKind, Steps,
     boxed_schema_ref_from_node, boxed_schema_ref_to_node, schema_ref_from_node, schema_ref_to_node,
 };
 use serde_json::Value;
@@ -16,44 +16,34 @@ fn plain(rt: &HostRuntime, text: &str) -> Result<ReferenceOr<Schema>, Fail> {
     Ok(schema_ref_from_node(rt.alloc(), &node, &mut steps)?)
 }
 
+/// The same in a box.
+fn boxed(rt: &HostRuntime, text: &str) -> Result<ReferenceOr<Box<Schema>>, Fail> {
+    let mut steps = Steps::new(rt);
+    let node = tree(rt, text)?;
+    Ok(boxed_schema_ref_from_node(rt.alloc(), &node, &mut steps)?)
+}
+
 /// That a schema or a reference is written as a tree, member order included.
 fn check_plain(rt: &HostRuntime, found: &ReferenceOr<Schema>, wanted: &str) -> Result<(), Fail> {
     check_tree(rt, &schema_ref_to_node(rt.alloc(), found)?, wanted)
 }
 
-/// What is written by a function of its own.
-trait Written {
-    fn written(&self, alloc: Global) -> Result<Node, Fault>;
+/// What the schema or the reference of a JSON text is written as.
+fn plain_written(rt: &HostRuntime, text: &str) -> Result<Node, Fail> {
+    let schema = plain(rt, text)?;
+    Ok(schema_ref_to_node(rt.alloc(), &schema)?)
 }
 
-impl Written for ReferenceOr<Schema> {
-    fn written(&self, alloc: Global) -> Result<Node, Fault> {
-        schema_ref_to_node(alloc, self)
-    }
+/// What it is written as out of a box.
+fn boxed_written(rt: &HostRuntime, text: &str) -> Result<Node, Fail> {
+    let schema = boxed(rt, text)?;
+    Ok(boxed_schema_ref_to_node(rt.alloc(), &schema)?)
 }
 
-impl Written for ReferenceOr<Box<Schema>> {
-    fn written(&self, alloc: Global) -> Result<Node, Fault> {
-        boxed_schema_ref_to_node(alloc, self)
-    }
-}
-
-/// That what was read is written as a tree.
-fn check_by_function<T: Written + Drop>(
-    rt: &HostRuntime,
-    read: Result<T, Fault>,
-    wanted: &str,
-) -> Result<(), Fail> {
-    check_tree(rt, &read?.written(rt.alloc())?, wanted)
-}
-
-/// Whether what was read is the same out of a box as without one.
-fn is_unboxed<T: PartialEq + Drop>(
-    one: Result<ReferenceOr<T>, Fault>,
-    other: Result<ReferenceOr<Box<T>>, Fault>,
-) -> Result<bool, Fault> {
-    let one = one?;
-    let other = other?;
+/// Whether it is the same out of its box as without one.
+fn is_unboxed(rt: &HostRuntime, text: &str) -> Result<bool, Fail> {
+    let one = plain(rt, text)?;
+    let other = boxed(rt, text)?;
     Ok(other.unbox() == one)
 }
 
@@ -71,16 +61,10 @@ fn references_stand_for_schemas(rt: HostRuntime) -> Result<(), Fail> {
         ),
         (r#"{"type":"array"}"#, r#"{"type":"array"}"#),
     ];
-    let mut steps = Steps::new(&rt);
     for (given, wanted) in rows {
-        let node = tree(&rt, given)?;
-        let read = schema_ref_from_node(rt.alloc(), &node, &mut steps);
-        check_by_function(&rt, read, wanted)?;
-        let read = boxed_schema_ref_from_node(rt.alloc(), &node, &mut steps);
-        check_by_function(&rt, read, wanted)?;
-        let plain = schema_ref_from_node(rt.alloc(), &node, &mut steps);
-        let boxed = boxed_schema_ref_from_node(rt.alloc(), &node, &mut steps);
-        assert!(rt; is_unboxed(plain, boxed)?, "{given}");
+        check_tree(&rt, &plain_written(&rt, given)?, wanted)?;
+        check_tree(&rt, &boxed_written(&rt, given)?, wanted)?;
+        assert!(rt; is_unboxed(&rt, given)?, "{given}");
     }
     Ok(())
 }
@@ -187,14 +171,9 @@ fn names_of_extensions_are_looked_at_in_boxes(rt: HostRuntime) -> Result<(), Fai
     check_fault(&rt, answer, "name not writable at #/foo")
 }
 
-/// That each of two values that were read equals its clone, and not the other.
-fn check_apart<T: Clone + PartialEq + Drop>(
-    one: Result<T, Fault>,
-    other: Result<T, Fault>,
-) -> Result<(), Fail> {
-    let one = one?;
-    let other = other?;
-    if one.clone()? != one || other.clone()? != other {
+/// That each of two values equals its clone, and not the other.
+fn check_apart<T: Clone + PartialEq + Drop>(one: &T, other: &T) -> Result<(), Fail> {
+    if one.clone()? != *one || other.clone()? != *other {
         return Err(Fail::from("a clone differs from its source"));
     }
     if one == other {
@@ -205,15 +184,14 @@ fn check_apart<T: Clone + PartialEq + Drop>(
 
 #[test]
 fn clones_of_references_and_items_equal_them(rt: HostRuntime) -> Result<(), Fail> {
-    let mut steps = Steps::new(&rt);
-    let item = tree(&rt, r#"{"type":"string","pattern":"p"}"#)?;
-    let reference = tree(&rt, r#"{"$ref":"r"}"#)?;
-    check_apart(
-        schema_ref_from_node(rt.alloc(), &item, &mut steps),
-        schema_ref_from_node(rt.alloc(), &reference, &mut steps),
-    )?;
-    check_apart(
-        boxed_schema_ref_from_node(rt.alloc(), &item, &mut steps),
-        boxed_schema_ref_from_node(rt.alloc(), &reference, &mut steps),
-    )
+    let item = plain(&rt, r#"{"type":"string","pattern":"p"}"#)?;
+    let reference = plain(&rt, r#"{"$ref":"r"}"#)?;
+    check_apart(&item, &reference)
+}
+
+#[test]
+fn clones_of_boxes_equal_them(rt: HostRuntime) -> Result<(), Fail> {
+    let item = boxed(&rt, r#"{"type":"string","pattern":"p"}"#)?;
+    let reference = boxed(&rt, r#"{"$ref":"r"}"#)?;
+    check_apart(&item, &reference)
 }

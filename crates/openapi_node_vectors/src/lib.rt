@@ -5,3 +5,5 @@
 mod looks;
 #[cfg(test)]
 mod nodes;
+#[cfg(test)]
+mod texts;

@@ -1,0 +1,6 @@
+pub mod Left
+pub mod Numbers
+pub mod Order
+pub mod Printed
+pub mod Sorted
+pub mod Turns

@@ -1,0 +1,129 @@
+-- Members in the order of their names, as they stand and as data.
+use Rattle.std.proofs.Common.{◌≡◌, ℕ, zero, suc, ◌<◌, ◌≤◌, List, [], ◌∷◌, ◌++◌, take, slice_get, length, Some, Bor, ◌+◌}
+use Rattle.std.proofs.Common.{Ordering, Less, Equal, Greater, nat_cmp, refl, sym, ap, ◌∙◌, arith, append_assoc, append-nil}
+use Rattle.std.proofs.lemmas.Cmp.{nat_list_cmp_total}
+use Rattle.std.specs.BTreeMap.{insert_entry}
+use Rattle.std.specs.Cmp.Lexicographic.{slice_cmp}
+use Rattle.std.specs.Ordering.{match_ordering, ordering_reverse}
+use Rattle.serde_json.specs.Data.{Members, no_members, member, put}
+use Rattle.openapi_map.specs.Entries.{Entries}
+use Rattle.openapi_node.specs.Json.{data_of, members_data}
+use Rattle.openapi_node.specs.Tree.{Tree, members_of, members_size, size_of}
+use Rattle.openapi_node.proofs.TreeLemmas.{take_next}
+use Rattle.openapi_json.specs.Writing.{AllFit, lent, standing}
+
+abbrev Named : Type 0
+Named = List ℕ × Tree
+
+some_same : {A : Type 0} {x y : A} → Some x ≡ Some y → x ≡ y
+some_same e = cc
+
+-- each name is below a name
+abbrev AllBelow : List ℕ → Entries Tree → Type 0
+AllBelow n [] = Unit {0}
+AllBelow n (e ∷ es) = (slice_cmp nat_cmp e.0 n ≡ Less) × AllBelow n es
+
+all_below-trans : (n k : List ℕ) (es : Entries Tree) → slice_cmp nat_cmp n k ≡ Less → AllBelow n es → AllBelow k es
+all_below-trans n k [] h b = tt
+all_below-trans n k (e ∷ es) h b = (nat_list_cmp_total.trans e.0 n k b.0 h, all_below-trans n k es h b.1)
+
+all_below-push : (n : List ℕ) (es : Entries Tree) (e : Named) → AllBelow n es → slice_cmp nat_cmp e.0 n ≡ Less
+    → AllBelow n (es ++ e ∷ [])
+all_below-push n [] e b h = (h, tt)
+all_below-push n (x ∷ es) e b h = (b.0, all_below-push n es e b.1 h)
+
+-- a name that is above all others goes last
+put_end : (n : List ℕ) (t : Tree) (es : Entries Tree) → AllBelow n es
+    → put n (data_of t) (standing es) ≡ standing (es ++ (n, t) ∷ [])
+put_end n t [] b = refl
+put_end n t (e ∷ es) b =
+    let above : slice_cmp nat_cmp n e.0 ≡ Greater = nat_list_cmp_total.antisymm n e.0 ∙ ap ordering_reverse b.0 in
+    ap (λ o. match_ordering o (member n (data_of t) (member e.0 (data_of e.1) (standing es)))
+    (member e.0 (data_of t) (standing es)) (member e.0 (data_of e.1) (put n (data_of t) (standing es)))) above
+    ∙ ap (member e.0 (data_of e.1)) (put_end n t es b.1)
+
+-- the first of the rest is above all that stand before, and each is below the next
+abbrev pub Rises : List ℕ → Entries Tree → Type 0
+Rises n [] = Unit {0}
+Rises n (e ∷ es) = (slice_cmp nat_cmp n e.0 ≡ Less) × Rises e.0 es
+
+in_turn : (done : Entries Tree) (last : Named) (rest : Entries Tree) → AllBelow last.0 done → Rises last.0 rest
+    → members_data (members_of rest) (standing (done ++ last ∷ [])) ≡ standing ((done ++ last ∷ []) ++ rest)
+in_turn done last [] b r = ap standing (sym (append-nil (done ++ last ∷ [])))
+in_turn done last (e ∷ es) b r =
+    let below = all_below-push e.0 done last (all_below-trans last.0 e.0 done r.0 b) r.0 in
+    ap (members_data (members_of es)) (put_end e.0 e.1 (done ++ last ∷ []) below)
+    ∙ in_turn (done ++ last ∷ []) e es below r.1
+    ∙ ap standing (append_assoc (done ++ last ∷ []) (e ∷ []) es)
+
+-- members of which each name is below the next stand as they are put
+abbrev pub Ascends : Entries Tree → Type 0
+Ascends [] = Unit {0}
+Ascends (e ∷ es) = Rises e.0 es
+
+pub ascending : (es : Entries Tree) → Ascends es → members_data (members_of es) no_members ≡ standing es
+ascending [] r = refl
+ascending (e ∷ es) r = in_turn [] e es tt r
+
+-- each is below the next, as far as they were looked at
+abbrev pub AscendsTo : ℕ → Entries Tree → Type 0
+AscendsTo i es =
+    (j : ℕ) (a b : Named) → suc j < i → slice_get es j ≡ Some a → slice_get es (suc j) ≡ Some b
+    → slice_cmp nat_cmp a.0 b.0 ≡ Less
+
+rises : (e : Named) (es : Entries Tree) → AscendsTo (length (e ∷ es)) (e ∷ es) → Rises e.0 es
+rises e [] h = tt
+rises e (f ∷ es) h =
+    (h zero e f (omega arith) refl refl, rises f es (λ j a b l p q. h (suc j) a b (omega (arith, l)) p q))
+
+pub all_ascending : (es : Entries Tree) → AscendsTo (length es) es → Ascends es
+all_ascending [] h = tt
+all_ascending (e ∷ es) h = rises e es h
+
+-- a lent pair goes among lent pairs as its data goes among data
+standing-match : (o : Ordering) (a b c : List (Bor (List ℕ) × Bor Tree)) → standing (lent (match_ordering o a b c))
+    ≡ match_ordering o (standing (lent a)) (standing (lent b)) (standing (lent c))
+standing-match Less a b c = refl
+standing-match Equal a b c = refl
+standing-match Greater a b c = refl
+
+abbrev pub name_cmp : Bor (List ℕ) → Bor (List ℕ) → Ordering
+name_cmp a b = slice_cmp nat_cmp a.now b.now
+
+pub lent-insert : (es : List (Bor (List ℕ) × Bor Tree)) (k : Bor (List ℕ)) (v : Bor Tree)
+    → standing (lent (insert_entry name_cmp es k v)) ≡ put k.now (data_of v.now) (standing (lent es))
+lent-insert [] k v = refl
+lent-insert (e ∷ es) k v = standing-match (name_cmp k e.0) _ _ _ ∙ rw (lent-insert es k v)
+
+members_data-push : (ms : Entries Tree) (e : Named) (ds : Members)
+    → members_data (members_of (ms ++ e ∷ [])) ds ≡ put e.0 (data_of e.1) (members_data (members_of ms) ds)
+members_data-push [] e ds = refl
+members_data-push (m ∷ ms) e ds = members_data-push ms e (put m.0 (data_of m.1) ds)
+
+pub put_next : (ms : Entries Tree) (i : ℕ) (e : Named) → slice_get ms i ≡ Some e
+    → members_data (members_of (take (i + 1) ms)) no_members
+    ≡ put e.0 (data_of e.1) (members_data (members_of (take i ms)) no_members)
+put_next ms i e at = ap (λ l. members_data (members_of l) no_members) (take_next ms i e at)
+    ∙ members_data-push (take i ms) e no_members
+
+-- and none is larger than all members together
+fit-match : (s : ℕ) (o : Ordering) (a b c : List (Bor (List ℕ) × Bor Tree)) → AllFit s (lent a) → AllFit s (lent b)
+    → AllFit s (lent c) → AllFit s (lent (match_ordering o a b c))
+fit-match s Less a b c x y z = x
+fit-match s Equal a b c x y z = y
+fit-match s Greater a b c x y z = z
+
+pub fit-insert : (s : ℕ) (es : List (Bor (List ℕ) × Bor Tree)) (k : Bor (List ℕ)) (v : Bor Tree) → AllFit s (lent es)
+    → size_of v.now ≤ s → AllFit s (lent (insert_entry name_cmp es k v))
+fit-insert s [] k v h g = (g, tt)
+fit-insert s (e ∷ es) k v h g =
+    fit-match s (name_cmp k e.0) ((k, v) ∷ e ∷ es) ((e.0, v) ∷ es) (e ∷ insert_entry name_cmp es k v) (g, h) (g, h.1)
+    (h.0, fit-insert s es k v h.1 g)
+
+pub fits_in : (ms : Entries Tree) (i : ℕ) (e : Named) → slice_get ms i ≡ Some e → size_of e.1 ≤ members_size (members_of ms)
+fits_in [] i e at = cc
+fits_in (m ∷ ms) zero e at =
+    let same : e ≡ m = some_same (sym at) in
+    let less : size_of e.1 ≤ size_of m.1 = omega (arith, ap (λ (x : Named). size_of x.1) same) in
+    omega (arith, less)
+fits_in (m ∷ ms) (suc i) e at = omega (arith, fits_in ms i e at)

@@ -1,0 +1,12 @@
+use Rattle.std.proofs.Common.{◌≡◌, List, ◌++◌, map, String, Global}
+use Rattle.openapi_map.specs.Entries.{owned_entry}
+use Rattle.openapi_node.specs.Tree.{Tree}
+use Rattle.openapi_json.proofs.read.in_order.Given as goal
+
+abbrev pub invariant-loop-name : goal.invariant-loop-name
+invariant-loop-name l =
+    record {
+      done : List (String Global × Tree);
+      split : l.fn.members.entries ≡ done ++ l.name-iterator;
+      kept : l.out ≡ map owned_entry done;
+    }

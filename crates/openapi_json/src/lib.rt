@@ -1,0 +1,12 @@
+#![tactic(auto)]
+//! Nodes from JSON text, and JSON text from nodes, with no value of `serde_json` between the two.
+mod by_value;
+mod fault;
+mod number;
+mod read;
+mod unread;
+mod write;
+
+pub use by_value::node_from_json;
+pub use fault::JsonFault;
+pub use write::json_from_node;

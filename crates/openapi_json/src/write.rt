@@ -1,0 +1,157 @@
+//! From nodes to compact JSON text.
+ghost use Rattle.std.specs.Prelude.{◌≡◌, ◌≤◌, ◌++◌, ◌∷◌, [], IfOk, OnOk, IsTrue, string_bytes};
+ghost use Rattle.json.specs.Token.{number};
+ghost use Rattle.serde_json.specs.Data.{no_members};
+ghost use Rattle.serde_json.specs.Find.{of_integer};
+ghost use Rattle.serde_json.specs.Written.{compact_text, number_text};
+ghost use Rattle.openapi_node.specs.Json.{data_of, items_data, members_data};
+ghost use Rattle.openapi_node.specs.Tree.{items_of, members_of, members_size};
+ghost use Rattle.openapi_json.specs.Writing.{AllFit, data_tokens, items_data_tokens, lent, members_data_tokens, standing};
+
+use json::{Token, Writer};
+use openapi_map::OrderedMap;
+use openapi_node::{Node, Steps, View, Whole};
+use std::alloc::{AllocError, Global};
+use std::cmp::Ordering;
+use std::collections::BTreeMap;
+
+/// The compact JSON text of a node, with the members of each object in the order of their names.
+///
+/// Err says that memory ran out.
+pub fn json_from_node(alloc: Global, node: &Node, steps: &mut Steps) -> Result<String, AllocError>
+    ensures { IfOk result (λ s. string_bytes s ≡ compact_text (data_of node.now)) }
+{
+    let mut out = Writer::new(Vec::with_capacity(alloc, 128)?);
+    write_node(alloc, node, &mut out, steps)?;
+    match String::from_utf8(out.into_inner()) {
+        Ok(text) => Ok(text),
+        Err(_) => Err(AllocError),
+    }
+}
+
+/// Writes a number.
+fn write_whole(value: Whole, out: &mut Writer) -> Result<(), AllocError>
+    ensures ok { OnOk result (out.new.tokens ≡ out.old.tokens ++ number (number_text (of_integer value)) ∷ []) }
+    ensures before { OnOk result (out.new.before ≡ out.old.before) }
+{
+    match value.as_u64() {
+        Some(n) => out.u64(n),
+        None => out.i64(value.value() as i64),
+    }
+}
+
+/// Whether each name is below the next one. (Members that were read stand so.)
+fn are_in_order(members: &OrderedMap<Node>) -> bool
+    ensures { IsTrue result → members_data (members_of members.now) no_members ≡ standing members.now }
+{
+    for i in 1..members.len() {
+        let (name, _) = members.entry_at(i - 1);
+        let (next, _) = members.entry_at(i);
+        match name.cmp(next) {
+            Ordering::Less => {}
+            Ordering::Equal | Ordering::Greater => return false,
+        }
+    }
+    true
+}
+
+/// Members by their names.
+fn by_name<'a>(
+    alloc: Global,
+    members: &'a OrderedMap<Node>,
+) -> Result<BTreeMap<&'a str, &'a Node>, AllocError>
+    ensures same { IfOk result (λ m. standing (lent m.entries) ≡ members_data (members_of members.now) no_members) }
+    ensures fit { IfOk result (λ m. AllFit (members_size (members_of members.now)) (lent m.entries)) }
+{
+    let mut sorted = BTreeMap::new(alloc);
+    for i in 0..members.len() {
+        let (name, node) = members.entry_at(i);
+        drop(sorted.insert(name, node)?);
+    }
+    Ok(sorted)
+}
+
+/// Writes a node.
+#[cycle(write)]
+fn write_node(
+    alloc: Global,
+    node: &Node,
+    out: &mut Writer,
+    steps: &mut Steps,
+) -> Result<(), AllocError>
+    ensures ok { OnOk result (out.new.tokens ≡ out.old.tokens ++ data_tokens (data_of node.now)) }
+    ensures before { OnOk result (out.new.before ≡ out.old.before) }
+{
+    match node.open(steps) {
+        View::Null => out.token(Token::Null),
+        View::Flag(value) => out.token(Token::Bool(value)),
+        View::Whole(value) => write_whole(value, out),
+        View::Text(text) => out.token(Token::String(text)),
+        View::List(items) => {
+            out.begin_array()?;
+            write_items(alloc, items, out, steps)
+        }
+        View::Object(members) => {
+            out.begin_object()?;
+            write_members(alloc, members, out, steps)
+        }
+    }
+}
+
+/// Writes the values of an array, and its end.
+#[cycle(write)]
+fn write_items(
+    alloc: Global,
+    items: &[Node],
+    out: &mut Writer,
+    steps: &mut Steps,
+) -> Result<(), AllocError>
+    ensures ok { OnOk result (out.new.tokens ≡ out.old.tokens ++ items_data_tokens (items_data (items_of items.now))) }
+    ensures before { OnOk result (out.new.before ≡ out.old.before) }
+{
+    for item in items {
+        write_node(alloc, item, out, steps)?;
+    }
+    out.end_array()
+}
+
+/// Writes the members of an object by their names, and its end.
+#[cycle(write)]
+fn write_members(
+    alloc: Global,
+    members: &OrderedMap<Node>,
+    out: &mut Writer,
+    steps: &mut Steps,
+) -> Result<(), AllocError>
+    ensures ok { OnOk result (out.new.tokens ≡ out.old.tokens
+        ++ members_data_tokens (members_data (members_of members.now) no_members)) }
+    ensures before { OnOk result (out.new.before ≡ out.old.before) }
+{
+    if are_in_order(members) {
+        return write_standing(alloc, members, out, steps);
+    }
+    for (name, node) in by_name(alloc, members)? {
+        out.key(name)?;
+        write_node(alloc, node, out, steps)?;
+    }
+    out.end_object()
+}
+
+/// Writes the members of an object as they stand, and its end.
+#[cycle(write)]
+fn write_standing(
+    alloc: Global,
+    members: &OrderedMap<Node>,
+    out: &mut Writer,
+    steps: &mut Steps,
+) -> Result<(), AllocError>
+    ensures ok { OnOk result (out.new.tokens ≡ out.old.tokens ++ members_data_tokens (standing members.now)) }
+    ensures before { OnOk result (out.new.before ≡ out.old.before) }
+{
+    for i in 0..members.len() {
+        let (name, node) = members.entry_at(i);
+        out.key(name)?;
+        write_node(alloc, node, out, steps)?;
+    }
+    out.end_object()
+}

@@ -1,0 +1,21 @@
+//! Types of which a value can be turned into a tree.
+use openapi_node::{Fault, Node};
+use openapi_rows::ToNode;
+use openapi_schema::Schema;
+use std::alloc::Global;
+
+/// A type of which a value can be turned into the tree that it is written as.
+pub trait IntoNode: ToNode + Drop {
+    ghost use Rattle.openapi_rows.specs.Gives.{WrittenAs};
+
+    /// The tree that [`ToNode::to_node`] gives, made of the value itself: what need not be copied is moved. It is
+    /// refused as there, and the value is gone then too.
+    fn into_node(self, alloc: Global) -> Result<Node, Fault>
+        ensures written { WrittenAs Self.FromNode.kind (Self.FromNode.form_of self) result }
+    {
+        self.to_node(alloc)
+    }
+}
+
+/// A schema is written and then let go of: nothing of it is moved.
+impl IntoNode for Schema {}

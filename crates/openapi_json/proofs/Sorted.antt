@@ -10,18 +10,14 @@ use Rattle.openapi_map.specs.Entries.{Entries}
 use Rattle.openapi_node.specs.Json.{data_of, members_data}
 use Rattle.openapi_node.specs.Tree.{Tree, members_of, members_size, size_of}
 use Rattle.openapi_node.proofs.TreeLemmas.{take_next}
+use Rattle.openapi_json.specs.Gathered.{AllBelow, Rises, Ascends}
 use Rattle.openapi_json.specs.Writing.{AllFit, lent, standing}
 
 abbrev Named : Type 0
 Named = List ℕ × Tree
 
-some_same : {A : Type 0} {x y : A} → Some x ≡ Some y → x ≡ y
+pub some_same : {A : Type 0} {x y : A} → Some x ≡ Some y → x ≡ y
 some_same e = cc
-
--- each name is below a name
-abbrev AllBelow : List ℕ → Entries Tree → Type 0
-AllBelow n [] = Unit {0}
-AllBelow n (e ∷ es) = (slice_cmp nat_cmp e.0 n ≡ Less) × AllBelow n es
 
 all_below-trans : (n k : List ℕ) (es : Entries Tree) → slice_cmp nat_cmp n k ≡ Less → AllBelow n es → AllBelow k es
 all_below-trans n k [] h b = tt
@@ -42,11 +38,6 @@ put_end n t (e ∷ es) b =
     (member e.0 (data_of t) (standing es)) (member e.0 (data_of e.1) (put n (data_of t) (standing es)))) above
     ∙ ap (member e.0 (data_of e.1)) (put_end n t es b.1)
 
--- the first of the rest is above all that stand before, and each is below the next
-abbrev pub Rises : List ℕ → Entries Tree → Type 0
-Rises n [] = Unit {0}
-Rises n (e ∷ es) = (slice_cmp nat_cmp n e.0 ≡ Less) × Rises e.0 es
-
 in_turn : (done : Entries Tree) (last : Named) (rest : Entries Tree) → AllBelow last.0 done → Rises last.0 rest
     → members_data (members_of rest) (standing (done ++ last ∷ [])) ≡ standing ((done ++ last ∷ []) ++ rest)
 in_turn done last [] b r = ap standing (sym (append-nil (done ++ last ∷ [])))
@@ -57,10 +48,6 @@ in_turn done last (e ∷ es) b r =
     ∙ ap standing (append_assoc (done ++ last ∷ []) (e ∷ []) es)
 
 -- members of which each name is below the next stand as they are put
-abbrev pub Ascends : Entries Tree → Type 0
-Ascends [] = Unit {0}
-Ascends (e ∷ es) = Rises e.0 es
-
 pub ascending : (es : Entries Tree) → Ascends es → members_data (members_of es) no_members ≡ standing es
 ascending [] r = refl
 ascending (e ∷ es) r = in_turn [] e es tt r

@@ -1,7 +1,8 @@
 -- The values of an array and the members of an object, one after another, as the grammar reads them and as data.
 use Rattle.std.proofs.Common.{◌≡◌, ℕ, ◌-◌, ◌<◌, List, [], ◌∷◌, ◌++◌, map, Option, Some, None, Bool, true, false, ◌||◌}
-use Rattle.std.proofs.Common.{option_map, option_and_then, string_bytes, string_cmp, String, Global, refl, sym, ap, ◌∙◌, append_assoc}
+use Rattle.std.proofs.Common.{option_map, option_and_then, nat_cmp, refl, sym, ap, ◌∙◌, append_assoc}
 use Rattle.std.specs.BTreeMap.{insert_entry}
+use Rattle.std.specs.Cmp.Lexicographic.{slice_cmp}
 use Rattle.json.specs.Json as json
 use Rattle.json.specs.Json.{Parse, parse_map, after_end_array, read_key}
 use Rattle.json.specs.Token.{Token}
@@ -12,7 +13,7 @@ use Rattle.serde_json.specs.View as views
 use Rattle.serde_json.specs.Written.{has_float, items_have_float}
 use Rattle.openapi_node.specs.Json.{items_of_data, tree_of_data}
 use Rattle.openapi_node.specs.Tree as tree
-use Rattle.openapi_json.specs.Reading.{Pair}
+use Rattle.openapi_json.specs.Reading.{Pair, pairs_data}
 use Rattle.openapi_json.proofs.Order.{members-insert}
 
 -- whatever is read of the rest of an array, with the values that were read before it, is read of the whole
@@ -62,23 +63,22 @@ abbrev pub MembersGoOn : Option (json.Members × List Token) → List Pair → P
 MembersGoOn whole done more rest =
     (ms : json.Members) (end : List Token) → more rest ≡ Some (ms, end)
     → (all : json.Members) × (whole ≡ Some (all, end))
-    × ((found : Members) → of_members ms (views.members_of done) ≡ Some found → of_members all no_members ≡ Some found)
+    × ((found : Members) → of_members ms (pairs_data done) ≡ Some found → of_members all no_members ≡ Some found)
 
 with_member : (k : List ℕ) (j : json.Json) (ms : json.Members) (d : Data) (old found : Members) → of_json j ≡ Some d
     → of_members ms (put k d old) ≡ Some found → of_members (json.member k j ms) old ≡ Some found
 with_member k j ms d old found e f = ap (option_and_then (λ x. of_members ms (put k x old))) e ∙ f
 
 pub next_member : (p : Parse json.Json) (whole : Option (json.Members × List Token)) (done : List Pair) (n : ℕ)
-    (k : String Global) (ts s r : List Token) (j : json.Json) (d : Data) → 0 < n
-    → read_key ts ≡ Some (Some (string_bytes k), s) → p s ≡ Some (j, r) → of_json j ≡ Some d
+    (k : List ℕ) (ts s r : List Token) (j : json.Json) (d : Data) → 0 < n
+    → read_key ts ≡ Some (Some k, s) → p s ≡ Some (j, r) → of_json j ≡ Some d
     → MembersGoOn whole done (json.members p n) ts
-    → MembersGoOn whole (insert_entry string_cmp done k d) (json.members p (n - 1)) r
+    → MembersGoOn whole (insert_entry (slice_cmp nat_cmp) done k d) (json.members p (n - 1)) r
 next_member p whole done n k ts s r j d some key parsed is goes ms end e =
-    let name = string_bytes k in
-    let g = goes (json.member name j ms) end (members_more p n name ts s r j some key parsed
-    ∙ ap (parse_map (json.member name j)) e) in (
+    let g = goes (json.member k j ms) end (members_more p n k ts s r j some key parsed
+    ∙ ap (parse_map (json.member k j)) e) in (
       g.0,
       g.1,
-      λ found h. g.2 found (with_member name j ms d (views.members_of done) found is
+      λ found h. g.2 found (with_member k j ms d (pairs_data done) found is
           (ap (of_members ms) (sym (members-insert done k d)) ∙ h)),
     )

@@ -1,26 +1,31 @@
 -- The tree that is read of the tokens of a JSON text, beside the grammar of JSON and the data that `serde_json` makes of
 -- what that grammar reads.
-use Rattle.std.specs.Prelude.{◌≡◌, ℕ, List, false, map, Option, Some, None, String}
+use Rattle.std.specs.Prelude.{◌≡◌, ℕ, List, [], ◌∷◌, false, map, Option, Some, None}
 use Rattle.std.specs.Str.{IsUtf8}
-use Rattle.std.specs.declared.alloc.Global.{Global}
 use Rattle.json.specs.Json as json
 use Rattle.json.specs.Token.{Token}
-use Rattle.serde_json.specs.Data.{Data, no_members}
+use Rattle.serde_json.specs.Data.{Data, Members, no_members, member}
 use Rattle.serde_json.specs.Read.{of_json, of_items, of_members, read}
 use Rattle.serde_json.specs.View as views
 use Rattle.serde_json.specs.Written.{items_have_float, members_have_float}
 use Rattle.openapi_json.specs.declared.fault.JsonFault.{JsonFault}
 use Rattle.openapi_json.specs.declared.fault.JsonFault.TheVariants.{NotJson, NotWhole, Memory}
+use Rattle.openapi_map.specs.Entries.{Entries}
 use Rattle.openapi_node.specs.Json.{IsNotWhole, IsTreeOf, tree_of_data}
 use Rattle.openapi_node.specs.Tree.{Tree}
 
 -- a name beside the data of its value
 abbrev pub Pair : Type 0
-Pair = String Global × Data
+Pair = List ℕ × Data
 
 -- the name beside the tree of that data
-abbrev pub tree_pair : Pair → String Global × Tree
+abbrev pub tree_pair : Pair → List ℕ × Tree
 tree_pair p = (p.0, tree_of_data p.1)
+
+-- the members that names and data make
+abbrev pub pairs_data : List Pair → Members
+pairs_data [] = no_members
+pairs_data (p ∷ ps) = member p.0 p.1 (pairs_data ps)
 
 -- The grammar read a value, and the tree is that of its data, which has no float.
 pub record ReadsTree (parsed : Option (json.Json × List Token)) (t : Tree) (rest : List Token) : Type 0 where
@@ -40,12 +45,12 @@ pub record ReadsItems (parsed : Option (json.Items × List Token)) (ts : List Tr
   pub same : ts ≡ map tree_of_data values
 
 -- The same for the members of an object, by their names.
-pub record ReadsMembers (parsed : Option (json.Members × List Token)) (es : List (String Global × Tree)) (rest : List Token) : Type 0 where
+pub record ReadsMembers (parsed : Option (json.Members × List Token)) (es : Entries Tree) (rest : List Token) : Type 0 where
   pub json : json.Members
   pub reads : parsed ≡ Some (json, rest)
   pub pairs : List Pair
-  pub converts : of_members json no_members ≡ Some (views.members_of pairs)
-  pub whole : members_have_float (views.members_of pairs) ≡ false
+  pub converts : of_members json no_members ≡ Some (pairs_data pairs)
+  pub whole : members_have_float (pairs_data pairs) ≡ false
   pub same : es ≡ map tree_pair pairs
 
 -- The text is JSON whose numbers are whole, and the tree is that of its data.

@@ -2,6 +2,7 @@
 //! Nodes from JSON text, and JSON text from nodes, with no value of `serde_json` between the two.
 mod by_value;
 mod fault;
+mod members;
 mod number;
 mod read;
 mod unread;

@@ -1,16 +1,15 @@
 //! From JSON text to nodes, in one pass over its tokens.
-ghost use Rattle.std.specs.Prelude.{◌≡◌, ◌<◌, length, map, IfOk, OnOk};
+ghost use Rattle.std.specs.Prelude.{◌<◌, length, IfOk, OnOk};
 ghost use Rattle.json.specs.Json.{value, items, members};
-ghost use Rattle.openapi_map.specs.Entries.{owned_entry};
+ghost use Rattle.openapi_json.specs.Gathered.{entries_in};
 ghost use Rattle.openapi_json.specs.Reading.{IsTreeOfText, ReadsItems, ReadsMembers, ReadsTree};
 
+use crate::members::Members;
 use crate::number::whole_of;
 use crate::unread::Unread;
 use json::{Reader, Scratch, Token};
-use openapi_map::OrderedMap;
 use openapi_node::Node;
-use std::alloc::{AllocError, Global};
-use std::collections::BTreeMap;
+use std::alloc::Global;
 
 /// How deep arrays and objects may nest, as for `serde_json`.
 const MAX_DEPTH: usize = 127;
@@ -41,17 +40,6 @@ fn read_all(alloc: Global, text: &str, scratch: &mut Scratch) -> Result<Node, Un
     Ok(node)
 }
 
-/// Members in the order of their names, in a map that keeps it.
-fn in_order(alloc: Global, members: BTreeMap<String, Node>) -> Result<OrderedMap<Node>, AllocError>
-    ensures { IfOk result (λ m. m ≡ map owned_entry members.entries) }
-{
-    let mut out = OrderedMap::with_capacity(alloc, members.len())?;
-    for (name, node) in members {
-        out.push_new(name, node)?;
-    }
-    Ok(out)
-}
-
 #[cycle(read)]
 fn read_node(alloc: Global, reader: &mut Reader<'_>, depth: usize) -> Result<Node, Unread>
     ensures ok { IfOk result (λ n. ReadsTree (value depth reader.old) n reader.new) }
@@ -78,7 +66,7 @@ fn read_node(alloc: Global, reader: &mut Reader<'_>, depth: usize) -> Result<Nod
                 return Err(Unread::Other);
             }
             let members = read_members(alloc, reader, depth - 1)?;
-            Ok(Node::object(in_order(alloc, members)?))
+            Ok(Node::object(members.into_map(alloc)?))
         }
     }
 }
@@ -98,20 +86,16 @@ fn read_items(alloc: Global, reader: &mut Reader<'_>, depth: usize) -> Result<Ve
 }
 
 #[cycle(read)]
-fn read_members(
-    alloc: Global,
-    reader: &mut Reader<'_>,
-    depth: usize,
-) -> Result<BTreeMap<String, Node>, Unread>
-    ensures ok { IfOk result (λ m. ReadsMembers (members (value depth) (length reader.old) reader.old) m.entries
+fn read_members(alloc: Global, reader: &mut Reader<'_>, depth: usize) -> Result<Members, Unread>
+    ensures ok { IfOk result (λ m. ReadsMembers (members (value depth) (length reader.old) reader.old) (entries_in m)
         reader.new) }
     ensures shorter { OnOk result (length reader.new < length reader.old) }
 {
-    let mut found = BTreeMap::new(alloc);
+    let mut found = Members::new(alloc);
     'members: while let Some(name) = reader.next_key()? {
         let key = String::from_str(alloc, name)?;
         let member = read_node(alloc, reader, depth)?;
-        drop(found.insert(key, member)?);
+        found = found.with(alloc, key, member)?;
     }
     Ok(found)
 }

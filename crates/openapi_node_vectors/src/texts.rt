@@ -77,6 +77,34 @@ fn members_stand_by_their_names_and_the_last_of_a_name_counts(rt: HostRuntime) -
     Ok(())
 }
 
+// More members than are put by their names before it is tried whether the rest comes in order.
+#[test]
+fn many_members_stand_by_their_names_too(rt: HostRuntime) -> Result<(), Fail> {
+    let rows = [
+        (
+            r#"{"a":0,"b":1,"c":2,"d":3,"e":4,"f":5,"g":6,"h":7,"i":8,"j":9}"#,
+            r#"{"a":0,"b":1,"c":2,"d":3,"e":4,"f":5,"g":6,"h":7,"i":8,"j":9}"#,
+        ),
+        (
+            r#"{"h":0,"g":1,"f":2,"e":3,"d":4,"c":5,"b":6,"a":7,"i":8,"j":9}"#,
+            r#"{"a":7,"b":6,"c":5,"d":4,"e":3,"f":2,"g":1,"h":0,"i":8,"j":9}"#,
+        ),
+        (
+            r#"{"a":0,"b":1,"c":2,"d":3,"e":4,"f":5,"g":6,"h":7,"k":8,"i":9,"j":10}"#,
+            r#"{"a":0,"b":1,"c":2,"d":3,"e":4,"f":5,"g":6,"h":7,"i":9,"j":10,"k":8}"#,
+        ),
+        (
+            r#"{"a":0,"b":1,"c":2,"d":3,"e":4,"f":5,"g":6,"h":7,"h":8,"i":9,"b":10}"#,
+            r#"{"a":0,"b":10,"c":2,"d":3,"e":4,"f":5,"g":6,"h":8,"i":9}"#,
+        ),
+        (
+            r#"{"b":0,"c":1,"d":2,"e":3,"f":4,"g":5,"h":6,"i":7,"j":8,"a":9,"a":10,"k":11}"#,
+            r#"{"a":10,"b":0,"c":1,"d":2,"e":3,"f":4,"g":5,"h":6,"i":7,"j":8,"k":11}"#,
+        ),
+    ];
+    check_read(&rt, &rows)
+}
+
 #[test]
 fn what_is_no_json_is_refused(rt: HostRuntime) -> Result<(), Fail> {
     let rows = [

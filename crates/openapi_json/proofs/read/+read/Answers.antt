@@ -1,5 +1,6 @@
-use Rattle.std.proofs.Common.{◌≡◌, ◌-◌, ◌<◌, option_map, [], ◌∷◌, ◌++◌, length, map, Some, None, string_bytes, string_cmp, refl, sym, ap, ◌∙◌, subst, arith, rules, append-nil}
+use Rattle.std.proofs.Common.{◌≡◌, ◌-◌, ◌<◌, option_map, [], ◌∷◌, ◌++◌, length, Some, None, nat_cmp, string_bytes, refl, sym, ap, ◌∙◌, subst, arith, rules, append-nil}
 use Rattle.std.specs.BTreeMap.{insert_entry}
+use Rattle.std.specs.Cmp.Lexicographic.{slice_cmp}
 use Rattle.json.specs.Json as json
 use Rattle.json.specs.Json.{parse_map, after_end_array, read_key, items, members, value}
 use Rattle.json.specs.Reads.{token_of}
@@ -8,8 +9,8 @@ use Rattle.json.proofs.Grammar.{value_is, value-begin_array, value-begin_object,
 use Rattle.serde_json.specs.Data.{array, boolean, null, number, object, string}
 use Rattle.serde_json.specs.Find.{of_integer}
 use Rattle.serde_json.specs.View as views
-use Rattle.openapi_map.specs.Entries.{owned_entry}
 use Rattle.openapi_node.specs.Tree as tree
+use Rattle.openapi_json.specs.Reading.{pairs_data}
 use Rattle.openapi_json.proofs.Order.{object_of_pairs, trees-insert, whole-insert}
 use Rattle.openapi_json.proofs.Turns.{list_of_values, next_item, next_member, trees-push, whole-push}
 use Rattle.openapi_json.proofs.Numbers.{whole_tree, no_float}
@@ -61,7 +62,8 @@ read_members-members-preserved t c =
     let s = c.next_key.new.self in
     let found : read_key ts ≡ Some (Some c.in-Some.name.now, s) = grind arith in
     let copied : string_bytes k ≡ c.in-Some.name.now = search rules in
-    let named : read_key ts ≡ Some (Some (string_bytes k), s) = found ∙ ap (λ n. Some (Some n, s)) (sym copied) in
+    let name = string_bytes k in
+    let named : read_key ts ≡ Some (Some name, s) = found ∙ ap (λ n. Some (Some n, s)) (sym copied) in
     let ensured = c.in_ok-member.ensures in
     let read = ensured.ok in
     let r = c.read_node.new.reader in
@@ -70,12 +72,13 @@ read_members-members-preserved t c =
     record {
       left = l.left - 1;
       enough = omega (arith, l.enough);
-      done = insert_entry string_cmp l.done k read.value;
-      goes = next_member p _ l.done l.left k ts s r read.json read.value (omega (arith, l.enough)) named read.reads
+      done = insert_entry (slice_cmp nat_cmp) l.done name read.value;
+      goes = next_member p _ l.done l.left name ts s r read.json read.value (omega (arith, l.enough)) named read.reads
           read.converts l.goes;
-      whole = whole-insert l.done k read.value l.whole read.is.whole_numbers;
-      same = c.in_ok-insert.ensures.entries ∙ (λ j. insert_entry string_cmp (l.same j) k (read.is.same j))
-          ∙ sym (trees-insert l.done k read.value);
+      whole = whole-insert l.done name read.value l.whole read.is.whole_numbers;
+      same = c.in_ok-found.ensures.entries ∙ (λ j. insert_entry (slice_cmp nat_cmp) (l.same j) name (read.is.same j))
+          ∙ sym (trees-insert l.done name read.value);
+      order = c.in_ok-found.ensures.order;
       shorter = omega (arith, l.shorter);
     }
 
@@ -89,7 +92,7 @@ read_members-returns-clause-ok t c =
       json = all.0;
       reads = all.1;
       pairs = l.done;
-      converts = all.2 (views.members_of l.done) refl;
+      converts = all.2 (pairs_data l.done) refl;
       whole = l.whole;
       same = l.same;
     }
@@ -164,9 +167,9 @@ read_node-returns-in_ok-read_items-in-BeginArray-clause-ok t c =
       };
     }
 
-pub read_node-returns-in_ok-in_order-in-BeginObject-clause-ok :
-    goal.read_node-returns-in_ok-in_order-in-BeginObject-clause-ok
-read_node-returns-in_ok-in_order-in-BeginObject-clause-ok t c =
+pub read_node-returns-in_ok-into_map-in-BeginObject-clause-ok :
+    goal.read_node-returns-in_ok-into_map-in-BeginObject-clause-ok
+read_node-returns-in_ok-into_map-in-BeginObject-clause-ok t c =
     let first : c.args.reader.now ≡ token_of c.in_ok-token.token ∷ c.next.new.self = grind arith in
     let is : c.args.reader.now ≡ Token.begin_object ∷ c.next.new.self = grind (arith, first) in
     let read = c.in_ok-members-in-BeginObject.ensures.ok in
@@ -174,12 +177,12 @@ read_node-returns-in_ok-in_order-in-BeginObject-clause-ok t c =
       json = json.object read.json;
       reads = ap (value c.args.depth) is ∙ value-begin_object c.args.depth c.next.new.self (omega arith)
           ∙ ap (parse_map json.object) read.reads;
-      value = object (views.members_of read.pairs);
+      value = object (pairs_data read.pairs);
       converts = ap (option_map object) read.converts;
       is = record {
         whole_numbers = read.whole;
         same = c.object.ensures
-            ∙ ap (λ m. tree.object (tree.members_of m)) (c.in_ok-in_order-in-BeginObject.ensures ∙ ap (map owned_entry) read.same)
+            ∙ ap (λ m. tree.object (tree.members_of m)) (c.in_ok-into_map-in-BeginObject.ensures ∙ read.same)
             ∙ ap tree.object (object_of_pairs read.pairs);
       };
     }

@@ -4,7 +4,8 @@ use Rattle.serde_json.specs.Data.{Data}
 use Rattle.serde_json.specs.View as views
 use Rattle.serde_json.specs.Written.{items_have_float, members_have_float}
 use Rattle.openapi_node.specs.Json.{tree_of_data}
-use Rattle.openapi_json.specs.Reading.{Pair, tree_pair}
+use Rattle.openapi_json.specs.Gathered.{entries_in, IsInOrder}
+use Rattle.openapi_json.specs.Reading.{Pair, pairs_data, tree_pair}
 use Rattle.openapi_json.proofs.Turns.{ItemsGoOn, MembersGoOn}
 use Rattle.openapi_json.proofs.read.+read.Given as goal
 
@@ -41,8 +42,9 @@ invariant-read_members-members l =
       done : List Pair;
       goes : MembersGoOn (members (value l.depth) (length l.initial.reader) l.initial.reader) done
           (members (value l.depth) left) l.reader;
-      whole : members_have_float (views.members_of done) ≡ false;
-      same : l.found.entries ≡ map tree_pair done;
+      whole : members_have_float (pairs_data done) ≡ false;
+      same : entries_in l.found ≡ map tree_pair done;
+      order : IsInOrder l.found;
       shorter : length l.reader ≤ length l.initial.reader;
     }
 

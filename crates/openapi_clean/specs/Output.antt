@@ -5,6 +5,8 @@ use Rattle.std.specs.Str.{IsUtf8}
 use Rattle.serde_json.specs.Data.{Data}
 use Rattle.serde_json.specs.Read.{read}
 use Rattle.serde_json.specs.Written.{has_float, compact_text}
+use Rattle.openapi_json.specs.declared.fault.JsonFault.{JsonFault}
+use Rattle.openapi_json.specs.declared.fault.JsonFault.TheVariants as unread
 use Rattle.openapi_node.specs.Json.{data_of, tree_of_data, IsNotWhole}
 use Rattle.openapi_node.specs.Tree.{Tree}
 use Rattle.openapi_node.specs.declared.fault.Cause.TheVariants as causes
@@ -57,6 +59,12 @@ text_of Operations t = lines_of (ops (form final_tables (by open_api) t))
 -- the bytes are JSON whose tree conforms to the kind of the command, and the text is what the command writes for it
 abbrev pub IsAnswer : Command → List ℕ → List ℕ → Type 0
 IsAnswer c bytes text = IsJsonOf bytes (λ t. (conforms final_tables (kind_of c) t ≡ true) × (text ≡ text_of c t))
+
+-- the failure of a run on bytes that hold no tree
+abbrev pub run_fault_of : JsonFault → RunFault
+run_fault_of unread.NotJson = NotJson
+run_fault_of (unread.NotWhole f) = Refused f
+run_fault_of unread.Memory = Memory
 
 -- the bytes are no text in UTF-8, or no JSON
 abbrev pub IsNoJson : List ℕ → Type 0

@@ -1,11 +1,10 @@
 //! The text that answers an input. Each step lets go of what the step before it made, so that no more than two forms of
-//! the input stand at a time: its value, its tree, the object that was read, the cleaned or settled tree, its value, the
-//! line. Three stand while a tree is settled: the tree, the cleaned one, and an object.
+//! the input stand at a time: its tree, the object that was read, the cleaned or settled tree, the line. Three stand while
+//! a tree is settled: the tree, the cleaned one, and an object.
 ghost use Rattle.std.specs.Prelude.{◌≡◌, ◌≢◌, ◌⊎◌, ◌++◌, ◌∷◌, [], string_bytes, IfOk, IfErr, OnOk, Some, true, false};
 ghost use Rattle.openapi_clean.specs.Commands.{kind_of};
 ghost use Rattle.openapi_clean.specs.Output.{IsAnswer, IsJsonOf, IsLineOf, IsNoJson, IsRefusalOf, HoldsFraction};
-ghost use Rattle.openapi_clean.specs.Output.{IsUnwhole, Explains, line_of, lines_of, operation_line};
-ghost use Rattle.openapi_node.specs.Json.{IsTreeOf, data_of};
+ghost use Rattle.openapi_clean.specs.Output.{Explains, line_of, lines_of, operation_line};
 ghost use Rattle.openapi_settle.specs.Settled.{settled};
 ghost use Rattle.openapi_tables.specs.Conforms.{conforms};
 ghost use Rattle.openapi_tables.specs.Kind.{by, open_api};
@@ -13,15 +12,17 @@ ghost use Rattle.openapi_tables.specs.Operations.{ops};
 ghost use Rattle.openapi_tables.specs.Print.{print, clean};
 ghost use Rattle.openapi_tables.specs.Read.{form};
 ghost use Rattle.openapi_tables.specs.Tables.{final_tables};
-ghost use Rattle.serde_json.specs.Read.{read};
-ghost use Rattle.serde_json.specs.View.{view};
-ghost use Rattle.serde_json.specs.Written.{has_float, compact_text};
 
 use crate::command::Command;
 use crate::fault::RunFault;
+use openapi_documents::OpenAPI;
+use openapi_json::{json_from_node, node_from_json};
 use openapi_node::{Cause, Fault, Node, Steps};
-use openapiv3::{FromNode, OpenAPI, Schema, Settle, Tag, ToNode};
-use serde_json::Value;
+use openapi_owned::IntoNode;
+use openapi_records::Tag;
+use openapi_rows::{FromNode, ToNode};
+use openapi_schema::Schema;
+use openapi_settle::Settle;
 use std::alloc::Global;
 
 /// The text that answers the bytes.
@@ -44,7 +45,7 @@ pub fn answer(
 }
 
 /// The line of what is read as a `T` and written again.
-fn cleaned_line<T: ToNode + Drop>(
+fn cleaned_line<T: IntoNode>(
     alloc: Global,
     bytes: &[u8],
     steps: &mut Steps,
@@ -86,7 +87,7 @@ fn lines_of_object<T: Lines + Drop>(
 }
 
 /// The cleaned tree.
-fn cleaned_tree<T: ToNode + Drop>(
+fn cleaned_tree<T: IntoNode>(
     alloc: Global,
     bytes: &[u8],
     steps: &mut Steps,
@@ -96,7 +97,7 @@ fn cleaned_tree<T: ToNode + Drop>(
     ensures err { IfErr result (Explains T.FromNode.kind bytes.now) }
 {
     let object = read_object::<T>(alloc, bytes, steps)?;
-    tree_of_object(alloc, &object)
+    tree_of_object(alloc, object)
 }
 
 /// The settled tree.
@@ -128,28 +129,14 @@ fn read_object<T: FromNode + Drop>(
 }
 
 /// The tree that the bytes hold.
+#[tactic(auto, using(crate::proofs::Texts::tree_of_text, crate::proofs::Texts::unread_text))]
 fn read_tree(alloc: Global, bytes: &[u8]) -> Result<Node, RunFault>
     ensures ok { IfOk result (λ n. IsJsonOf bytes.now (λ t. n ≡ t)) }
     ensures err { IfErr result (λ e. (e ≡ RunFault.Memory)
         ⊎ (((e ≡ RunFault.NotJson) × IsNoJson bytes.now) ⊎ HoldsFraction bytes.now e)) }
 {
-    let value = parse(alloc, bytes)?;
-    tree_of_value(alloc, &value)
-}
-
-/// The value that the bytes are the JSON text of.
-fn parse(alloc: Global, bytes: &[u8]) -> Result<Value, RunFault>
-    ensures ok { IfOk result (λ v. read bytes.now ≡ Some (view v)) }
-    ensures err { IfErr result (λ e. (e ≡ RunFault.Memory) ⊎ ((e ≡ RunFault.NotJson) × IsNoJson bytes.now)) }
-{
-    match Value::from_slice(alloc, bytes) {
-        Ok(value) => Ok(value),
-        Err(error) => if error.is_memory() {
-            Err(RunFault::Memory)
-        } else {
-            Err(RunFault::NotJson)
-        },
-    }
+    let node = node_from_json(alloc, bytes)?;
+    Ok(node)
 }
 
 /// A refusal of a tree, with want of memory apart.
@@ -160,17 +147,6 @@ fn refusal(fault: Fault) -> RunFault
     match fault.cause {
         Cause::Memory => RunFault::Memory,
         _ => RunFault::Refused(fault),
-    }
-}
-
-/// The tree of a value.
-fn tree_of_value(alloc: Global, value: &Value) -> Result<Node, RunFault>
-    ensures ok { IfOk result (IsTreeOf (view value.now)) }
-    ensures err { IfErr result (λ e. (e ≡ RunFault.Memory) ⊎ IsUnwhole (view value.now) e) }
-{
-    match Node::from_value(alloc, value) {
-        Ok(node) => Ok(node),
-        Err(fault) => Err(refusal(fault)),
     }
 }
 
@@ -187,12 +163,12 @@ fn object_of_tree<T: FromNode>(alloc: Global, node: &Node, steps: &mut Steps) ->
     }
 }
 
-/// The tree that an object is written as.
-fn tree_of_object<T: ToNode>(alloc: Global, object: &T) -> Result<Node, RunFault>
-    ensures ok { IfOk result (λ n. n ≡ print final_tables T.FromNode.kind (T.FromNode.form_of object.now)) }
+/// The tree that an object is written as, for which it is taken.
+fn tree_of_object<T: IntoNode>(alloc: Global, object: T) -> Result<Node, RunFault>
+    ensures ok { IfOk result (λ n. n ≡ print final_tables T.FromNode.kind (T.FromNode.form_of object)) }
     ensures err { IfErr result (λ e. e ≡ RunFault.Memory) }
 {
-    match object.to_node(alloc) {
+    match object.into_node(alloc) {
         Ok(node) => Ok(node),
         Err(_) => Err(RunFault::Memory),
     }
@@ -215,39 +191,14 @@ fn settle_tree<T: ToNode + Drop>(
     }
 }
 
-/// The line of a tree.
+/// The line of a tree: its compact JSON, and the end of the line.
 fn line_of_tree(alloc: Global, node: Node, steps: &mut Steps) -> Result<String, RunFault>
     ensures ok { IfOk result (λ line. string_bytes line ≡ line_of node) }
     ensures err { IfErr result (λ e. e ≡ RunFault.Memory) }
 {
-    let value = value_of_tree(alloc, node, steps)?;
-    line_of_value(alloc, &value)
-}
-
-/// The value of a tree, which is taken apart for it.
-fn value_of_tree(alloc: Global, node: Node, steps: &mut Steps) -> Result<Value, RunFault>
-    ensures ok { IfOk result (λ v. view v ≡ data_of node) }
-    ensures err { IfErr result (λ e. e ≡ RunFault.Memory) }
-{
-    match node.into_value(alloc, steps) {
-        Ok(value) => Ok(value),
-        Err(_) => Err(RunFault::Memory),
-    }
-}
-
-/// The compact JSON of a value, and the end of the line.
-fn line_of_value(alloc: Global, value: &Value) -> Result<String, RunFault>
-    requires { has_float (view value.now) ≡ false }
-    ensures ok { IfOk result (λ line. string_bytes line ≡ compact_text (view value.now) ++ 10 ∷ []) }
-    ensures err { IfErr result (λ e. e ≡ RunFault.Memory) }
-{
-    let Ok(mut line) = value.to_string(alloc) else {
-        return Err(RunFault::Memory);
-    };
-    match line.push('\n') {
-        Ok(()) => Ok(line),
-        Err(_) => Err(RunFault::Memory),
-    }
+    let mut line = json_from_node(alloc, &node, steps)?;
+    line.push('\n')?;
+    Ok(line)
 }
 
 /// What is told in lines of text.

@@ -2,6 +2,7 @@
 ghost use Rattle.std.specs.Prelude.{◌≡◌};
 ghost use Rattle.openapi_clean.specs.Status.{status_of};
 
+use openapi_json::JsonFault;
 use openapi_node::Fault;
 use std::alloc::AllocError;
 use thiserror::Error;
@@ -34,6 +35,20 @@ impl From<AllocError> for RunFault {
 
     fn from(_: AllocError) -> RunFault {
         RunFault::Memory
+    }
+}
+
+impl From<JsonFault> for RunFault {
+    ghost use Rattle.openapi_clean.specs.Output.{run_fault_of};
+
+    ghost from_gives = { λ j e. e ≡ run_fault_of j };
+
+    fn from(fault: JsonFault) -> RunFault {
+        match fault {
+            JsonFault::NotJson => RunFault::NotJson,
+            JsonFault::NotWhole(fault) => RunFault::Refused(fault),
+            JsonFault::Memory => RunFault::Memory,
+        }
     }
 }
 

@@ -169,7 +169,7 @@ fn schemas_are_cleaned(rt: HostRuntime) -> Result<(), Fail> {
     Ok(())
 }
 
-// Members come in the order of their names, since JSON is read by way of `serde_json`; so `content` stands before
+// Members come in the order of their names, since JSON is read as `serde_json` reads it; so `content` stands before
 // `schema`, and decides.
 #[test]
 fn documents_are_cleaned(rt: HostRuntime) -> Result<(), Fail> {

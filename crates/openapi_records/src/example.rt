@@ -25,13 +25,13 @@ pub struct Example {
     pub summary: Option<String>,
     /// A long description of the example, in CommonMark.
     pub description: Option<String>,
-    /// The example itself, a literal value. It excludes `external_value`, which is not checked.
-    pub value: Option<Node>,
     /// The URL of the literal example, where it can't well stand in a JSON document. It excludes `value`, which is not
     /// checked.
     pub external_value: Option<String>,
     /// Extensions: the members whose names begin with `x-`, in their order.
     pub extensions: OrderedMap<Node>,
+    /// The example itself, a literal value. It excludes `external_value`, which is not checked.
+    pub value: Option<Node>,
 }
 
 impl Example {

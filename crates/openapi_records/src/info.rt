@@ -24,14 +24,14 @@ pub struct Info {
     pub description: Option<String>,
     /// The URL of the terms of service of the API.
     pub terms_of_service: Option<String>,
-    /// The contact information of the API.
-    pub contact: Option<Contact>,
-    /// The license information of the API.
-    pub license: Option<License>,
     /// The version of the OpenAPI document, not that of the specification or of the API's implementation. Required.
     pub version: String,
     /// Extensions: the members whose names begin with `x-`, in their order.
     pub extensions: OrderedMap<Node>,
+    /// The license information of the API.
+    pub license: Option<License>,
+    /// The contact information of the API.
+    pub contact: Option<Contact>,
 }
 
 impl Info {

@@ -28,14 +28,14 @@ pub struct Link {
     pub description: Option<String>,
     /// The operation that is linked to: `operationRef` or `operationId`. Required here, as in the Rust crate.
     pub operation: LinkOperation,
-    /// A literal value or a runtime expression to be sent as the request body of the operation.
-    pub request_body: Option<Node>,
     /// Literal values or runtime expressions to be passed to the operation, by the names of its parameters.
     pub parameters: OrderedMap<Node>,
-    /// The server to be used for the operation.
-    pub server: Option<Server>,
     /// Extensions: the members whose names begin with `x-`, in their order.
     pub extensions: OrderedMap<Node>,
+    /// A literal value or a runtime expression to be sent as the request body of the operation.
+    pub request_body: Option<Node>,
+    /// The server to be used for the operation.
+    pub server: Option<Server>,
 }
 
 impl Object for Link {

@@ -21,10 +21,10 @@ pub struct Tag {
     pub name: String,
     /// A description of the tag, in CommonMark.
     pub description: Option<String>,
-    /// External documentation of the tag.
-    pub external_docs: Option<ExternalDocumentation>,
     /// Extensions: the members whose names begin with `x-`, in their order.
     pub extensions: OrderedMap<Node>,
+    /// External documentation of the tag.
+    pub external_docs: Option<ExternalDocumentation>,
 }
 
 impl Tag {

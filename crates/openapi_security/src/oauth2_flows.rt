@@ -20,6 +20,8 @@ use std::alloc::Global;
 /// The OAuth Flows Object (OpenAPI 3.0.3, section 4.7.28): the flows of OAuth 2 that are supported.
 #[derive(Clone, Debug, PartialEq, Drop)]
 pub struct OAuth2Flows {
+    /// Extensions: the members whose names begin with `x-`, in their order.
+    pub extensions: OrderedMap<Node>,
     /// The configuration of the implicit flow.
     pub implicit: Option<ImplicitOAuth2Flow>,
     /// The configuration of the resource owner password flow.
@@ -28,8 +30,6 @@ pub struct OAuth2Flows {
     pub client_credentials: Option<ClientCredentialsOAuth2Flow>,
     /// The configuration of the authorization code flow.
     pub authorization_code: Option<AuthorizationCodeOAuth2Flow>,
-    /// Extensions: the members whose names begin with `x-`, in their order.
-    pub extensions: OrderedMap<Node>,
 }
 
 impl OAuth2Flows {

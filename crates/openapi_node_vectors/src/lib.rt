@@ -1,9 +1,15 @@
-//! Tests of nodes: printed texts, worked examples, and each call once with ample memory.
+//! Tests of maps, nodes and values: printed texts, worked examples, and each call once with ample memory.
 #![tactic(auto)]
 
 #[cfg(test)]
 mod looks;
 #[cfg(test)]
+mod maps;
+#[cfg(test)]
 mod nodes;
 #[cfg(test)]
+mod recursion;
+#[cfg(test)]
 mod texts;
+#[cfg(test)]
+mod values;

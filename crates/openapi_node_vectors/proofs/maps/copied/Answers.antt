@@ -4,7 +4,7 @@ use Rattle.std.proofs.lemmas.Map.Iter.{iter_turn}
 use Rattle.std.specs.Map.Iter.{deref_pair}
 use Rattle.openapi_map.specs.Entries.{Entries, get}
 use Rattle.openapi_map.proofs.EntryLemmas.{absent-next, push-next}
-use Rattle.openapi_map_vectors.proofs.maps.copied.Goals as goal
+use Rattle.openapi_node_vectors.proofs.maps.copied.Goals as goal
 
 pub push_new-requires : goal.push_new-requires
 push_new-requires c =

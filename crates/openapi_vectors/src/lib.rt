@@ -1,7 +1,28 @@
-//! Tests of what users name at the root of `openapiv3`: words, codes and formats, values that are taken, and the example of
-//! the README.
+//! Tests of what users name at the root of `openapiv3`, where they need code: values that are built, printed, compared,
+//! gone over or matched on, and the example of the README. What JSON text is cleaned to is tested by the files of
+//! `openapi_cases`.
 #![tactic(auto)]
 
+#[cfg(test)]
+mod built;
+#[cfg(test)]
+mod compared;
+#[cfg(test)]
+mod extended;
+#[cfg(test)]
+mod iterators;
+#[cfg(test)]
+mod listed;
+#[cfg(test)]
+mod loops;
+#[cfg(test)]
+mod names;
+#[cfg(test)]
+mod parameters;
+#[cfg(test)]
+mod printed;
+#[cfg(test)]
+mod read;
 #[cfg(test)]
 mod readme;
 #[cfg(test)]
@@ -11,4 +32,4 @@ mod taken;
 #[cfg(test)]
 mod values;
 #[cfg(test)]
-mod words;
+mod walked;

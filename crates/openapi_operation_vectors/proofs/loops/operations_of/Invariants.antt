@@ -1,9 +1,0 @@
-use Rattle.std.proofs.Common.{◌≡◌, ◌++◌}
-use Rattle.std.specs.Map.{values_of}
-use Rattle.openapi_operations.specs.Present.{present_operations}
-use Rattle.openapi_operation_vectors.proofs.loops.operations_of.Given as goal
-
--- what was taken, and what is still to come
-abbrev pub invariant-loop-operation : goal.invariant-loop-operation
-invariant-loop-operation l =
-    l.operations.items ++ values_of l.operation-iterator ≡ values_of (present_operations l.fn.path_item)

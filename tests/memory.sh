@@ -1,15 +1,15 @@
 #!/usr/bin/env bash
-# Makes each call of crates/openapi_memory with the Nth request for memory that the call makes refused, for N from 1
-# until a run meets no refusal. Each run that met one must tell `refused: out of memory`, and the last `answered`, by
+# Makes each call that `openapi_cases memory` knows with the Nth request for memory that the call makes refused, for N from
+# 1 until a run meets no refusal. Each run that met one must tell `refused: out of memory`, and the last `answered`, by
 # which the program also says that what the call was lent is as it was; and every run must have let go of each block that
 # it took. The last line is `N passed, M failed`, in which each call on a tree counts once.
 #
 # usage: tests/memory.sh [CALL [SAMPLE]]      (with none: each call)
 #
-# The program is the one that `./check` or `rt run` in its folder made.
+# The program is the one that `./check` or `rt run` in crates/openapi_cases made.
 set -eu
 top=$(cd "$(dirname "${BASH_SOURCE[0]}")/.." && pwd)
-program=$top/crates/openapi_memory/out/openapi_memory
+program=$top/crates/openapi_cases/out/openapi_cases
 if [ ! -x "$program" ]; then
   printf 'FAILED: %s is not built\n0 passed, 1 failed\n' "$program"
   exit 1
@@ -24,7 +24,7 @@ refuse_each() {
   local n status told met wanted
   for ((n = 1; ; n++)); do
     status=0
-    told=$(MARKED=1 REFUSE=$n LD_PRELOAD=$work/refuse.so "$program" "$@" 2>&1 9> "$work/said") || status=$?
+    told=$(MARKED=1 REFUSE=$n LD_PRELOAD=$work/refuse.so "$program" memory "$@" 2>&1 9> "$work/said") || status=$?
     met=$(cat "$work/said")
     case $met in
       $'refused\nkept 0') wanted='refused: out of memory' ;;
@@ -52,12 +52,13 @@ count() {
 if [ $# -gt 0 ]; then
   count "$@"
 else
-  for sample in schema responses refused document operation; do
-    for call in from_value copy clone to_value from_node settle to_node; do
+  for sample in schema responses refused document operation tag; do
+    for call in from_value copy clone to_value into_value node_from_json json_from_node from_node settle to_node; do
       # (the refused one is never an object that could be written)
       if [ "$sample $call" != 'refused to_node' ]; then count "$call" "$sample"; fi
     done
   done
+  for sample in schema document tag; do count into_node "$sample"; done
   for call in ref_ boxed_item insert; do count "$call"; done
 fi
 echo "$all requests for memory were refused in all"

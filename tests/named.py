@@ -1,11 +1,12 @@
 #!/usr/bin/env python3
-"""Lists the public functions of the libraries that no test names, and fails where there is one.
+"""Lists the public functions that users call and that no test names, and fails where there is one.
 
-A contract is met as well by a body that always says that memory ran out. So each public function is called once where
-memory is plenty, and its answer is compared. Whether that is so is read off the text of the tests: a function counts as
-named where they call it, a method where they call one of its name on something, and what makes a value of a type
-(`Type::new`) where they call that of the type. Left out are the functions with an empty body, which are laws and
-compute nothing, and the methods of traits, which are called by the functions that need the trait.
+Users call what stands at the root of openapiv3: the functions that it names, and those of the types that it names. A
+contract is met as well by a body that always says that memory ran out. So each of them is called once where memory is
+plenty, and its answer is compared. Whether that is so is read off the text of the tests and of the program that answers
+the cases: a function counts as named where they call it, a method where they call one of its name on something, and what
+makes a value of a type (`Type::new`) where they call that of the type. Left out are the functions with an empty body,
+which are laws and compute nothing, and the methods of traits, which are called by the functions that need the trait.
 
 The last line is `N passed, M failed`.
 """
@@ -14,8 +15,10 @@ import re
 import sys
 
 TOP = os.path.dirname(os.path.dirname(os.path.realpath(__file__)))
-# Crates and modules of tests, and the programs, whose functions are their own.
-NO_LIBRARY = re.compile(r"_vectors$|^openapi_(checks|clean|memory)$")
+# The crates of tests, and the program that answers the cases.
+TESTS = re.compile(r"_vectors$|^openapi_cases$")
+# What the root of openapiv3 names: the crate that it comes from, and its name.
+EXPORT = re.compile(r"^pub use (\w+)::(\w+);$", re.M)
 # An `impl` with the type that it is for; the end of an item; a public function with its indentation and its name, and the
 # word `self` if it is a method. The head of a function may take several lines.
 ITEM = re.compile(
@@ -65,12 +68,17 @@ def is_named(tests, owner, name, is_method):
 
 def main():
     texts = list(sources())
-    tests = "\n".join(text for crate, name, text in texts if crate.endswith("_vectors") or name.endswith("tests.rt"))
+    tests = "\n".join(text for crate, name, text in texts if TESTS.search(crate) or name.endswith("tests.rt"))
+    root = next(text for crate, name, text in texts if (crate, name) == ("openapiv3", "lib.rt"))
+    exports = EXPORT.findall(root)
+    crates, names = {crate for crate, _ in exports}, {name for _, name in exports}
     passed = failed = 0
     for crate, name, text in texts:
-        if NO_LIBRARY.search(crate):
+        if crate not in crates:
             continue
         for owner, function, is_method in functions(text):
+            if (owner or function) not in names:
+                continue
             if is_named(tests, owner, function, is_method):
                 passed += 1
             else:

@@ -1,7 +1,7 @@
 /* Loaded before a program (LD_PRELOAD), it refuses one of the program's requests for memory: the one whose number REFUSE
  * gives, counted from 1. On descriptor 9 it says `refused` as it does.
  *
- * Where MARKED is set, the program makes the four marks of crates/openapi_memory/src/marks.rt, of which each is a request
+ * Where MARKED is set, the program makes the four marks of crates/openapi_cases/src/marks.rt, of which each is a request
  * of a size that nothing else asks for. Then it counts the requests between the second and the third alone, and at the
  * fourth it says `kept` and how many blocks the program holds beyond those that it held at the first. */
 #define _GNU_SOURCE

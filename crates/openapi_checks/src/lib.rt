@@ -1,6 +1,4 @@
-//! What the tests of objects and schemas share: trees from JSON text, with their members in order, and one test for
-//! every object that has a table.
+//! What tests and cases share: trees from JSON text, with their members in order.
 #![tactic(auto)]
 
-pub mod tables;
 pub mod trees;

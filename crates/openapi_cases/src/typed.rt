@@ -1,10 +1,10 @@
-//! The calls of the types of OpenAPI.
+//! The calls of the types of OpenAPI for `tests/memory.sh`.
 
 use crate::marks::{Moment, mark};
 use crate::samples::Sample;
 use crate::told::{Told, told_by, told_by_fault, told_by_value};
 use openapi_checks::trees::{fault_text, tree};
-use openapiv3::{Fault, FromNode, Node, Settle, Steps, ToNode};
+use openapiv3::{Fault, FromNode, IntoNode, Node, Settle, Steps, ToNode};
 use std::test::Fail;
 
 /// What comes of a call that is made on a sample, which is read as a `T`.
@@ -94,4 +94,15 @@ fn write<T: ToNode + Clone + PartialEq + Drop>(
     mark(alloc, Moment::CallEnds)?;
     let told = told_by_tree(rt, answer, sample.cleaned())?;
     Ok(told.if_kept(value, &before))
+}
+
+/// Turns what was read of a tree into the tree that it is written as.
+pub fn into_node<T: IntoNode>(rt: &HostRuntime, sample: Sample) -> Result<Told, Fail> {
+    let alloc = rt.alloc();
+    let mut steps = Steps::new(rt);
+    let value = T::from_node(alloc, &tree(rt, sample.text())?, &mut steps)?;
+    mark(alloc, Moment::CallBegins)?;
+    let answer = value.into_node(alloc);
+    mark(alloc, Moment::CallEnds)?;
+    told_by_tree(rt, answer, sample.cleaned())
 }

@@ -1,4 +1,4 @@
-//! The trees on which calls are made.
+//! The trees on which calls are made for `tests/memory.sh`.
 
 use std::str::FromStr;
 
@@ -15,6 +15,8 @@ pub enum Sample {
     Document,
     /// An Operation Object.
     Operation,
+    /// A Tag Object with extensions.
+    Tag,
 }
 
 impl FromStr for Sample {
@@ -28,6 +30,7 @@ impl FromStr for Sample {
             "refused" => Ok(Sample::Refused),
             "document" => Ok(Sample::Document),
             "operation" => Ok(Sample::Operation),
+            "tag" => Ok(Sample::Tag),
             _ => Err("no such sample"),
         }
     }
@@ -38,6 +41,9 @@ const DOCUMENT: &str =
 
 const OPERATION: &str =
     r#"{"responses":{"default":{"$ref":"def"},"666":{"$ref":"demo"},"418":{"$ref":"demo"}}}"#;
+
+const TAG: &str =
+    r#"{"name":"t","externalDocs":{"url":"u"},"x-b":{"z":[1,null],"a":"q"},"x-a":"a text that takes a block of its own"}"#;
 
 impl Sample {
     /// The tree as JSON text.
@@ -52,6 +58,7 @@ impl Sample {
             }
             Sample::Document => DOCUMENT,
             Sample::Operation => OPERATION,
+            Sample::Tag => TAG,
         }
     }
 
@@ -63,6 +70,7 @@ impl Sample {
             Sample::Refused => Err("missing field `description` at #/200"),
             Sample::Document => Ok(DOCUMENT),
             Sample::Operation => Ok(OPERATION),
+            Sample::Tag => Ok(TAG),
         }
     }
 
@@ -70,9 +78,11 @@ impl Sample {
     pub fn settled(self) -> Result<&'static str, &'static str> {
         match self {
             Sample::Schema => Ok(r#"{"type":"integer"}"#),
-            Sample::Responses | Sample::Refused | Sample::Document | Sample::Operation => {
-                self.cleaned()
-            }
+            Sample::Responses
+            | Sample::Refused
+            | Sample::Document
+            | Sample::Operation
+            | Sample::Tag => self.cleaned(),
         }
     }
 }

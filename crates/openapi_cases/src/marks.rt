@@ -1,4 +1,4 @@
-//! Marks for whoever watches the requests for memory from outside.
+//! Marks for `tests/memory.sh`, which watches the requests for memory from outside.
 
 use std::alloc::{AllocError, Global};
 

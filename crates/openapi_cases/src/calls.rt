@@ -1,13 +1,12 @@
-//! The calls that know nothing of the types of OpenAPI, and those that need no tree.
+//! The calls for `tests/memory.sh`: which one the words name, and those that need no tree.
 
 use crate::marks::{Moment, mark};
 use crate::samples::Sample;
-use crate::told::{Told, told_by, told_by_growth};
-use crate::typed;
+use crate::told::{Told, told_by_growth};
+use crate::{nodes, typed};
 use openapi_checks::trees::tree;
-use openapiv3::{Node, OpenAPI, Operation, OrderedMap, ReferenceOr, Responses, Schema, Steps};
-use serde_json::Value;
-use std::alloc::{AllocError, Global};
+use openapiv3::{Node, OpenAPI, Operation, OrderedMap, ReferenceOr, Responses, Schema, Tag};
+use std::alloc::Global;
 use std::test::Fail;
 
 /// What comes of a call that is made on no sample.
@@ -23,65 +22,27 @@ pub fn alone(rt: &HostRuntime, call: &str) -> Result<Told, Fail> {
 /// What comes of a call that is made on a sample.
 pub fn on_sample(rt: &HostRuntime, call: &str, sample: Sample) -> Result<Told, Fail> {
     match call {
-        "from_value" => from_value(rt, sample.text()),
-        "to_value" => to_value(rt, sample.text()),
-        "copy" => copy(rt, sample.text()),
-        "clone" => clone(rt, sample.text()),
+        "from_value" => nodes::from_value(rt, sample.text()),
+        "to_value" => nodes::to_value(rt, sample.text()),
+        "into_value" => nodes::into_value(rt, sample.text()),
+        "copy" => nodes::copy(rt, sample.text()),
+        "clone" => nodes::clone(rt, sample.text()),
+        "node_from_json" => nodes::node_from_json(rt, sample.text()),
+        "json_from_node" => nodes::json_from_node(rt, sample.text()),
+        "into_node" => match sample {
+            Sample::Schema => typed::into_node::<Schema>(rt, sample),
+            Sample::Document => typed::into_node::<OpenAPI>(rt, sample),
+            Sample::Tag => typed::into_node::<Tag>(rt, sample),
+            _ => Err(Fail::new("no such call of this sample")),
+        },
         _ => match sample {
             Sample::Schema => typed::on_sample::<Schema>(rt, call, sample),
             Sample::Responses | Sample::Refused => typed::on_sample::<Responses>(rt, call, sample),
             Sample::Document => typed::on_sample::<OpenAPI>(rt, call, sample),
             Sample::Operation => typed::on_sample::<Operation>(rt, call, sample),
+            Sample::Tag => typed::on_sample::<Tag>(rt, call, sample),
         },
     }
-}
-
-/// Makes a node of a value.
-fn from_value(rt: &HostRuntime, text: &str) -> Result<Told, Fail> {
-    let alloc = rt.alloc();
-    let value = Value::from_slice(alloc, text.as_bytes())?;
-    let before = value.clone()?;
-    let wanted = tree(rt, text)?;
-    mark(alloc, Moment::CallBegins)?;
-    let answer = Node::from_value(alloc, &value);
-    mark(alloc, Moment::CallEnds)?;
-    Ok(told_by(answer, &wanted).if_kept(&value, &before))
-}
-
-/// Makes a value of a node.
-fn to_value(rt: &HostRuntime, text: &str) -> Result<Told, Fail> {
-    let alloc = rt.alloc();
-    let node = tree(rt, text)?;
-    let before = node.clone()?;
-    let wanted = Value::from_slice(alloc, text.as_bytes())?;
-    let mut steps = Steps::new(rt);
-    mark(alloc, Moment::CallBegins)?;
-    let answer = node.to_value(alloc, &mut steps);
-    mark(alloc, Moment::CallEnds)?;
-    Ok(told_by(answer, &wanted).if_kept(&node, &before))
-}
-
-/// Copies a node, with its looks counted.
-fn copy(rt: &HostRuntime, text: &str) -> Result<Told, Fail> {
-    let alloc = rt.alloc();
-    let node = tree(rt, text)?;
-    let wanted = tree(rt, text)?;
-    let mut steps = Steps::new(rt);
-    mark(alloc, Moment::CallBegins)?;
-    let answer = node.copy(alloc, &mut steps);
-    mark(alloc, Moment::CallEnds)?;
-    Ok(told_by(answer, &wanted).if_kept(&node, &wanted))
-}
-
-/// Clones a node.
-fn clone(rt: &HostRuntime, text: &str) -> Result<Told, Fail> {
-    let alloc = rt.alloc();
-    let node = tree(rt, text)?;
-    let wanted = tree(rt, text)?;
-    mark(alloc, Moment::CallBegins)?;
-    let answer: Result<Node, AllocError> = node.clone();
-    mark(alloc, Moment::CallEnds)?;
-    Ok(told_by_growth(answer, &wanted).if_kept(&node, &wanted))
 }
 
 /// Makes a reference of a text.

@@ -1,4 +1,4 @@
-//! What came of a call.
+//! What came of a call for `tests/memory.sh`.
 
 use openapiv3::{Cause, Fault};
 use std::alloc::AllocError;

@@ -1,0 +1,231 @@
+//! The answer to a case: a line `= ` and what came, or `! ` and the fault that refuses it, each with its end.
+
+use crate::case::Case;
+use crate::empty::written_empty;
+use crate::functions::by_functions;
+use crate::ordered::ordered_text;
+use crate::row::Row;
+use crate::sorts::{operations, sort};
+use crate::table::{expected_of, full_object, other_objects};
+use crate::taken::taken;
+use crate::types::of_type;
+use openapi_checks::trees::tree;
+use openapiv3::{Fault, Node, Settle, Steps, ToNode, json_from_node, node_from_json};
+use std::test::Fail;
+
+/// What is asked of a type.
+#[derive(Clone, Copy)]
+pub enum Ask<'a> {
+    /// What a tree is cleaned to. A clone of what was read has to be equal to it, and what the tree settles to has to stay.
+    Clean(&'a Node),
+    /// What a tree settles to.
+    Settle(&'a Node),
+    /// Whether what is read of what was written is what was read at first.
+    Again(&'a Node),
+    /// Whether the type follows a table.
+    Table(&'a [Row<'a>]),
+    /// What a tree is cleaned to, as JSON text with members in the order of their names.
+    Line(&'a Node),
+}
+
+/// The answer to a case.
+pub fn answer(rt: &HostRuntime, case: &Case<'_>) -> Result<String, Fail> {
+    let (command, rest) = case.request.split_once(' ').unwrap_or((case.request, ""));
+    match command {
+        "json" => json(rt, rest),
+        "sort" => sort(rt, &tree(rt, rest)?),
+        "operations" => operations(rt, &tree(rt, rest)?),
+        "new" => told_if_known(rt, written_empty(rt, rest)),
+        "table" => of_type(rt, rest, Ask::Table(case.rows.as_slice())),
+        _ => match rest.split_once(' ') {
+            Some((name, text)) => typed(rt, command, name, &tree(rt, text)?),
+            None => Ok(String::from_str(rt.alloc(), "! no type and no JSON text\n")?),
+        },
+    }
+}
+
+/// The answer to a command that has a type and a tree.
+fn typed(rt: &HostRuntime, command: &str, name: &str, node: &Node) -> Result<String, Fail> {
+    match command {
+        "clean" => clean(rt, name, node),
+        "settle" => of_type(rt, name, Ask::Settle(node)),
+        "again" => of_type(rt, name, Ask::Again(node)),
+        "take" => told_if_known(rt, taken(rt, name, node)),
+        _ => Ok(String::from_str(rt.alloc(), "! no such command\n")?),
+    }
+}
+
+/// What a tree is cleaned to, by the type and, where there are some, by functions of its own.
+fn clean(rt: &HostRuntime, name: &str, node: &Node) -> Result<String, Fail> {
+    let answer = of_type(rt, name, Ask::Clean(node))?;
+    match by_functions(rt, name, node) {
+        Some(written) => {
+            let other = told(rt, written)?;
+            if other.as_str() == answer.as_str() {
+                Ok(answer)
+            } else {
+                Ok(format!(in rt.alloc();
+                    "{}by its functions {}",
+                    answer.as_str(),
+                    other.as_str()
+                )?)
+            }
+        }
+        None => Ok(answer),
+    }
+}
+
+/// The answer of a tree or a fault.
+pub fn told(rt: &HostRuntime, answer: Result<Node, Fault>) -> Result<String, Fail> {
+    match answer {
+        Ok(node) => Ok(format!(in rt.alloc(); "= {}\n", ordered_text(rt, &node)?.as_str())?),
+        Err(fault) => Ok(format!(in rt.alloc(); "! {fault}\n")?),
+    }
+}
+
+/// The same, where the command has an answer for the type.
+fn told_if_known(rt: &HostRuntime, answer: Option<Result<Node, Fault>>) -> Result<String, Fail> {
+    match answer {
+        Some(answer) => told(rt, answer),
+        None => Ok(String::from_str(rt.alloc(), "! no such type for this command\n")?),
+    }
+}
+
+/// JSON text to a node and back.
+fn json(rt: &HostRuntime, text: &str) -> Result<String, Fail> {
+    match node_from_json(rt.alloc(), text.as_bytes()) {
+        Ok(node) => {
+            let mut steps = Steps::new(rt);
+            let text = json_from_node(rt.alloc(), &node, &mut steps)?;
+            Ok(format!(in rt.alloc(); "= {}\n", text.as_str())?)
+        }
+        Err(fault) => Ok(format!(in rt.alloc(); "! {fault}\n")?),
+    }
+}
+
+/// The answer to a line of standard input: a type, a tab and a JSON text.
+pub fn answer_line(rt: &HostRuntime, line: &str) -> Result<String, Fail> {
+    match line.split_once('\t') {
+        Some((name, text)) => match node_from_json(rt.alloc(), text.as_bytes()) {
+            Ok(node) => of_type(rt, name, Ask::Line(&node)),
+            Err(fault) => Ok(format!(in rt.alloc(); "! {fault}\n")?),
+        },
+        None => Ok(String::from_str(rt.alloc(), "! no tab\n")?),
+    }
+}
+
+/// What a type answers.
+pub fn answer_as<T: ToNode + Clone + PartialEq + Drop>(
+    rt: &HostRuntime,
+    ask: Ask<'_>,
+) -> Result<String, Fail> {
+    match ask {
+        Ask::Clean(node) => cleaned::<T>(rt, node),
+        Ask::Settle(node) => settled::<T>(rt, node),
+        Ask::Again(node) => again::<T>(rt, node),
+        Ask::Table(rows) => follows::<T>(rt, rows),
+        Ask::Line(node) => line::<T>(rt, node),
+    }
+}
+
+/// What a tree is cleaned to, where a clone and the settled tree are as they have to be.
+fn cleaned<T: ToNode + Clone + PartialEq + Drop>(
+    rt: &HostRuntime,
+    node: &Node,
+) -> Result<String, Fail> {
+    let mut steps = Steps::new(rt);
+    match T::from_node(rt.alloc(), node, &mut steps) {
+        Ok(value) => {
+            if !is_its_clone(&value)? {
+                return Ok(String::from_str(rt.alloc(), "its clone is another value\n")?);
+            }
+            if !stays_settled::<T>(rt, node)? {
+                return Ok(String::from_str(rt.alloc(), "settling once more changes it\n")?);
+            }
+            told(rt, value.to_node(rt.alloc()))
+        }
+        Err(fault) => told(rt, Err(fault)),
+    }
+}
+
+/// Whether a value equals its clone.
+fn is_its_clone<T: Clone + PartialEq + Drop>(value: &T) -> Result<bool, Fail> {
+    Ok(value.clone()? == *value)
+}
+
+/// Whether what a tree settles to settles to itself.
+fn stays_settled<T: ToNode + Drop>(rt: &HostRuntime, node: &Node) -> Result<bool, Fail> {
+    let mut steps = Steps::new(rt);
+    let once = T::settle(rt.alloc(), node, &mut steps)?;
+    let twice = T::settle(rt.alloc(), &once, &mut steps)?;
+    Ok(ordered_text(rt, &once)?.as_str() == ordered_text(rt, &twice)?.as_str())
+}
+
+/// What a tree settles to.
+fn settled<T: ToNode + Drop>(rt: &HostRuntime, node: &Node) -> Result<String, Fail> {
+    let mut steps = Steps::new(rt);
+    told(rt, T::settle(rt.alloc(), node, &mut steps))
+}
+
+/// Whether what is read of what was written is what was read at first.
+fn again<T: ToNode + PartialEq + Drop>(rt: &HostRuntime, node: &Node) -> Result<String, Fail> {
+    let mut steps = Steps::new(rt);
+    let first = T::from_node(rt.alloc(), node, &mut steps)?;
+    let second = T::from_node(rt.alloc(), &first.to_node(rt.alloc())?, &mut steps)?;
+    let same = if second == first {
+        "= same\n"
+    } else {
+        "= another\n"
+    };
+    Ok(String::from_str(rt.alloc(), same)?)
+}
+
+/// Nothing where the type follows a table, and else the first object that does not come out as it has to.
+fn follows<T: ToNode + Clone + PartialEq + Drop>(
+    rt: &HostRuntime,
+    rows: &[Row<'_>],
+) -> Result<String, Fail> {
+    for it in expected_of(rt.alloc(), rows)?.iter() {
+        let found = cleaned::<T>(rt, &tree(rt, it.given.as_str())?)?;
+        if found.as_str() != it.wanted.as_str() {
+            let (given, wanted) = (it.given.as_str(), it.wanted.as_str());
+            return Ok(format!(in rt.alloc(); "of {given}\n{}and not {wanted}", found.as_str())?);
+        }
+    }
+    let full = tree(rt, full_object(rt.alloc(), rows)?.as_str())?;
+    for other in other_objects(rt.alloc(), rows)?.iter() {
+        if are_same::<T>(rt, &tree(rt, other.as_str())?, &full)? {
+            return Ok(format!(in rt.alloc(); "the same is read of {}\n", other.as_str())?);
+        }
+    }
+    Ok(String::new(rt.alloc()))
+}
+
+/// Whether two trees are read as the same value.
+fn are_same<T: ToNode + PartialEq + Drop>(
+    rt: &HostRuntime,
+    one: &Node,
+    other: &Node,
+) -> Result<bool, Fail> {
+    let mut steps = Steps::new(rt);
+    let one = T::from_node(rt.alloc(), one, &mut steps)?;
+    let other = T::from_node(rt.alloc(), other, &mut steps)?;
+    Ok(one == other)
+}
+
+/// What a tree is cleaned to as JSON text, or `! ` and the fault that refuses it.
+fn line<T: ToNode + Drop>(rt: &HostRuntime, node: &Node) -> Result<String, Fail> {
+    let mut steps = Steps::new(rt);
+    let written = match T::from_node(rt.alloc(), node, &mut steps) {
+        Ok(value) => value.to_node(rt.alloc()),
+        Err(fault) => Err(fault),
+    };
+    match written {
+        Ok(node) => {
+            let mut text = json_from_node(rt.alloc(), &node, &mut steps)?;
+            text.push('\n')?;
+            Ok(text)
+        }
+        Err(fault) => Ok(format!(in rt.alloc(); "! {fault}\n")?),
+    }
+}

@@ -1,0 +1,103 @@
+//! The calls on nodes, values of `serde_json` and JSON text for `tests/memory.sh`.
+
+use crate::marks::{Moment, mark};
+use crate::told::{Told, told_by, told_by_growth, told_by_value};
+use openapi_checks::trees::tree;
+use openapiv3::{JsonFault, Node, Steps};
+use serde_json::Value;
+use std::alloc::AllocError;
+use std::test::Fail;
+
+/// Makes a node of a value.
+pub fn from_value(rt: &HostRuntime, text: &str) -> Result<Told, Fail> {
+    let alloc = rt.alloc();
+    let value = Value::from_slice(alloc, text.as_bytes())?;
+    let before = value.clone()?;
+    let wanted = tree(rt, text)?;
+    mark(alloc, Moment::CallBegins)?;
+    let answer = Node::from_value(alloc, &value);
+    mark(alloc, Moment::CallEnds)?;
+    Ok(told_by(answer, &wanted).if_kept(&value, &before))
+}
+
+/// Makes a value of a node.
+pub fn to_value(rt: &HostRuntime, text: &str) -> Result<Told, Fail> {
+    let alloc = rt.alloc();
+    let node = tree(rt, text)?;
+    let before = node.clone()?;
+    let wanted = Value::from_slice(alloc, text.as_bytes())?;
+    let mut steps = Steps::new(rt);
+    mark(alloc, Moment::CallBegins)?;
+    let answer = node.to_value(alloc, &mut steps);
+    mark(alloc, Moment::CallEnds)?;
+    Ok(told_by(answer, &wanted).if_kept(&node, &before))
+}
+
+/// Makes a value of a node, which is taken for it.
+pub fn into_value(rt: &HostRuntime, text: &str) -> Result<Told, Fail> {
+    let alloc = rt.alloc();
+    let node = tree(rt, text)?;
+    let wanted = Value::from_slice(alloc, text.as_bytes())?;
+    let mut steps = Steps::new(rt);
+    mark(alloc, Moment::CallBegins)?;
+    let answer = node.into_value(alloc, &mut steps);
+    mark(alloc, Moment::CallEnds)?;
+    Ok(told_by(answer, &wanted))
+}
+
+/// Reads a node of JSON text.
+pub fn node_from_json(rt: &HostRuntime, text: &str) -> Result<Told, Fail> {
+    let alloc = rt.alloc();
+    let wanted = tree(rt, text)?;
+    mark(alloc, Moment::CallBegins)?;
+    let answer = openapiv3::node_from_json(alloc, text.as_bytes());
+    mark(alloc, Moment::CallEnds)?;
+    Ok(match answer {
+        Ok(node) => told_by_value(&node, &wanted),
+        Err(fault) => told_by_json_fault(&fault),
+    })
+}
+
+/// What came of a call that refused JSON text.
+fn told_by_json_fault(fault: &JsonFault) -> Told {
+    match fault {
+        JsonFault::Memory => Told::OutOfMemory,
+        JsonFault::NotJson | JsonFault::NotWhole(_) => Told::Differs("the text is refused"),
+    }
+}
+
+/// Writes a node as JSON text.
+pub fn json_from_node(rt: &HostRuntime, text: &str) -> Result<Told, Fail> {
+    let alloc = rt.alloc();
+    let node = tree(rt, text)?;
+    let before = node.clone()?;
+    let wanted = Value::from_slice(alloc, text.as_bytes())?.to_string(alloc)?;
+    let mut steps = Steps::new(rt);
+    mark(alloc, Moment::CallBegins)?;
+    let answer = openapiv3::json_from_node(alloc, &node, &mut steps);
+    mark(alloc, Moment::CallEnds)?;
+    Ok(told_by_growth(answer, &wanted).if_kept(&node, &before))
+}
+
+/// Copies a node, with its looks counted.
+pub fn copy(rt: &HostRuntime, text: &str) -> Result<Told, Fail> {
+    let alloc = rt.alloc();
+    let node = tree(rt, text)?;
+    let wanted = tree(rt, text)?;
+    let mut steps = Steps::new(rt);
+    mark(alloc, Moment::CallBegins)?;
+    let answer = node.copy(alloc, &mut steps);
+    mark(alloc, Moment::CallEnds)?;
+    Ok(told_by(answer, &wanted).if_kept(&node, &wanted))
+}
+
+/// Clones a node.
+pub fn clone(rt: &HostRuntime, text: &str) -> Result<Told, Fail> {
+    let alloc = rt.alloc();
+    let node = tree(rt, text)?;
+    let wanted = tree(rt, text)?;
+    mark(alloc, Moment::CallBegins)?;
+    let answer: Result<Node, AllocError> = node.clone();
+    mark(alloc, Moment::CallEnds)?;
+    Ok(told_by_growth(answer, &wanted).if_kept(&node, &wanted))
+}

@@ -1,8 +1,11 @@
 #!/usr/bin/env python3
 """Tries the edits that must be refused, and keeps what came of it.
 
-usage: tests/edits.py [--jobs N] [CRATE ..]     tries the edits of these crates, or of each whose verdict is not that of its text
-       tests/edits.py --compare                 tries nothing: tells of each crate whether its verdict is that of its text
+usage: tests/edits.py [--jobs N] [--together N] [CRATE ..]
+           tries the edits of these crates, or of each whose verdict is not that of its text; as many side by side as there are
+           jobs, and at most so many together in one check (12 if left out; of a large crate fewer are quicker, and take less memory)
+       tests/edits.py --compare
+           tries nothing: tells of each crate whether its verdict is that of its text
 
 An edit (edits/CRATE/NAME.edit) turns one meaning of a crate: a line `file:` names a file of the crate, and each pair of
 lines `old:` and `new:` replaces a text that stands in it once. The prover must refuse the crate with the edit. The edits
@@ -41,8 +44,6 @@ VERDICTS = f"{TOP}/edits/verdicts"
 HEAD = "# For each crate: the edits that were refused, the kit, and the hash of its sources, specs, proofs and edits.\n"
 # A line that is a hint on inlining and nothing else.
 INLINING = re.compile(rb"^[ \t]*#\[(?:inline(?:\((?:never|always)\))?|cold)\]\n", re.M)
-# How many edits are tried in one check at the most.
-TOGETHER = 12
 
 
 def the_kit():
@@ -224,8 +225,8 @@ def refusals(said, functions):
 class Trial:
     """The edits of one crate, and those of them that were refused."""
 
-    def __init__(self, kit, crate):
-        self.kit, self.crate, self.name = kit, crate, crate.name
+    def __init__(self, kit, crate, together):
+        self.kit, self.crate, self.name, self.at_most = kit, crate, crate.name, together
         self.text = hash_of(text_of(self.name))
         self.edits, self.lock = edits_of(self.name), threading.Lock()
         self.kept = f"{crate.folder}/out/edits"
@@ -272,7 +273,7 @@ class Trial:
         for edit in edits:
             function = function_of(edit, self.crate.folder)
             key = function.key if function else None
-            room = next((it for it in found if key and None not in it and key not in it and len(it) < TOGETHER), None)
+            room = next((it for it in found if key and None not in it and key not in it and len(it) < self.at_most), None)
             if room is None:
                 room = {}
                 found.append(room)
@@ -326,12 +327,12 @@ class Trial:
         return {edit: (True, f"refused: {found[it][:160]}") for it, (_, edit) in group.items() if it in found}
 
 
-def try_all(names, jobs):
+def try_all(names, jobs, together):
     kit, now = the_kit(), version()
     kit.rtlib.guarded()
     os.chdir(TOP)
     crates = {it.name: it for it in kit.rtlib.crates_below(TOP)}
-    trials = [Trial(kit, crates[it]) for it in names]
+    trials = [Trial(kit, crates[it], together) for it in names]
     todo = queue.SimpleQueue()
     for trial in trials:
         left = trial.left()
@@ -369,13 +370,14 @@ def main():
     asked = argparse.ArgumentParser(description=__doc__, formatter_class=argparse.RawDescriptionHelpFormatter)
     asked.add_argument("--compare", action="store_true")
     asked.add_argument("--jobs", type=int, default=os.cpu_count())
+    asked.add_argument("--together", type=int, default=12)
     asked.add_argument("crates", nargs="*", metavar="CRATE")
     given = asked.parse_args()
     if given.compare:
         return compare()
     found, kit = verdicts(), version()
     changed = [it for it in crates_with_edits() if not is_tried(it, kit, found)]
-    return try_all(given.crates or changed, given.jobs)
+    return try_all(given.crates or changed, given.jobs, given.together)
 
 
 if __name__ == "__main__":

@@ -38,6 +38,15 @@ def cleaned_petstore():
     return json.dumps(tree, sort_keys=True, separators=(",", ":")).encode() + b"\n"
 
 
+def long_document(size):
+    """A document of about that many bytes that is cleaned to itself: no name is unknown, and members stand by their names."""
+    paths, count = {}, size // 80
+    for number in range(count):
+        paths[f"/items/{number:07}"] = {"get": {"responses": {"200": {"description": "An item"}}}}
+    tree = {"info": {"title": "Long", "version": "1"}, "openapi": "3.0.3", "paths": paths}
+    return json.dumps(tree, separators=(",", ":")).encode()
+
+
 # What is asked, the arguments, the input; the status, the output, and what is said on standard error.
 ROWS = [
     ("a tag is cleaned", ["tag"], TAG, 0, CLEAN_TAG, b""),
@@ -133,6 +142,22 @@ def main():
     os.close(folder)
     with open("/dev/full", "wb") as full, open(f"{TOP}/examples/tag.json", "rb") as given:
         compare("an output that fails", outcome(program, ["tag"], stdin=given, stdout=full), (3, None, b"write failed\n"))
+    # where standard error is closed, nothing can be told, and the status is as ever
+    for what, arguments, given, status in (
+        ("no JSON", ["tag"], b"{", 2),
+        ("wrong arguments", [], b"", 2),
+        ("a refusal", ["tag"], b"{}", 1),
+    ):
+        ran = subprocess.run([program, *arguments], input=given, stdout=subprocess.PIPE, preexec_fn=lambda: os.close(2))
+        compare(f"{what}, with standard error closed", (ran.returncode, ran.stdout), (status, b""))
+    folder = os.open(TOP, os.O_RDONLY)
+    ran = subprocess.run([program, "tag"], stdin=folder, stdout=subprocess.PIPE, preexec_fn=lambda: os.close(2))
+    compare("an input that fails, with standard error closed", (ran.returncode, ran.stdout), (3, b""))
+    os.close(folder)
+    # no size is too large
+    given = long_document(4_000_000)
+    came = outcome(program, ["document"], input=given, stdout=subprocess.PIPE)
+    compare("a document of 4 MB", (came[0], came[1] == given + b"\n", came[2]), (0, True, b""))
     # the arguments are looked at before anything is read
     reads, writes = os.pipe()
     compare("wrong arguments are told at once", outcome(program, ["wat"], stdin=reads, stdout=subprocess.PIPE), (2, b"", USAGE))

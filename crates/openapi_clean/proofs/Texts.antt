@@ -10,11 +10,22 @@ use Rattle.openapi_clean.specs.declared.fault.RunFault.TheVariants.{NotJson, Mem
 
 pub tree_of_text : (bytes : List ℕ) (t : Tree) → texts.IsTreeOfText bytes t → IsJsonOf bytes (λ u. t ≡ u)
 tree_of_text bytes t read =
-    record { value = read.value; reads = read.reads; whole_numbers = read.is.whole_numbers; holds = read.is.same }
+    record {
+      utf8 = read.utf8;
+      value = read.value;
+      reads = read.reads;
+      whole_numbers = read.is.whole_numbers;
+      holds = read.is.same;
+    }
 
 pub unread_text : (bytes : List ℕ) (f : JsonFault) (e : RunFault) → e ≡ run_fault_of f → texts.Explains bytes f
     → (e ≡ Memory) ⊎ (((e ≡ NotJson) × IsNoJson bytes) ⊎ HoldsFraction bytes e)
 unread_text bytes unread.NotJson e is why = inr (inl (is, why))
 unread_text bytes (unread.NotWhole f) e is why =
-    inr (inr (record { value = why.0; reads = why.1; names = subst (IsUnwhole why.0) (sym is) why.2 }))
+    inr (inr (record {
+      utf8 = why.0;
+      value = why.1;
+      reads = why.2;
+      names = subst (IsUnwhole why.1) (sym is) why.3;
+    }))
 unread_text bytes unread.Memory e is why = inl is

@@ -24,8 +24,9 @@ use Rattle.openapi_clean.specs.declared.command.Command.TheVariants.{Tag, Schema
 use Rattle.openapi_clean.specs.declared.fault.RunFault.{RunFault}
 use Rattle.openapi_clean.specs.declared.fault.RunFault.TheVariants.{Refused, NotJson, Memory, Read, Write}
 
--- The bytes are JSON whose numbers are all whole, and P holds of their tree.
+-- The bytes are text in UTF-8 and JSON whose numbers are all whole, and P holds of their tree.
 pub record IsJsonOf (bytes : List ℕ) (P : Tree → Type 0) : Type 0 where
+  pub utf8 : IsUtf8 bytes
   pub value : Data
   pub reads : read bytes ≡ Some value
   pub whole_numbers : has_float value ≡ false
@@ -86,8 +87,9 @@ IsUnwhole d Memory = ⊥
 IsUnwhole d Read = ⊥
 IsUnwhole d Write = ⊥
 
--- the bytes are JSON with a number that is not whole, which the refusal names
+-- the bytes are text in UTF-8 and JSON with a number that is not whole, which the refusal names
 pub record HoldsFraction (bytes : List ℕ) (e : RunFault) : Type 0 where
+  pub utf8 : IsUtf8 bytes
   pub value : Data
   pub reads : read bytes ≡ Some value
   pub names : IsUnwhole value e

@@ -78,10 +78,11 @@ fn deeper_text_is_not_json(rt: HostRuntime) -> Result<(), Fail> {
     Ok(())
 }
 
-/// Gives or takes one byte a call, and fails at one call.
+/// Gives or takes at most some bytes a call, and fails at one call.
 #[derive(Drop)]
 struct Halting<T> {
     inner: T,
+    most: usize,
     calls_left: usize,
 }
 
@@ -98,7 +99,7 @@ impl<T> Halting<T> {
 impl<T: Read> Read for Halting<T> {
     fn read(&mut self, buf: &mut [u8]) -> io::Result<usize> {
         self.turn()?;
-        let len = buf.len().min(1);
+        let len = buf.len().min(self.most);
         self.inner.read(&mut buf[..len])
     }
 }
@@ -106,7 +107,7 @@ impl<T: Read> Read for Halting<T> {
 impl<T: Write> Write for Halting<T> {
     fn write(&mut self, buf: &[u8]) -> io::Result<usize> {
         self.turn()?;
-        let len = buf.len().min(1);
+        let len = buf.len().min(self.most);
         self.inner.write(&buf[..len])
     }
 
@@ -120,6 +121,7 @@ fn failing_readers_write_nothing(rt: HostRuntime) -> Result<(), Fail> {
     for call in 1..=TAG.len() + 1 {
         let mut reader = Halting {
             inner: TAG,
+            most: 1,
             calls_left: call,
         };
         let mut written = Vec::new(rt.alloc());
@@ -144,6 +146,7 @@ fn failing_writers_hold_a_beginning(rt: HostRuntime) -> Result<(), Fail> {
         let mut reader = TAG;
         let mut writer = Halting {
             inner: Vec::new(rt.alloc()),
+            most: 1,
             calls_left: call,
         };
         let mut steps = Steps::new(&rt);
@@ -172,5 +175,45 @@ fn full_writers_fail(rt: HostRuntime) -> Result<(), Fail> {
     assert_eq!(rt; fault.status(), 3);
     let text = format!(in rt.alloc(); "{fault}")?;
     assert_eq!(rt; text.as_str(), "write failed");
+    Ok(())
+}
+
+/// A tag without unknown names whose name has that many letters.
+fn long_tag(rt: &HostRuntime, length: usize) -> Result<Vec<u8>, Fail> {
+    let mut bytes = Vec::new(rt.alloc());
+    bytes.extend_from_slice(b"{\"name\":\"")?;
+    for _ in 0..length {
+        bytes.push(b'a')?;
+    }
+    bytes.extend_from_slice(b"\"}")?;
+    Ok(bytes)
+}
+
+// No size of input or output is too large, whatever the pieces that it comes and goes in.
+#[test]
+fn long_inputs_come_and_go_in_pieces(rt: HostRuntime) -> Result<(), Fail> {
+    let input = long_tag(&rt, 200_000)?;
+    let mut reader = Halting {
+        inner: input.as_slice(),
+        most: 1000,
+        calls_left: usize::MAX,
+    };
+    let mut writer = Halting {
+        inner: Vec::new(rt.alloc()),
+        most: 777,
+        calls_left: usize::MAX,
+    };
+    let mut steps = Steps::new(&rt);
+    let ran = run(
+        rt.alloc(),
+        Command::Tag,
+        &mut reader,
+        &mut writer,
+        &mut steps,
+    );
+    assert!(rt; ran.is_ok());
+    let mut wanted = input.clone()?;
+    wanted.push(b'\n')?;
+    assert!(rt; writer.inner.as_slice() == wanted.as_slice());
     Ok(())
 }

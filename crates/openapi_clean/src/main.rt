@@ -59,12 +59,18 @@ fn outcome_of(rt: &HostRuntime) -> Outcome {
     }
 }
 
-fn main(rt: HostRuntime) -> io::Result<ExitCode> {
-    let outcome = outcome_of(&rt);
-    match &outcome {
-        Outcome::Written => {}
-        Outcome::WrongArguments => rt.eprintln(Command::usage())?,
-        Outcome::Failed(fault) => eprintln!(rt; "{fault}")?,
+/// Says on standard error how a run ended, where it has something to say.
+fn tell(rt: &HostRuntime, outcome: &Outcome) -> io::Result<()> {
+    match outcome {
+        Outcome::Written => Ok(()),
+        Outcome::WrongArguments => rt.eprintln(Command::usage()),
+        Outcome::Failed(fault) => eprintln!(rt; "{fault}"),
     }
-    Ok(outcome.exit_code())
+}
+
+fn main(rt: HostRuntime) -> ExitCode {
+    let outcome = outcome_of(&rt);
+    // Where standard error takes nothing, the exit status still tells how the run ended.
+    let _told = tell(&rt, &outcome);
+    outcome.exit_code()
 }

@@ -17,7 +17,7 @@ use std::io::{Read, Write};
 /// The text is made whole before its first byte is written, so on every failure but `Write` nothing was written, and
 /// on `Write` a beginning of the text. `Read` comes where the reader fails or does not end, `NotJson` where the bytes
 /// are no JSON, `Refused` where a number is not whole or the tree does not conform, `Memory` wherever a growth is
-/// refused. What was taken from the reader is gone.
+/// refused. What was taken from the reader is gone; on every failure but `Read` and `Memory` that is all it had.
 pub fn run<R: Read, W: Write>(
     alloc: Global,
     command: Command,
@@ -26,6 +26,8 @@ pub fn run<R: Read, W: Write>(
     steps: &mut Steps,
 ) -> Result<(), RunFault>
     ensures read { OnOk result (IsAtEnd (R.remaining reader.new)) }
+    ensures refused { IfErr result (λ e. e ≢ RunFault.Read → e ≢ RunFault.Memory
+        → IsAtEnd (R.remaining reader.new)) }
 
     ensures written { OnOk result (IfSome (R.remaining reader.old) (λ bytes.
         (line : _) × IsAnswer command bytes line

@@ -53,14 +53,16 @@ pub record ReadsMembers (parsed : Option (json.Members × List Token)) (es : Ent
   pub whole : members_have_float (pairs_data pairs) ≡ false
   pub same : es ≡ map tree_pair pairs
 
--- The text is JSON whose numbers are whole, and the tree is that of its data.
+-- The text is in UTF-8 and JSON whose numbers are whole, and the tree is that of its data.
 pub record IsTreeOfText (text : List ℕ) (t : Tree) : Type 0 where
+  pub utf8 : IsUtf8 text
   pub value : Data
   pub reads : read text ≡ Some value
   pub is : IsTreeOf value t
 
--- why bytes were not read: they are no text in UTF-8 or no JSON, or a number of their data is not whole, or memory ran out
+-- why bytes were not read: they are no text in UTF-8 or no JSON, or they are both and a number of their data is not whole,
+-- or memory ran out
 abbrev pub Explains : List ℕ → JsonFault → Type 0
 Explains bytes NotJson = IsUtf8 bytes → read bytes ≡ None
-Explains bytes (NotWhole f) = (d : Data) × (read bytes ≡ Some d) × IsNotWhole d f
+Explains bytes (NotWhole f) = IsUtf8 bytes × (d : Data) × (read bytes ≡ Some d) × IsNotWhole d f
 Explains bytes Memory = Unit {0}

@@ -7,6 +7,7 @@
 
 pub mod laws;
 
+pub use indexmap::IndexMap;
 pub use openapi_annotations::Discriminator;
 pub use openapi_annotations::ExternalDocumentation;
 pub use openapi_annotations::Xml;
@@ -25,7 +26,11 @@ pub use openapi_documents::Operations;
 pub use openapi_json::JsonFault;
 pub use openapi_json::json_from_node;
 pub use openapi_json::node_from_json;
+pub use openapi_map::IntoIter;
+pub use openapi_map::Iter;
+pub use openapi_map::Keys;
 pub use openapi_map::OrderedMap;
+pub use openapi_map::Values;
 pub use openapi_messages::RequestBody;
 pub use openapi_messages::Response;
 pub use openapi_messages::Responses;
@@ -70,6 +75,7 @@ pub use openapi_records::example_ref_to_node;
 pub use openapi_records::link_ref_from_node;
 pub use openapi_records::link_ref_to_node;
 pub use openapi_rows::FromNode;
+pub use openapi_rows::Referable;
 pub use openapi_rows::ToNode;
 pub use openapi_schema::AdditionalProperties;
 pub use openapi_schema::AnySchema;

@@ -1,9 +1,9 @@
 #!/usr/bin/env python3
 """Asks that the built program needs less than a megabyte of stack for the deepest JSON, which has 127 levels, in each command.
 
-usage: tests/stack.py [PROGRAM]      (with none: the program that `./check` or `./openapi_clean --build` made)
+usage: tests/stack.py [PROGRAM [MOST]]      (with none: the program that `./check` or `./openapi_clean --build` made)
 
-For each shape the least stack is sought, in steps of 16 kB, under which the program ends with status 0. The last line is
+MOST is the most that it may need, in kB, if not 1000: a build without proof is compiled otherwise, and needs more. For each shape the least stack is sought, in steps of 16 kB, under which the program ends with status 0. The last line is
 `N passed, M failed`, in which each command on a shape counts once; the line before it tells the most that any of them needs.
 """
 import json
@@ -86,10 +86,10 @@ def main():
     if not os.access(program, os.X_OK):
         print(f"FAILED: {program} is not built\n0 passed, 1 failed")
         return 1
-    passed, failed, most = 0, 0, 0
+    passed, failed, most, allowed = 0, 0, 0, int(sys.argv[2]) if len(sys.argv) > 2 else MOST
     for command, name, tree in shapes():
         needs = least(program, command, json.dumps(tree).encode())
-        good = needs is not None and needs <= MOST
+        good = needs is not None and needs <= allowed
         passed, failed, most = passed + good, failed + (not good), max(most, needs or 0)
         told = "refused, or needs more than 64 MB" if needs is None else f"{needs:6} kB"
         print(f"{command:10} {name:22} {depth(tree):3} levels  {told}{'' if good else '  FAILED'}", flush=True)

@@ -6,14 +6,22 @@ ghost use Rattle.openapi_node.specs.Place.{named, indexed};
 use std::alloc::{AllocError, Global};
 use std::fmt;
 
-/// A step of a place, from a value to one inside it. It prints as a reference token of a JSON Pointer (RFC 6901).
+/// A name as a reference token of a JSON Pointer (RFC 6901): in print `~` stands as `~0`, and `/` as `~1`.
+#[derive(Clone, Copy, Debug)]
+pub struct ReferenceToken<'a>(pub &'a str);
+
+/// A step of a place, from a value to one inside it. It prints as a reference token of a JSON Pointer.
 #[derive(Debug, Drop, PartialEq)]
 pub enum PlaceStep {
-    /// To the member of an object at that name. In print `~` stands as `~0`, and `/` as `~1`.
+    /// To the member of an object at that name.
     Name(String),
     /// To the value of an array at that index, from 0.
     Index(usize),
 }
+
+/// A place as a JSON Pointer: for each step it prints a `/` and the step, so the empty place prints as nothing.
+#[derive(Clone, Copy, Debug)]
+pub struct Pointer<'a>(pub &'a [PlaceStep]);
 
 /// The kinds of JSON value that a reader may expect.
 #[derive(Clone, Copy, Debug, PartialEq)]
@@ -62,7 +70,7 @@ pub enum Cause {
     Memory,
 }
 
-/// A refusal. It prints as its cause, then ` at #`, then for each step of its place a `/` and the step.
+/// A refusal. It prints as its cause, then ` at #`, then its place as a JSON Pointer.
 #[derive(Debug, Drop, PartialEq)]
 pub struct Fault {
     /// The way from the root that the call was given to the value of which the cause speaks.
@@ -106,6 +114,13 @@ impl Fault {
         ensures { IsMemory result }
     {
         Fault::new(alloc, Cause::Memory)
+    }
+
+    /// The place as a JSON Pointer.
+    pub fn pointer(&self) -> Pointer<'_>
+        ensures { result.0.now ≡ self.now.place.items }
+    {
+        Pointer(self.place.as_slice())
     }
 
     /// The refusal as the object sees it that holds this one's root at a name: its place begins with the name. Want of
@@ -179,32 +194,45 @@ impl fmt::Display for Cause {
     }
 }
 
+impl fmt::Display for ReferenceToken<'_> {
+    fn fmt<W: fmt::Write>(&self, f: &mut fmt::Formatter<W>) -> fmt::Result {
+        for c in self.0.chars() {
+            match c {
+                '~' => write!(f, "~0")?,
+                '/' => write!(f, "~1")?,
+                _ => write!(f, "{c}")?,
+            }
+        }
+        Ok(())
+    }
+}
+
 impl fmt::Display for PlaceStep {
     fn fmt<W: fmt::Write>(&self, f: &mut fmt::Formatter<W>) -> fmt::Result {
         match self {
             PlaceStep::Index(index) => write!(f, "{index}"),
             PlaceStep::Name(name) => {
-                for c in name.as_str().chars() {
-                    match c {
-                        '~' => write!(f, "~0")?,
-                        '/' => write!(f, "~1")?,
-                        _ => write!(f, "{c}")?,
-                    }
-                }
-                Ok(())
+                let token = ReferenceToken(name.as_str());
+                write!(f, "{token}")
             }
         }
+    }
+}
+
+impl fmt::Display for Pointer<'_> {
+    fn fmt<W: fmt::Write>(&self, f: &mut fmt::Formatter<W>) -> fmt::Result {
+        for step in self.0.iter() {
+            write!(f, "/{step}")?;
+        }
+        Ok(())
     }
 }
 
 impl fmt::Display for Fault {
     fn fmt<W: fmt::Write>(&self, f: &mut fmt::Formatter<W>) -> fmt::Result {
         let cause = self.cause;
-        write!(f, "{cause} at #")?;
-        for step in self.place.iter() {
-            write!(f, "/{step}")?;
-        }
-        Ok(())
+        let pointer = self.pointer();
+        write!(f, "{cause} at #{pointer}")
     }
 }
 

@@ -3,7 +3,8 @@ ghost use Rattle.std.specs.Prelude.{◌≡◌, true, IfOk};
 ghost use Rattle.openapi_node.specs.Named.{well_named};
 
 use openapi_node::{
-    Cause, Expected, Fault, Node, OrderedMap, PlaceStep, Steps, View, Whole, copy_shown,
+    Cause, Expected, Fault, Node, OrderedMap, PlaceStep, Pointer, ReferenceToken, Steps, View,
+    Whole, copy_shown,
 };
 use serde_json::Value;
 use std::alloc::{AllocError, Global};
@@ -213,6 +214,53 @@ fn faults_compare_by_place_and_cause(rt: HostRuntime) {
     assert!(rt; fault != Fault::new(alloc, Cause::NotAllowed).at_index(alloc, 0));
     assert!(rt; fault.place.as_slice() == [PlaceStep::Index(0)].as_slice());
     assert!(rt; Fault::memory(alloc).at_index(alloc, 0) == Fault::new(alloc, Cause::Memory));
+}
+
+// The pointers of RFC 6901, section 5, to members of one object.
+#[test]
+fn names_print_as_reference_tokens(rt: HostRuntime) -> Result<(), Fail> {
+    let rows = [
+        ("foo", "foo"),
+        ("", ""),
+        ("a/b", "a~1b"),
+        ("c%d", "c%d"),
+        ("e^f", "e^f"),
+        ("g|h", "g|h"),
+        ("i\\j", "i\\j"),
+        ("k\"l", "k\"l"),
+        (" ", " "),
+        ("m~n", "m~0n"),
+        // (section 4: `~1` is made a `/` before `~0` is made a `~`, so that `~01` becomes `~1`)
+        ("~1", "~01"),
+    ];
+    for (name, token) in rows {
+        let printed = format!(in rt.alloc(); "{}", ReferenceToken(name))?;
+        assert_eq!(rt; printed.as_str(), token);
+    }
+    Ok(())
+}
+
+#[test]
+fn places_print_as_pointers(rt: HostRuntime) -> Result<(), Fail> {
+    let alloc = rt.alloc();
+    let root = Fault::new(alloc, Cause::NotAllowed);
+    assert_eq!(rt; format!(in alloc; "{}", root.pointer())?.as_str(), "");
+    let fault = root
+        .at_index(alloc, 0)
+        .at_name(alloc, "m~n")
+        .at_name(alloc, "a/b");
+    assert_eq!(rt;
+        format!(in alloc; "{}", fault.pointer())?.as_str(),
+        "/a~1b/m~0n/0"
+    );
+    let Some((_, inside)) = fault.place.as_slice().split_first() else {
+        return Err(Fail::from("the place is empty"));
+    };
+    assert_eq!(rt;
+        format!(in alloc; "{}", Pointer(inside))?.as_str(),
+        "/m~0n/0"
+    );
+    Ok(())
 }
 
 #[test]

@@ -71,7 +71,7 @@ def main():
     tests = "\n".join(text for crate, name, text in texts if TESTS.search(crate) or name.endswith("tests.rt"))
     root = next(text for crate, name, text in texts if (crate, name) == ("openapiv3", "lib.rt"))
     exports = EXPORT.findall(root)
-    crates, names = {crate for crate, _ in exports}, {name for _, name in exports}
+    crates, names = {"openapiv3", *(crate for crate, _ in exports)}, {name for _, name in exports}
     passed = failed = 0
     for crate, name, text in texts:
         if crate not in crates:

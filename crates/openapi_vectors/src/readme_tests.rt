@@ -1,6 +1,6 @@
 //! What the example of the README does.
-use crate::readme::{ReadError, read_schema, undeclared};
-use openapi_checks::trees::{check_same, fault_text};
+use crate::readme::{read_schema, undeclared};
+use openapi_checks::trees::check_same;
 use openapiv3::{Schema, Steps};
 use std::test::Fail;
 
@@ -26,13 +26,12 @@ fn readme_example_finds_undeclared_names(rt: HostRuntime) -> Result<(), Fail> {
     }
 }
 
-/// The text of the fault that refuses bytes, or what else came of them.
+/// Why bytes are refused, or what else came of them.
 fn refusal(rt: &HostRuntime, bytes: &[u8]) -> Result<String, Fail> {
     let mut steps = Steps::new(rt);
     match read_schema(rt.alloc(), bytes, &mut steps) {
         Ok(_) => Ok(String::from_str(rt.alloc(), "read")?),
-        Err(ReadError::Json(_)) => Ok(String::from_str(rt.alloc(), "no JSON")?),
-        Err(ReadError::Refused(fault)) => fault_text(rt, &fault),
+        Err(error) => Ok(format!(in rt.alloc(); "{error}")?),
     }
 }
 
@@ -44,5 +43,11 @@ fn readme_example_refuses_what_is_no_schema(rt: HostRuntime) -> Result<(), Fail>
         text.as_str(),
         "invalid type, expected object at #/items",
     )?;
-    check_same(&rt, refusal(&rt, b"{")?.as_str(), "no JSON")
+    check_same(
+        &rt,
+        refusal(&rt, b"{\"minimum\":0.5}")?.as_str(),
+        "number not whole at #/minimum",
+    )?;
+    check_same(&rt, refusal(&rt, b"{")?.as_str(), "not JSON")?;
+    check_same(&rt, refusal(&rt, b"\"\xff\"")?.as_str(), "not JSON")
 }

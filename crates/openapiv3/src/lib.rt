@@ -1,11 +1,12 @@
 //! The typed objects of OpenAPI 3.0.x, each read from a tree and written as one, by the tables of `openapi_tables`.
 //!
-//! A document comes as a [`Node`], a JSON value whose numbers are whole. [`FromNode::from_node`] reads an object of
-//! it, and refuses with a [`Fault`], which names a place and a rule that is broken at that very place.
-//! [`ToNode::to_node`] writes the object.
+//! [`from_json`] reads an object of JSON text. A document that is a [`Node`] already, a JSON value whose numbers are whole,
+//! is read by [`FromNode::from_node`], which refuses with a [`Fault`]: it names a place and a rule that is broken at that
+//! very place. [`ToNode::to_node`] writes the object.
 #![tactic(auto)]
 
 pub mod laws;
+mod read;
 
 pub use indexmap::IndexMap;
 pub use openapi_annotations::Discriminator;
@@ -43,6 +44,8 @@ pub use openapi_node::Expected;
 pub use openapi_node::Fault;
 pub use openapi_node::Node;
 pub use openapi_node::PlaceStep;
+pub use openapi_node::Pointer;
+pub use openapi_node::ReferenceToken;
 pub use openapi_node::Steps;
 pub use openapi_node::View;
 pub use openapi_node::Whole;
@@ -120,3 +123,5 @@ pub use openapi_values::VariantOrUnknown;
 pub use openapi_values::VariantOrUnknownOrEmpty;
 pub use openapi_values::Word;
 pub use openapi_values::is_false;
+pub use read::ReadError;
+pub use read::from_json;

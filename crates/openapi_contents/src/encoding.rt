@@ -10,6 +10,7 @@ ghost use Rattle.openapi_contents.specs.Fields.{encoding_fields};
 use crate::header::Header;
 use crate::read::read_encoding;
 use crate::write::write_encoding;
+use openapi_knots::SchemaObject;
 use openapi_node::{Fault, Node, OrderedMap, Steps, View};
 use openapi_rows::{FromNode, Object, ToNode};
 use openapi_values::{QueryStyle, ReferenceOr};
@@ -18,11 +19,11 @@ use std::alloc::Global;
 /// The Encoding Object (OpenAPI 3.0.3, section 4.7.15): how one property of what is sent is encoded.
 #[cycle(contents)]
 #[derive(Clone, Debug, PartialEq, Drop)]
-pub struct Encoding {
+pub struct Encoding<S> {
     /// The media type of the property, a range of media types, or a list of both. Where it is not said, null is written.
     pub content_type: Option<String>,
     /// More about the property, as the headers of its part, or references to some, by names.
-    pub headers: OrderedMap<ReferenceOr<Header>>,
+    pub headers: OrderedMap<ReferenceOr<Header<S>>>,
     /// How the value of the property is written, as of a parameter in the query.
     pub style: Option<QueryStyle>,
     /// Whether each element or member of the value is a parameter of its own. False by default here, as in the Rust
@@ -34,17 +35,17 @@ pub struct Encoding {
     pub extensions: OrderedMap<Node>,
 }
 
-impl Encoding {
+impl<S> Encoding<S> {
     ghost use Rattle.openapi_contents.specs.declared.encoding.Encoding.{out-Encoding};
 
     /// What nothing is said of.
-    pub fn new(alloc: Global) -> Encoding
-        ensures content_type { (out-Encoding result).content_type ≡ None }
-        ensures headers { (out-Encoding result).headers ≡ [] }
-        ensures style { (out-Encoding result).style ≡ None }
-        ensures explode { (out-Encoding result).explode ≡ false }
-        ensures allow_reserved { (out-Encoding result).allow_reserved ≡ false }
-        ensures extensions { (out-Encoding result).extensions ≡ [] }
+    pub fn new(alloc: Global) -> Encoding<S>
+        ensures content_type { (out-Encoding S result).content_type ≡ None }
+        ensures headers { (out-Encoding S result).headers ≡ [] }
+        ensures style { (out-Encoding S result).style ≡ None }
+        ensures explode { (out-Encoding S result).explode ≡ false }
+        ensures allow_reserved { (out-Encoding S result).allow_reserved ≡ false }
+        ensures extensions { (out-Encoding S result).extensions ≡ [] }
     {
         Encoding {
             content_type: None,
@@ -57,20 +58,20 @@ impl Encoding {
     }
 }
 
-impl Object for Encoding {
+impl<S: SchemaObject> Object for Encoding<S> {
     ghost object = { by encoding };
 
-    ghost slots_of = { record_slots encoding encoding_fields };
+    ghost slots_of = { record_slots encoding (encoding_fields S.form_of) };
 
-    ghost apart = { λ x. final_apart encoding (encoding_fields x) };
+    ghost apart = { λ x. final_apart encoding (encoding_fields S.form_of x) };
 }
 
-impl FromNode for Encoding {
+impl<S: SchemaObject> FromNode for Encoding<S> {
     ghost kind = { by encoding };
 
-    ghost form_of = { encoding_form };
+    ghost form_of = { encoding_form S.form_of };
 
-    fn from_view(alloc: Global, view: &View<'_>, steps: &mut Steps) -> Result<Encoding, Fault> {
+    fn from_view(alloc: Global, view: &View<'_>, steps: &mut Steps) -> Result<Encoding<S>, Fault> {
         read_encoding(alloc, view, steps)
     }
 
@@ -79,7 +80,7 @@ impl FromNode for Encoding {
     ghost well_made = { refl };
 }
 
-impl ToNode for Encoding {
+impl<S: SchemaObject> ToNode for Encoding<S> {
     fn to_node(&self, alloc: Global) -> Result<Node, Fault> {
         write_encoding(alloc, self)
     }

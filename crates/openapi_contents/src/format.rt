@@ -10,10 +10,9 @@ ghost use Rattle.openapi_contents.specs.Fields.{format_fields};
 use crate::media_type::Content;
 use crate::read::read_format;
 use crate::write::write_format;
-use openapi_knots::put_decided;
+use openapi_knots::{SchemaObject, put_decided};
 use openapi_node::{Fault, Node, OrderedMap, Steps, View};
 use openapi_rows::{FromNode, Object, Record, ToNode, read_record, write_record};
-use openapi_schema::Schema;
 use openapi_values::ReferenceOr;
 use std::alloc::Global;
 
@@ -21,16 +20,16 @@ use std::alloc::Global;
 /// An object that has both is read by the one that stands first in it.
 #[cycle(contents)]
 #[derive(Clone, Debug, PartialEq, Drop)]
-pub enum ParameterSchemaOrContent {
+pub enum ParameterSchemaOrContent<S> {
     /// `schema`: the schema of the type, or a reference to one.
-    Schema(ReferenceOr<Schema>),
+    Schema(ReferenceOr<S>),
     /// `content`: the media type, with what describes it. OpenAPI wants exactly one entry, which is not checked.
-    Content(Content),
+    Content(Content<S>),
 }
 
 /// The name of the member that a parameter or a header is described by.
-pub fn format_name(format: &ParameterSchemaOrContent) -> &'static str
-    ensures { result.now ≡ deciding_name (format_form format.now) }
+pub fn format_name<S: SchemaObject>(format: &ParameterSchemaOrContent<S>) -> &'static str
+    ensures { result.now ≡ deciding_name (format_form S.form_of format.now) }
 {
     match format {
         ParameterSchemaOrContent::Schema(_) => "schema",
@@ -38,23 +37,23 @@ pub fn format_name(format: &ParameterSchemaOrContent) -> &'static str
     }
 }
 
-impl Object for ParameterSchemaOrContent {
+impl<S: SchemaObject> Object for ParameterSchemaOrContent<S> {
     ghost object = { by schema_or_content };
 
-    ghost slots_of = { record_slots schema_or_content format_fields };
+    ghost slots_of = { record_slots schema_or_content (format_fields S.form_of) };
 
-    ghost apart = { λ x. final_apart schema_or_content (format_fields x) };
+    ghost apart = { λ x. final_apart schema_or_content (format_fields S.form_of x) };
 }
 
 #[tactic(auto, unfolding(openapi_tables::specs::Tables::final_tables, openapi_tables::specs::Tables::tables_with))]
-impl Record for ParameterSchemaOrContent {
-    ghost rows_of = { format_fields };
+impl<S: SchemaObject> Record for ParameterSchemaOrContent<S> {
+    ghost rows_of = { format_fields S.form_of };
 
     fn from_members(
         alloc: Global,
         members: &OrderedMap<Node>,
         steps: &mut Steps,
-    ) -> Result<ParameterSchemaOrContent, Fault> {
+    ) -> Result<ParameterSchemaOrContent<S>, Fault> {
         read_format(alloc, members, steps)
     }
 
@@ -75,16 +74,16 @@ impl Record for ParameterSchemaOrContent {
 }
 
 /// Reads an object by the first of its members that is called `schema` or `content`.
-impl FromNode for ParameterSchemaOrContent {
+impl<S: SchemaObject> FromNode for ParameterSchemaOrContent<S> {
     ghost kind = { by schema_or_content };
 
-    ghost form_of = { record_form format_fields };
+    ghost form_of = { record_form (format_fields S.form_of) };
 
     fn from_view(
         alloc: Global,
         view: &View<'_>,
         steps: &mut Steps,
-    ) -> Result<ParameterSchemaOrContent, Fault> {
+    ) -> Result<ParameterSchemaOrContent<S>, Fault> {
         read_record(alloc, view, steps)
     }
 
@@ -94,7 +93,7 @@ impl FromNode for ParameterSchemaOrContent {
 }
 
 /// Writes an object with one member.
-impl ToNode for ParameterSchemaOrContent {
+impl<S: SchemaObject> ToNode for ParameterSchemaOrContent<S> {
     fn to_node(&self, alloc: Global) -> Result<Node, Fault> {
         write_record(alloc, self)
     }

@@ -14,6 +14,7 @@ ghost use Rattle.openapi_contents.specs.Fields.{header_fields};
 use crate::format::ParameterSchemaOrContent;
 use crate::read::read_header;
 use crate::write::write_header;
+use openapi_knots::SchemaObject;
 use openapi_node::{Fault, Node, OrderedMap, Steps, View};
 use openapi_records::Example;
 use openapi_rows::{FromNode, Object, Referable, ToNode};
@@ -24,7 +25,7 @@ use std::alloc::Global;
 /// parameter in a header is, but for its name, which stands before it.
 #[cycle(contents)]
 #[derive(Clone, Debug, PartialEq, Drop)]
-pub struct Header {
+pub struct Header<S> {
     /// A description of the header, in CommonMark.
     pub description: Option<String>,
     /// How the value is written in the header. `simple` by default, which is written too.
@@ -36,27 +37,27 @@ pub struct Header {
     /// An example of the value. It excludes `examples`, which is not checked.
     pub example: Option<Node>,
     /// What the value is like: `schema` or `content`. Required here, as in the Rust crate.
-    pub format: ParameterSchemaOrContent,
+    pub format: ParameterSchemaOrContent<S>,
     /// Examples of the value, or references to some, by names. They exclude `example`, which is not checked.
     pub examples: OrderedMap<ReferenceOr<Example>>,
     /// Extensions: the members whose names begin with `x-`, in their order.
     pub extensions: OrderedMap<Node>,
 }
 
-impl Object for Header {
+impl<S: SchemaObject> Object for Header<S> {
     ghost object = { by header };
 
-    ghost slots_of = { record_slots header header_fields };
+    ghost slots_of = { record_slots header (header_fields S.form_of) };
 
-    ghost apart = { λ x. final_apart header (header_fields x) };
+    ghost apart = { λ x. final_apart header (header_fields S.form_of x) };
 }
 
-impl FromNode for Header {
+impl<S: SchemaObject> FromNode for Header<S> {
     ghost kind = { by header };
 
-    ghost form_of = { header_form };
+    ghost form_of = { header_form S.form_of };
 
-    fn from_view(alloc: Global, view: &View<'_>, steps: &mut Steps) -> Result<Header, Fault> {
+    fn from_view(alloc: Global, view: &View<'_>, steps: &mut Steps) -> Result<Header<S>, Fault> {
         read_header(alloc, view, steps)
     }
 
@@ -65,7 +66,7 @@ impl FromNode for Header {
     ghost well_made = { refl };
 }
 
-impl ToNode for Header {
+impl<S: SchemaObject> ToNode for Header<S> {
     fn to_node(&self, alloc: Global) -> Result<Node, Fault> {
         write_header(alloc, self)
     }
@@ -73,7 +74,7 @@ impl ToNode for Header {
     ghost there = { λ x. refl };
 }
 
-impl Referable for Header {
+impl<S: SchemaObject> Referable for Header<S> {
     ghost direct = { refl };
 
     ghost spares_ref = { header_spares };
@@ -81,12 +82,12 @@ impl Referable for Header {
 
 /// Reads a header or a reference to one. Err names a rule that the tree breaks, at its place, or says that memory ran
 /// out.
-pub fn header_ref_from_node(
+pub fn header_ref_from_node<S: SchemaObject>(
     alloc: Global,
     node: &Node,
     steps: &mut Steps,
-) -> Result<ReferenceOr<Header>, Fault>
-    ensures reads { Gives (reference_form header_form) result (ref_to (by header)) node.now }
+) -> Result<ReferenceOr<Header<S>>, Fault>
+    ensures reads { Gives (reference_form (header_form S.form_of)) result (ref_to (by header)) node.now }
     ensures refuses { Refuses result (ref_to (by header)) node.now }
     ensures rises { steps.old + 1 ≤ steps.new }
     ensures count { steps.new ≤ steps.old + 3 * size_of node.now }
@@ -96,8 +97,11 @@ pub fn header_ref_from_node(
 
 /// Writes a header or a reference to one. Err at a name of an extension that does not begin with `x-`, or for want of
 /// memory.
-pub fn header_ref_to_node(alloc: Global, value: &ReferenceOr<Header>) -> Result<Node, Fault>
-    ensures { WrittenAs (ref_to (by header)) (reference_form header_form value.now) result }
+pub fn header_ref_to_node<S: SchemaObject>(
+    alloc: Global,
+    value: &ReferenceOr<Header<S>>,
+) -> Result<Node, Fault>
+    ensures { WrittenAs (ref_to (by header)) (reference_form (header_form S.form_of) value.now) result }
 {
     value.to_node(alloc)
 }

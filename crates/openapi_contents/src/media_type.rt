@@ -13,42 +13,42 @@ ghost use Rattle.openapi_contents.specs.Fields.{media_type_fields};
 use crate::encoding::Encoding;
 use crate::read::read_media_type;
 use crate::write::write_media_type;
+use openapi_knots::SchemaObject;
 use openapi_node::{Fault, Node, OrderedMap, Steps, View};
 use openapi_records::Example;
 use openapi_rows::{FromNode, Object, ToNode};
-use openapi_schema::Schema;
 use openapi_values::ReferenceOr;
 use std::alloc::Global;
 
 /// What a parameter, a header, a body or a response holds: Media Type Objects by their media types or ranges of these.
-pub type Content = OrderedMap<MediaType>;
+pub type Content<S> = OrderedMap<MediaType<S>>;
 
 /// The Media Type Object (OpenAPI 3.0.3, section 4.7.14): what is sent as one media type.
 #[cycle(contents)]
 #[derive(Clone, Debug, PartialEq, Drop)]
-pub struct MediaType {
+pub struct MediaType<S> {
     /// An example of what is sent. It excludes `examples`, which is not checked.
     pub example: Option<Node>,
     /// Examples of what is sent, or references to some, by names. They exclude `example`, which is not checked.
     pub examples: OrderedMap<ReferenceOr<Example>>,
     /// How the properties of the schema are encoded, by their names.
-    pub encoding: OrderedMap<Encoding>,
+    pub encoding: OrderedMap<Encoding<S>>,
     /// Extensions: the members whose names begin with `x-`, in their order.
     pub extensions: OrderedMap<Node>,
     /// The schema of what is sent, or a reference to one.
-    pub schema: Option<ReferenceOr<Schema>>,
+    pub schema: Option<ReferenceOr<S>>,
 }
 
-impl MediaType {
+impl<S> MediaType<S> {
     ghost use Rattle.openapi_contents.specs.declared.media_type.MediaType.{out-MediaType};
 
     /// Nothing of what is sent.
-    pub fn new(alloc: Global) -> MediaType
-        ensures schema { (out-MediaType result).schema ≡ None }
-        ensures example { (out-MediaType result).example ≡ None }
-        ensures examples { (out-MediaType result).examples ≡ [] }
-        ensures encoding { (out-MediaType result).encoding ≡ [] }
-        ensures extensions { (out-MediaType result).extensions ≡ [] }
+    pub fn new(alloc: Global) -> MediaType<S>
+        ensures schema { (out-MediaType S result).schema ≡ None }
+        ensures example { (out-MediaType S result).example ≡ None }
+        ensures examples { (out-MediaType S result).examples ≡ [] }
+        ensures encoding { (out-MediaType S result).encoding ≡ [] }
+        ensures extensions { (out-MediaType S result).extensions ≡ [] }
     {
         MediaType {
             schema: None,
@@ -60,20 +60,20 @@ impl MediaType {
     }
 }
 
-impl Object for MediaType {
+impl<S: SchemaObject> Object for MediaType<S> {
     ghost object = { by media_type };
 
-    ghost slots_of = { record_slots media_type media_type_fields };
+    ghost slots_of = { record_slots media_type (media_type_fields S.form_of) };
 
-    ghost apart = { λ x. final_apart media_type (media_type_fields x) };
+    ghost apart = { λ x. final_apart media_type (media_type_fields S.form_of x) };
 }
 
-impl FromNode for MediaType {
+impl<S: SchemaObject> FromNode for MediaType<S> {
     ghost kind = { by media_type };
 
-    ghost form_of = { media_type_form };
+    ghost form_of = { media_type_form S.form_of };
 
-    fn from_view(alloc: Global, view: &View<'_>, steps: &mut Steps) -> Result<MediaType, Fault> {
+    fn from_view(alloc: Global, view: &View<'_>, steps: &mut Steps) -> Result<MediaType<S>, Fault> {
         read_media_type(alloc, view, steps)
     }
 
@@ -82,7 +82,7 @@ impl FromNode for MediaType {
     ghost well_made = { refl };
 }
 
-impl ToNode for MediaType {
+impl<S: SchemaObject> ToNode for MediaType<S> {
     fn to_node(&self, alloc: Global) -> Result<Node, Fault> {
         write_media_type(alloc, self)
     }
@@ -92,18 +92,22 @@ impl ToNode for MediaType {
 
 /// Reads a content: an object whose members are all Media Type Objects. Err names a rule that the tree breaks, at its
 /// place, or says that memory ran out.
-pub fn content_from_node(alloc: Global, node: &Node, steps: &mut Steps) -> Result<Content, Fault>
-    ensures reads { Gives (map_form media_type_form) result content node.now }
+pub fn content_from_node<S: SchemaObject>(
+    alloc: Global,
+    node: &Node,
+    steps: &mut Steps,
+) -> Result<Content<S>, Fault>
+    ensures reads { Gives (map_form (media_type_form S.form_of)) result content node.now }
     ensures refuses { Refuses result content node.now }
     ensures rises { steps.old + 1 ≤ steps.new }
     ensures count { steps.new ≤ steps.old + 3 * size_of node.now }
 {
-    Content::from_node(alloc, node, steps)
+    Content::<S>::from_node(alloc, node, steps)
 }
 
 /// Writes a content. Err at a name of an extension that does not begin with `x-`, or for want of memory.
-pub fn content_to_node(alloc: Global, value: &Content) -> Result<Node, Fault>
-    ensures { WrittenAs content (map_form media_type_form value.now) result }
+pub fn content_to_node<S: SchemaObject>(alloc: Global, value: &Content<S>) -> Result<Node, Fault>
+    ensures { WrittenAs content (map_form (media_type_form S.form_of) value.now) result }
 {
     value.to_node(alloc)
 }

@@ -18,7 +18,7 @@ use crate::encoding::Encoding;
 use crate::format::ParameterSchemaOrContent;
 use crate::header::Header;
 use crate::media_type::{Content, MediaType};
-use openapi_knots::{members_shown, put_read};
+use openapi_knots::{SchemaObject, members_shown, put_read};
 use openapi_node::{Fault, Node, OrderedMap, Steps, View, find_member};
 use openapi_rows::{
     Either, FromNode, at_name, decider, extensions, nullable, optional, or_implied, read_reference,
@@ -28,12 +28,12 @@ use std::alloc::Global;
 
 /// Reads a header or a reference to one. An object with a text under `$ref` is a reference, whatever else it has.
 #[cycle(read)]
-fn read_header_ref(
+fn read_header_ref<S: SchemaObject>(
     alloc: Global,
     view: &View<'_>,
     steps: &mut Steps,
-) -> Result<ReferenceOr<Header>, Fault>
-    ensures reads { Gives (reference_form header_form) result (kinds.ref_to (kinds.by kinds.header)) (shown view.now) }
+) -> Result<ReferenceOr<Header<S>>, Fault>
+    ensures reads { Gives (reference_form (header_form S.form_of)) result (kinds.ref_to (kinds.by kinds.header)) (shown view.now) }
     ensures rises { steps.old ≤ steps.new }
     ensures count { steps.new + 2 ≤ steps.old + 3 * size_of (shown view.now) }
 {
@@ -51,12 +51,12 @@ fn read_header_ref(
 
 /// Reads a header.
 #[cycle(read)]
-pub(crate) fn read_header(
+pub(crate) fn read_header<S: SchemaObject>(
     alloc: Global,
     view: &View<'_>,
     steps: &mut Steps,
-) -> Result<Header, Fault>
-    ensures reads { Gives header_form result (kinds.by kinds.header) (shown view.now) }
+) -> Result<Header<S>, Fault>
+    ensures reads { Gives (header_form S.form_of) result (kinds.by kinds.header) (shown view.now) }
     ensures rises { steps.old ≤ steps.new }
     ensures count { steps.new + 3 ≤ steps.old + 3 * size_of (shown view.now) }
 {
@@ -69,19 +69,23 @@ pub(crate) fn read_header(
 /// Reads a header among the members of an object, what is plain first and what is large last.
 #[cycle(read)]
 #[tactic(auto, unfolding(openapi_tables::specs::Tables::final_tables, openapi_tables::specs::Tables::tables_with))]
-fn header_of(alloc: Global, members: &OrderedMap<Node>, steps: &mut Steps) -> Result<Header, Fault>
-    ensures reads { GivesRows header_fields result (kinds.by kinds.header) (members_of members.now) }
+fn header_of<S: SchemaObject>(
+    alloc: Global,
+    members: &OrderedMap<Node>,
+    steps: &mut Steps,
+) -> Result<Header<S>, Fault>
+    ensures reads { GivesRows (header_fields S.form_of) result (kinds.by kinds.header) (members_of members.now) }
     ensures rises { steps.old ≤ steps.new }
     ensures count { steps.new ≤ steps.old + 3 * rows_weight (rows_asked final_tables (kinds.by kinds.header))
         (members_of members.now) }
 {
-    let style = or_implied::<Header, _>(alloc, members, "style", steps)?;
-    let required = or_implied::<Header, _>(alloc, members, "required", steps)?;
-    let deprecated = optional::<Header, _>(alloc, members, "deprecated", steps)?;
-    let description = optional::<Header, _>(alloc, members, "description", steps)?;
-    let example = optional::<Header, _>(alloc, members, "example", steps)?;
-    let examples = or_implied::<Header, _>(alloc, members, "examples", steps)?;
-    let extensions = extensions::<Header>(alloc, members, steps)?;
+    let style = or_implied::<Header<S>, _>(alloc, members, "style", steps)?;
+    let required = or_implied::<Header<S>, _>(alloc, members, "required", steps)?;
+    let deprecated = optional::<Header<S>, _>(alloc, members, "deprecated", steps)?;
+    let description = optional::<Header<S>, _>(alloc, members, "description", steps)?;
+    let example = optional::<Header<S>, _>(alloc, members, "example", steps)?;
+    let examples = or_implied::<Header<S>, _>(alloc, members, "examples", steps)?;
+    let extensions = extensions::<Header<S>>(alloc, members, steps)?;
     let format = read_format(alloc, members, steps)?;
     Ok(Header {
         description,
@@ -98,14 +102,14 @@ fn header_of(alloc: Global, members: &OrderedMap<Node>, steps: &mut Steps) -> Re
 /// Reads what a parameter or a header is like, among the members of an object: `schema` or `content`. Where both are
 /// there, the one that stands first decides, and the other one is not looked at.
 #[cycle(read)]
-pub fn read_format(
+pub fn read_format<S: SchemaObject>(
     alloc: Global,
     members: &OrderedMap<Node>,
     steps: &mut Steps,
-) -> Result<ParameterSchemaOrContent, Fault>
+) -> Result<ParameterSchemaOrContent<S>, Fault>
     ensures reads { (o : Kind) → is_by o ≡ true
         → row_where (is_named (codes "schema")) (rows_asked final_tables o) ≡ Some format_row
-        → GivesRow format_form result o format_row (members_of members.now) }
+        → GivesRow (format_form S.form_of) result o format_row (members_of members.now) }
     ensures rises { steps.old ≤ steps.new }
     ensures count { steps.new ≤ steps.old + 3 * row_weight format_row (members_of members.now) }
 {
@@ -129,8 +133,12 @@ pub fn read_format(
 
 /// Reads a content.
 #[cycle(read)]
-fn read_content(alloc: Global, view: &View<'_>, steps: &mut Steps) -> Result<Content, Fault>
-    ensures reads { Gives (map_form media_type_form) result content (shown view.now) }
+fn read_content<S: SchemaObject>(
+    alloc: Global,
+    view: &View<'_>,
+    steps: &mut Steps,
+) -> Result<Content<S>, Fault>
+    ensures reads { Gives (map_form (media_type_form S.form_of)) result content (shown view.now) }
     ensures rises { steps.old ≤ steps.new }
     ensures count { steps.new + 3 ≤ steps.old + 3 * size_of (shown view.now) }
 {
@@ -142,12 +150,12 @@ fn read_content(alloc: Global, view: &View<'_>, steps: &mut Steps) -> Result<Con
 
 /// The media types among the members of an object, in order.
 #[cycle(read)]
-fn media_types_of(
+fn media_types_of<S: SchemaObject>(
     alloc: Global,
     members: &OrderedMap<Node>,
     steps: &mut Steps,
-) -> Result<Content, Fault>
-    ensures reads { Gives (map_form media_type_form) result content
+) -> Result<Content<S>, Fault>
+    ensures reads { Gives (map_form (media_type_form S.form_of)) result content
         (object (members_of members.now)) }
     ensures rises { steps.old ≤ steps.new }
     ensures count { steps.new ≤ steps.old + 3 * members_size (members_of members.now) }
@@ -171,12 +179,12 @@ fn media_types_of(
 
 /// Reads a media type.
 #[cycle(read)]
-pub(crate) fn read_media_type(
+pub(crate) fn read_media_type<S: SchemaObject>(
     alloc: Global,
     view: &View<'_>,
     steps: &mut Steps,
-) -> Result<MediaType, Fault>
-    ensures reads { Gives media_type_form result (kinds.by kinds.media_type) (shown view.now) }
+) -> Result<MediaType<S>, Fault>
+    ensures reads { Gives (media_type_form S.form_of) result (kinds.by kinds.media_type) (shown view.now) }
     ensures rises { steps.old ≤ steps.new }
     ensures count { steps.new + 3 ≤ steps.old + 3 * size_of (shown view.now) }
 {
@@ -189,21 +197,21 @@ pub(crate) fn read_media_type(
 /// Reads a media type among the members of an object, what is large last.
 #[cycle(read)]
 #[tactic(auto, unfolding(openapi_tables::specs::Tables::final_tables, openapi_tables::specs::Tables::tables_with))]
-fn media_type_of(
+fn media_type_of<S: SchemaObject>(
     alloc: Global,
     members: &OrderedMap<Node>,
     steps: &mut Steps,
-) -> Result<MediaType, Fault>
-    ensures reads { GivesRows media_type_fields result (kinds.by kinds.media_type) (members_of members.now) }
+) -> Result<MediaType<S>, Fault>
+    ensures reads { GivesRows (media_type_fields S.form_of) result (kinds.by kinds.media_type) (members_of members.now) }
     ensures rises { steps.old ≤ steps.new }
     ensures count { steps.new ≤ steps.old + 3 * rows_weight (rows_asked final_tables (kinds.by kinds.media_type))
         (members_of members.now) }
 {
-    let example = optional::<MediaType, _>(alloc, members, "example", steps)?;
-    let examples = or_implied::<MediaType, _>(alloc, members, "examples", steps)?;
+    let example = optional::<MediaType<S>, _>(alloc, members, "example", steps)?;
+    let examples = or_implied::<MediaType<S>, _>(alloc, members, "examples", steps)?;
     let encoding = read_encodings(alloc, members, steps)?;
-    let extensions = extensions::<MediaType>(alloc, members, steps)?;
-    let schema = optional::<MediaType, _>(alloc, members, "schema", steps)?;
+    let extensions = extensions::<MediaType<S>>(alloc, members, steps)?;
+    let schema = optional::<MediaType<S>, _>(alloc, members, "schema", steps)?;
     Ok(MediaType {
         schema,
         example,
@@ -215,12 +223,12 @@ fn media_type_of(
 
 /// The encodings of a media type, by the names of properties; none where `encoding` is missing.
 #[cycle(read)]
-fn read_encodings(
+fn read_encodings<S: SchemaObject>(
     alloc: Global,
     members: &OrderedMap<Node>,
     steps: &mut Steps,
-) -> Result<OrderedMap<Encoding>, Fault>
-    ensures reads { GivesRow (map_form encoding_form) result (kinds.by kinds.media_type)
+) -> Result<OrderedMap<Encoding<S>>, Fault>
+    ensures reads { GivesRow (map_form (encoding_form S.form_of)) result (kinds.by kinds.media_type)
         (kinds.row (codes "encoding") kinds.listed (kinds.map_of (kinds.by kinds.encoding))) (members_of members.now) }
     ensures rises { steps.old ≤ steps.new }
     ensures count { steps.new ≤ steps.old + 3 * row_weight
@@ -237,12 +245,12 @@ fn read_encodings(
 
 /// The encodings of a map.
 #[cycle(read)]
-fn encodings_in(
+fn encodings_in<S: SchemaObject>(
     alloc: Global,
     view: &View<'_>,
     steps: &mut Steps,
-) -> Result<OrderedMap<Encoding>, Fault>
-    ensures reads { Gives (map_form encoding_form) result (kinds.map_of (kinds.by kinds.encoding)) (shown view.now) }
+) -> Result<OrderedMap<Encoding<S>>, Fault>
+    ensures reads { Gives (map_form (encoding_form S.form_of)) result (kinds.map_of (kinds.by kinds.encoding)) (shown view.now) }
     ensures rises { steps.old ≤ steps.new }
     ensures count { steps.new + 3 ≤ steps.old + 3 * size_of (shown view.now) }
 {
@@ -254,12 +262,12 @@ fn encodings_in(
 
 /// The encodings among the members of an object, in order.
 #[cycle(read)]
-fn encodings_of(
+fn encodings_of<S: SchemaObject>(
     alloc: Global,
     members: &OrderedMap<Node>,
     steps: &mut Steps,
-) -> Result<OrderedMap<Encoding>, Fault>
-    ensures reads { Gives (map_form encoding_form) result (kinds.map_of (kinds.by kinds.encoding))
+) -> Result<OrderedMap<Encoding<S>>, Fault>
+    ensures reads { Gives (map_form (encoding_form S.form_of)) result (kinds.map_of (kinds.by kinds.encoding))
         (object (members_of members.now)) }
     ensures rises { steps.old ≤ steps.new }
     ensures count { steps.new ≤ steps.old + 3 * members_size (members_of members.now) }
@@ -283,12 +291,12 @@ fn encodings_of(
 
 /// Reads an encoding.
 #[cycle(read)]
-pub(crate) fn read_encoding(
+pub(crate) fn read_encoding<S: SchemaObject>(
     alloc: Global,
     view: &View<'_>,
     steps: &mut Steps,
-) -> Result<Encoding, Fault>
-    ensures reads { Gives encoding_form result (kinds.by kinds.encoding) (shown view.now) }
+) -> Result<Encoding<S>, Fault>
+    ensures reads { Gives (encoding_form S.form_of) result (kinds.by kinds.encoding) (shown view.now) }
     ensures rises { steps.old ≤ steps.new }
     ensures count { steps.new + 3 ≤ steps.old + 3 * size_of (shown view.now) }
 {
@@ -301,22 +309,22 @@ pub(crate) fn read_encoding(
 /// Reads an encoding among the members of an object, what is plain first.
 #[cycle(read)]
 #[tactic(auto, unfolding(openapi_tables::specs::Tables::final_tables, openapi_tables::specs::Tables::tables_with))]
-fn encoding_of(
+fn encoding_of<S: SchemaObject>(
     alloc: Global,
     members: &OrderedMap<Node>,
     steps: &mut Steps,
-) -> Result<Encoding, Fault>
-    ensures reads { GivesRows encoding_fields result (kinds.by kinds.encoding) (members_of members.now) }
+) -> Result<Encoding<S>, Fault>
+    ensures reads { GivesRows (encoding_fields S.form_of) result (kinds.by kinds.encoding) (members_of members.now) }
     ensures rises { steps.old ≤ steps.new }
     ensures count { steps.new ≤ steps.old + 3 * rows_weight (rows_asked final_tables (kinds.by kinds.encoding))
         (members_of members.now) }
 {
-    let style = optional::<Encoding, _>(alloc, members, "style", steps)?;
-    let explode = or_implied::<Encoding, _>(alloc, members, "explode", steps)?;
-    let allow_reserved = or_implied::<Encoding, _>(alloc, members, "allowReserved", steps)?;
-    let content_type = nullable::<Encoding, _>(alloc, members, "contentType", steps)?;
+    let style = optional::<Encoding<S>, _>(alloc, members, "style", steps)?;
+    let explode = or_implied::<Encoding<S>, _>(alloc, members, "explode", steps)?;
+    let allow_reserved = or_implied::<Encoding<S>, _>(alloc, members, "allowReserved", steps)?;
+    let content_type = nullable::<Encoding<S>, _>(alloc, members, "contentType", steps)?;
     let headers = read_headers(alloc, members, steps)?;
-    let extensions = extensions::<Encoding>(alloc, members, steps)?;
+    let extensions = extensions::<Encoding<S>>(alloc, members, steps)?;
     Ok(Encoding {
         content_type,
         headers,
@@ -329,12 +337,12 @@ fn encoding_of(
 
 /// The headers of an encoding, by their names; none where `headers` is missing.
 #[cycle(read)]
-fn read_headers(
+fn read_headers<S: SchemaObject>(
     alloc: Global,
     members: &OrderedMap<Node>,
     steps: &mut Steps,
-) -> Result<OrderedMap<ReferenceOr<Header>>, Fault>
-    ensures reads { GivesRow (map_form (reference_form header_form)) result (kinds.by kinds.encoding)
+) -> Result<OrderedMap<ReferenceOr<Header<S>>>, Fault>
+    ensures reads { GivesRow (map_form (reference_form (header_form S.form_of))) result (kinds.by kinds.encoding)
         (kinds.row (codes "headers") kinds.listed (kinds.map_of (kinds.ref_to (kinds.by kinds.header))))
         (members_of members.now) }
     ensures rises { steps.old ≤ steps.new }
@@ -353,12 +361,12 @@ fn read_headers(
 
 /// The headers and references of a map.
 #[cycle(read)]
-fn headers_in(
+fn headers_in<S: SchemaObject>(
     alloc: Global,
     view: &View<'_>,
     steps: &mut Steps,
-) -> Result<OrderedMap<ReferenceOr<Header>>, Fault>
-    ensures reads { Gives (map_form (reference_form header_form)) result
+) -> Result<OrderedMap<ReferenceOr<Header<S>>>, Fault>
+    ensures reads { Gives (map_form (reference_form (header_form S.form_of))) result
         (kinds.map_of (kinds.ref_to (kinds.by kinds.header))) (shown view.now) }
     ensures rises { steps.old ≤ steps.new }
     ensures count { steps.new + 3 ≤ steps.old + 3 * size_of (shown view.now) }
@@ -371,12 +379,12 @@ fn headers_in(
 
 /// The headers and references among the members of an object, in order.
 #[cycle(read)]
-fn headers_of(
+fn headers_of<S: SchemaObject>(
     alloc: Global,
     members: &OrderedMap<Node>,
     steps: &mut Steps,
-) -> Result<OrderedMap<ReferenceOr<Header>>, Fault>
-    ensures reads { Gives (map_form (reference_form header_form)) result (kinds.map_of (kinds.ref_to (kinds.by kinds.header)))
+) -> Result<OrderedMap<ReferenceOr<Header<S>>>, Fault>
+    ensures reads { Gives (map_form (reference_form (header_form S.form_of))) result (kinds.map_of (kinds.ref_to (kinds.by kinds.header)))
         (object (members_of members.now)) }
     ensures rises { steps.old ≤ steps.new }
     ensures count { steps.new ≤ steps.old + 3 * members_size (members_of members.now) }

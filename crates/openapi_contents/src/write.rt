@@ -16,7 +16,7 @@ use crate::encoding::Encoding;
 use crate::format::{ParameterSchemaOrContent, format_name};
 use crate::header::Header;
 use crate::media_type::{Content, MediaType};
-use openapi_knots::{put_decided, put_row, put_written, whole_object};
+use openapi_knots::{SchemaObject, put_decided, put_row, put_written, whole_object};
 use openapi_node::{Fault, Node, OrderedMap};
 use openapi_rows::{
     ToNode, put_extensions, put_implied, put_nullable, put_optional, write_reference,
@@ -26,8 +26,11 @@ use std::alloc::Global;
 
 /// Writes a header or a reference to one.
 #[cycle(write)]
-fn write_header_ref(alloc: Global, value: &ReferenceOr<Header>) -> Result<Node, Fault>
-    ensures { WrittenAs (kinds.ref_to (kinds.by kinds.header)) (reference_form header_form value.now) result }
+fn write_header_ref<S: SchemaObject>(
+    alloc: Global,
+    value: &ReferenceOr<Header<S>>,
+) -> Result<Node, Fault>
+    ensures { WrittenAs (kinds.ref_to (kinds.by kinds.header)) (reference_form (header_form S.form_of) value.now) result }
 {
     match value {
         ReferenceOr::Reference { reference } => write_reference(alloc, reference.as_str()),
@@ -37,8 +40,11 @@ fn write_header_ref(alloc: Global, value: &ReferenceOr<Header>) -> Result<Node, 
 
 /// Writes a header.
 #[cycle(write)]
-pub(crate) fn write_header(alloc: Global, header: &Header) -> Result<Node, Fault>
-    ensures { WrittenAs (kinds.by kinds.header) (header_form header.now) result }
+pub(crate) fn write_header<S: SchemaObject>(
+    alloc: Global,
+    header: &Header<S>,
+) -> Result<Node, Fault>
+    ensures { WrittenAs (kinds.by kinds.header) ((header_form S.form_of) header.now) result }
 {
     whole_object(header_members(alloc, header))
 }
@@ -46,8 +52,11 @@ pub(crate) fn write_header(alloc: Global, header: &Header) -> Result<Node, Fault
 /// The members that a header is written as.
 #[cycle(write)]
 #[tactic(auto, unfolding(openapi_tables::specs::Tables::final_tables, openapi_tables::specs::Tables::tables_with))]
-fn header_members(alloc: Global, header: &Header) -> Result<OrderedMap<Node>, Fault>
-    ensures { RowsWritten (header_slots header.now) result }
+fn header_members<S: SchemaObject>(
+    alloc: Global,
+    header: &Header<S>,
+) -> Result<OrderedMap<Node>, Fault>
+    ensures { RowsWritten ((header_slots S.form_of) header.now) result }
 {
     let mut out = OrderedMap::new(alloc);
     put_optional(alloc, header, &mut out, "description", &header.description)?;
@@ -70,9 +79,12 @@ fn header_members(alloc: Global, header: &Header) -> Result<OrderedMap<Node>, Fa
 
 /// Writes what a parameter or a header is described by, to stand under its name ([`format_name`]).
 #[cycle(write)]
-pub fn write_format(alloc: Global, format: &ParameterSchemaOrContent) -> Result<Node, Fault>
-    ensures { WrittenAs (cond (same_text (codes "schema") (deciding_name (format_form format.now))) schema_ref content)
-        (deciding_value (format_form format.now)) result }
+pub fn write_format<S: SchemaObject>(
+    alloc: Global,
+    format: &ParameterSchemaOrContent<S>,
+) -> Result<Node, Fault>
+    ensures { WrittenAs (cond (same_text (codes "schema") (deciding_name ((format_form S.form_of) format.now))) schema_ref content)
+        (deciding_value ((format_form S.form_of) format.now)) result }
 {
     match format {
         ParameterSchemaOrContent::Schema(schema) => schema.to_node(alloc),
@@ -82,8 +94,8 @@ pub fn write_format(alloc: Global, format: &ParameterSchemaOrContent) -> Result<
 
 /// Writes a content.
 #[cycle(write)]
-fn write_content(alloc: Global, values: &Content) -> Result<Node, Fault>
-    ensures { WrittenAs content (map_form media_type_form values.now) result }
+fn write_content<S: SchemaObject>(alloc: Global, values: &Content<S>) -> Result<Node, Fault>
+    ensures { WrittenAs content (map_form (media_type_form S.form_of) values.now) result }
 {
     let mut out = OrderedMap::new(alloc);
     for i in 0..values.len() {
@@ -98,8 +110,11 @@ fn write_content(alloc: Global, values: &Content) -> Result<Node, Fault>
 
 /// Writes a media type.
 #[cycle(write)]
-pub(crate) fn write_media_type(alloc: Global, media_type: &MediaType) -> Result<Node, Fault>
-    ensures { WrittenAs (kinds.by kinds.media_type) (media_type_form media_type.now) result }
+pub(crate) fn write_media_type<S: SchemaObject>(
+    alloc: Global,
+    media_type: &MediaType<S>,
+) -> Result<Node, Fault>
+    ensures { WrittenAs (kinds.by kinds.media_type) ((media_type_form S.form_of) media_type.now) result }
 {
     whole_object(media_type_members(alloc, media_type))
 }
@@ -107,8 +122,11 @@ pub(crate) fn write_media_type(alloc: Global, media_type: &MediaType) -> Result<
 /// The members that a media type is written as.
 #[cycle(write)]
 #[tactic(auto, unfolding(openapi_tables::specs::Tables::final_tables, openapi_tables::specs::Tables::tables_with))]
-fn media_type_members(alloc: Global, media_type: &MediaType) -> Result<OrderedMap<Node>, Fault>
-    ensures { RowsWritten (media_type_slots media_type.now) result }
+fn media_type_members<S: SchemaObject>(
+    alloc: Global,
+    media_type: &MediaType<S>,
+) -> Result<OrderedMap<Node>, Fault>
+    ensures { RowsWritten ((media_type_slots S.form_of) media_type.now) result }
 {
     let mut out = OrderedMap::new(alloc);
     put_optional(alloc, media_type, &mut out, "schema", &media_type.schema)?;
@@ -133,8 +151,11 @@ fn media_type_members(alloc: Global, media_type: &MediaType) -> Result<OrderedMa
 
 /// Writes encodings by the names of properties; nothing where there are none.
 #[cycle(write)]
-fn write_encodings(alloc: Global, values: &OrderedMap<Encoding>) -> Result<Option<Node>, Fault>
-    ensures { GivesWritten kinds.listed (kinds.map_of (kinds.by kinds.encoding)) (map_form encoding_form values.now)
+fn write_encodings<S: SchemaObject>(
+    alloc: Global,
+    values: &OrderedMap<Encoding<S>>,
+) -> Result<Option<Node>, Fault>
+    ensures { GivesWritten kinds.listed (kinds.map_of (kinds.by kinds.encoding)) (map_form (encoding_form S.form_of) values.now)
         result }
 {
     if values.is_empty() {
@@ -153,8 +174,11 @@ fn write_encodings(alloc: Global, values: &OrderedMap<Encoding>) -> Result<Optio
 
 /// Writes an encoding.
 #[cycle(write)]
-pub(crate) fn write_encoding(alloc: Global, encoding: &Encoding) -> Result<Node, Fault>
-    ensures { WrittenAs (kinds.by kinds.encoding) (encoding_form encoding.now) result }
+pub(crate) fn write_encoding<S: SchemaObject>(
+    alloc: Global,
+    encoding: &Encoding<S>,
+) -> Result<Node, Fault>
+    ensures { WrittenAs (kinds.by kinds.encoding) ((encoding_form S.form_of) encoding.now) result }
 {
     whole_object(encoding_members(alloc, encoding))
 }
@@ -162,8 +186,11 @@ pub(crate) fn write_encoding(alloc: Global, encoding: &Encoding) -> Result<Node,
 /// The members that an encoding is written as.
 #[cycle(write)]
 #[tactic(auto, unfolding(openapi_tables::specs::Tables::final_tables, openapi_tables::specs::Tables::tables_with))]
-fn encoding_members(alloc: Global, encoding: &Encoding) -> Result<OrderedMap<Node>, Fault>
-    ensures { RowsWritten (encoding_slots encoding.now) result }
+fn encoding_members<S: SchemaObject>(
+    alloc: Global,
+    encoding: &Encoding<S>,
+) -> Result<OrderedMap<Node>, Fault>
+    ensures { RowsWritten ((encoding_slots S.form_of) encoding.now) result }
 {
     let mut out = OrderedMap::new(alloc);
     put_nullable(
@@ -195,12 +222,12 @@ fn encoding_members(alloc: Global, encoding: &Encoding) -> Result<OrderedMap<Nod
 
 /// Writes headers and references by names; nothing where there are none.
 #[cycle(write)]
-fn write_headers(
+fn write_headers<S: SchemaObject>(
     alloc: Global,
-    values: &OrderedMap<ReferenceOr<Header>>,
+    values: &OrderedMap<ReferenceOr<Header<S>>>,
 ) -> Result<Option<Node>, Fault>
     ensures { GivesWritten kinds.listed (kinds.map_of (kinds.ref_to (kinds.by kinds.header)))
-        (map_form (reference_form header_form) values.now) result }
+        (map_form (reference_form (header_form S.form_of)) values.now) result }
 {
     if values.is_empty() {
         return Ok(None);

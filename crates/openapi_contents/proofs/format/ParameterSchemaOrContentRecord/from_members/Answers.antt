@@ -7,6 +7,7 @@ use Rattle.openapi_contents.proofs.format.ParameterSchemaOrContentRecord.from_me
 
 pub returns-clause-reads : goal.returns-clause-reads
 unfolding final_tables tables_with
-returns-clause-reads c =
-    only_format c.read_format.result (members_of c.args.members.now)
+returns-clause-reads g c =
+    let schema_form = g.S.FromNode.form_of in
+    only_format schema_form c.read_format.result (members_of c.args.members.now)
     (c.read_format.ensures.reads (by schema_or_content) refl refl)

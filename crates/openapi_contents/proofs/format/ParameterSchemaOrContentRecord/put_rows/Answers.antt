@@ -8,7 +8,8 @@ use Rattle.openapi_contents.proofs.format.ParameterSchemaOrContentRecord.put_row
 
 pub put_decided-requires-clause-slot : goal.put_decided-requires-clause-slot
 unfolding final_tables tables_with
-put_decided-requires-clause-slot c =
+put_decided-requires-clause-slot g c =
+    let schema_form = g.S.FromNode.form_of in
     let x = c.args.self.now in
-    format_held (record_slots schema_or_content format_fields x) x c.format_name.result.now c.write_format.result refl
+    format_held schema_form (record_slots schema_or_content (format_fields schema_form) x) x c.format_name.result.now c.write_format.result refl
     c.format_name.ensures c.write_format.ensures

@@ -80,11 +80,14 @@ module _ (i : TableName) (begins : final_tables i ≡ join (final_tables paramet
   pub data_fails : (f : Fault) → Fails f (by parameter_data) (object ms) → Fails f (by i) (object ms)
   data_fails f h = head_fails i parameter_data (drop 9 (final_tables i)) begins ms f h
 
-  pub data_reads : (d : ParameterData) (fs : List Form)
-      → AreRows final_tables (final_tables parameter_data) (parameter_data_rows d) ms
+-- and what is read of the rows behind those of all places
+module _ {S : Type 0} (schema_form : S → Form) (i : TableName)
+    (begins : final_tables i ≡ join (final_tables parameter_data) (drop 9 (final_tables i))) (ms : Members) where
+  pub data_reads : (d : ParameterData S) (fs : List Form)
+      → AreRows final_tables (final_tables parameter_data) (parameter_data_rows schema_form d) ms
       → AreRows final_tables (drop 9 (final_tables i)) fs ms
-      → AreRows final_tables (final_tables i) (join (parameter_data_rows d) fs) ms
+      → AreRows final_tables (final_tables i) (join (parameter_data_rows schema_form d) fs) ms
   data_reads d fs h own =
-      subst (λ ws. AreRows final_tables ws (join (parameter_data_rows d) fs) ms) (sym begins)
-      (rows_join final_tables (final_tables parameter_data) (drop 9 (final_tables i)) (parameter_data_rows d) fs ms h
-      own)
+      subst (λ ws. AreRows final_tables ws (join (parameter_data_rows schema_form d) fs) ms) (sym begins)
+      (rows_join final_tables (final_tables parameter_data) (drop 9 (final_tables i)) (parameter_data_rows schema_form d)
+      fs ms h own)

@@ -4,7 +4,7 @@ use Rattle.openapi_map.specs.Entries.{Entries}
 use Rattle.openapi_node.specs.Place.{Place}
 use Rattle.openapi_node.specs.Tree.{Tree}
 use Rattle.openapi_node.specs.declared.fault.Fault.{Fault}
-use Rattle.openapi_tables.specs.Form.{absent}
+use Rattle.openapi_tables.specs.Form.{Form, absent}
 use Rattle.openapi_tables.specs.Kind.{constant, parameter_data}
 use Rattle.openapi_tables.specs.Lists.{join}
 use Rattle.openapi_tables.specs.Tables.{final_tables, tables_with}
@@ -15,8 +15,7 @@ use Rattle.openapi_tables.proofs.SlotWriting.{slots_apart-rows}
 use Rattle.openapi_rows.specs.Forms.{record_slots}
 use Rattle.openapi_rows.specs.Gives.{Loses}
 use Rattle.openapi_knots.specs.Writing.{AreNew, RowsWritten}
-use Rattle.openapi_knots.proofs.JoinedSlots.{loses_first, loses_second, new_behind, written_behind}
-use Rattle.openapi_schema.proofs.WholeSchemas.{loses_wider}
+use Rattle.openapi_knots.proofs.JoinedSlots.{loses_first, loses_second, loses_wider, new_behind, written_behind}
 use Rattle.openapi_parameters.specs.Parameters.{data_of_parameter, parameter_data_rows, parameter_slots}
 use Rattle.openapi_parameters.specs.Parameters.{parameter_word, shared_slots}
 use Rattle.openapi_parameters.specs.declared.parameter.Parameter.{Parameter}
@@ -24,56 +23,56 @@ use Rattle.openapi_parameters.specs.declared.parameter_data.ParameterData.{Param
 use Rattle.openapi_parameters.specs.declared.parameter.Parameter.TheVariants as parameters
 
 -- the slots of its place are behind those
-behind : (x : Parameter) → parameter_slots x ≡ join (shared_slots x) (drop 10 (parameter_slots x))
+behind : {S : Type 0} (schema_form : S → Form) (x : Parameter S) → (parameter_slots schema_form) x ≡ join (shared_slots schema_form x) (drop 10 (parameter_slots schema_form x))
 unfolding final_tables tables_with
-behind (parameters.Query d r s e) = refl
-behind (parameters.Header d s) = refl
-behind (parameters.Path d s) = refl
-behind (parameters.Cookie d s) = refl
+behind schema_form (parameters.Query d r s e) = refl
+behind schema_form (parameters.Header d s) = refl
+behind schema_form (parameters.Path d s) = refl
+behind schema_form (parameters.Cookie d s) = refl
 
-module _ (x : Parameter) where
+module _ {S : Type 0} (schema_form : S → Form) (x : Parameter S) where
   abbrev its_place : List Slot
   its_place = (constant (codes "in") (parameter_word x), absent) ∷ []
 
   abbrev its_data : List Slot
-  its_data = record_slots parameter_data parameter_data_rows (data_of_parameter x)
+  its_data = record_slots parameter_data (parameter_data_rows schema_form) (data_of_parameter x)
 
   shared_apart : slots_apart (join its_place its_data) ≡ true
   unfolding final_tables tables_with
   shared_apart =
       slots_apart-rows (constant (codes "in") (parameter_word x) ∷ final_tables parameter_data)
-      (absent ∷ parameter_data_rows (data_of_parameter x)) refl
+      (absent ∷ (parameter_data_rows schema_form) (data_of_parameter x)) refl
 
   -- the members of what parameters of all places have, behind the place
   module _ (out more : Entries Tree)
-      (done : IsWritten final_tables (through (is_named (codes "in")) (parameter_slots x)) out)
-      (rows : IsWritten final_tables (record_slots parameter_data parameter_data_rows (data_of_parameter x)) more)
+      (done : IsWritten final_tables (through (is_named (codes "in")) (parameter_slots schema_form x)) out)
+      (rows : IsWritten final_tables (record_slots parameter_data (parameter_data_rows schema_form) (data_of_parameter x)) more)
     where
       pub data_new : AreNew more out
       data_new = new_behind its_place its_data out more shared_apart done rows
 
       pub data_put : {A : Type 0} (r : Result A Fault) (new : Entries Tree) → OnOk r (new ≡ out ++ more)
-          → OnOk r (IsWritten final_tables (shared_slots x) new)
+          → OnOk r (IsWritten final_tables (shared_slots schema_form x) new)
       data_put (Ok u) new e =
-          subst (λ es. IsWritten final_tables (shared_slots x) es) (sym e)
+          subst (λ es. IsWritten final_tables (shared_slots schema_form x) es) (sym e)
           (written_behind its_place its_data out more done rows)
       data_put (Err f) new e = tt
 
   -- what was written of what it has as those of all places have it
-  pub of_data : (d : ParameterData) → d ≡ data_of_parameter x → (r : Result (Entries Tree) Fault)
-      → RowsWritten (record_slots parameter_data parameter_data_rows d) r
-      → RowsWritten (record_slots parameter_data parameter_data_rows (data_of_parameter x)) r
-  of_data d is r h = subst (λ e. RowsWritten (record_slots parameter_data parameter_data_rows e) r) is h
+  pub of_data : (d : ParameterData S) → d ≡ data_of_parameter x → (r : Result (Entries Tree) Fault)
+      → RowsWritten (record_slots parameter_data (parameter_data_rows schema_form) d) r
+      → RowsWritten (record_slots parameter_data (parameter_data_rows schema_form) (data_of_parameter x)) r
+  of_data d is r h = subst (λ e. RowsWritten (record_slots parameter_data (parameter_data_rows schema_form) e) r) is h
 
   -- what those lose the parameter loses
   pub data_loses : (f : Fault)
-      → Loses f (slots_lost final_tables (record_slots parameter_data parameter_data_rows (data_of_parameter x)))
-      → Loses f (slots_lost final_tables (parameter_slots x))
+      → Loses f (slots_lost final_tables (record_slots parameter_data (parameter_data_rows schema_form) (data_of_parameter x)))
+      → Loses f (slots_lost final_tables (parameter_slots schema_form x))
   data_loses f h =
-      loses_wider f (slots_lost final_tables its_data) (slots_lost final_tables (parameter_slots x)) leads h
+      loses_wider f (slots_lost final_tables its_data) (slots_lost final_tables (parameter_slots schema_form x)) leads h
     where
       leads : (q : Place) → Among q (slots_lost final_tables its_data)
-          → Among q (slots_lost final_tables (parameter_slots x))
+          → Among q (slots_lost final_tables (parameter_slots schema_form x))
       leads q g =
-          subst (λ ss. Among q (slots_lost final_tables ss)) (sym (behind x))
-          (loses_first (shared_slots x) (drop 10 (parameter_slots x)) q (loses_second its_place its_data q g))
+          subst (λ ss. Among q (slots_lost final_tables ss)) (sym (behind schema_form x))
+          (loses_first (shared_slots schema_form x) (drop 10 (parameter_slots schema_form x)) q (loses_second its_place its_data q g))

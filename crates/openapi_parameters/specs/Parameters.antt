@@ -38,61 +38,63 @@ parameter_location_word locations.Header = codes "header"
 parameter_location_word locations.Path = codes "path"
 parameter_location_word locations.Cookie = codes "cookie"
 
--- what parameters of all places have: the forms of its fields, in the order of the rows of its table
-abbrev pub parameter_data_rows : ParameterData → List Form
-parameter_data_rows x =
-    text_form x.name
-    ∷ optional_form text_form x.description
-    ∷ flag_form x.required
-    ∷ optional_form flag_form x.deprecated
-    ∷ format_form x.format
-    ∷ optional_form leaf x.example
-    ∷ map_form example_ref_form x.examples
-    ∷ optional_form flag_form x.explode
-    ∷ extensions_form x.extensions
-    ∷ []
+module _ {S : Type 0} where
+  -- what a parameter has as those of all places have it
+  abbrev pub data_of_parameter : Parameter S → ParameterData S
+  data_of_parameter (parameters.Query d r s e) = d
+  data_of_parameter (parameters.Header d s) = d
+  data_of_parameter (parameters.Path d s) = d
+  data_of_parameter (parameters.Cookie d s) = d
 
--- what a parameter has as those of all places have it
-abbrev pub data_of_parameter : Parameter → ParameterData
-data_of_parameter (parameters.Query d r s e) = d
-data_of_parameter (parameters.Header d s) = d
-data_of_parameter (parameters.Path d s) = d
-data_of_parameter (parameters.Cookie d s) = d
+  -- the word of the place of a parameter
+  abbrev pub parameter_word : Parameter S → List ℕ
+  parameter_word (parameters.Query d r s e) = codes "query"
+  parameter_word (parameters.Header d s) = codes "header"
+  parameter_word (parameters.Path d s) = codes "path"
+  parameter_word (parameters.Cookie d s) = codes "cookie"
 
--- the word of the place of a parameter
-abbrev pub parameter_word : Parameter → List ℕ
-parameter_word (parameters.Query d r s e) = codes "query"
-parameter_word (parameters.Header d s) = codes "header"
-parameter_word (parameters.Path d s) = codes "path"
-parameter_word (parameters.Cookie d s) = codes "cookie"
+  -- what only parameters of its place have, in the order of the rows behind those of all places
+  abbrev pub own_rows : Parameter S → List Form
+  own_rows (parameters.Query d r s e) = flag_form r ∷ word_form query_style_word s ∷ optional_form flag_form e ∷ []
+  own_rows (parameters.Header d s) = word_form header_style_word s ∷ []
+  own_rows (parameters.Path d s) = word_form path_style_word s ∷ []
+  own_rows (parameters.Cookie d s) = word_form cookie_style_word s ∷ []
 
--- what only parameters of its place have, in the order of the rows behind those of all places
-abbrev pub own_rows : Parameter → List Form
-own_rows (parameters.Query d r s e) = flag_form r ∷ word_form query_style_word s ∷ optional_form flag_form e ∷ []
-own_rows (parameters.Header d s) = word_form header_style_word s ∷ []
-own_rows (parameters.Path d s) = word_form path_style_word s ∷ []
-own_rows (parameters.Cookie d s) = word_form cookie_style_word s ∷ []
+  -- its word is that of one of the places
+  pub parameter_known : (x : Parameter S) → is_case parameter_cases (parameter_word x) ≡ true
+  parameter_known (parameters.Query d r s e) = refl
+  parameter_known (parameters.Header d s) = refl
+  parameter_known (parameters.Path d s) = refl
+  parameter_known (parameters.Cookie d s) = refl
 
--- the forms of its fields, in the order of the rows of its table
-abbrev pub parameter_rows : Parameter → List Form
-parameter_rows x = join (parameter_data_rows (data_of_parameter x)) (own_rows x)
+module _ {S : Type 0} (schema_form : S → Form) where
+  -- what parameters of all places have: the forms of its fields, in the order of the rows of its table
+  abbrev pub parameter_data_rows : ParameterData S → List Form
+  parameter_data_rows x =
+      text_form x.name
+      ∷ optional_form text_form x.description
+      ∷ flag_form x.required
+      ∷ optional_form flag_form x.deprecated
+      ∷ format_form schema_form x.format
+      ∷ optional_form leaf x.example
+      ∷ map_form example_ref_form x.examples
+      ∷ optional_form flag_form x.explode
+      ∷ extensions_form x.extensions
+      ∷ []
 
--- Parameter Object
-abbrev pub parameter_form : Parameter → Form
-parameter_form = tagged_form parameter_word parameter_rows
+  -- the forms of its fields, in the order of the rows of its table
+  abbrev pub parameter_rows : Parameter S → List Form
+  parameter_rows x = join (parameter_data_rows (data_of_parameter x)) (own_rows x)
 
-abbrev pub parameter_slots : Parameter → List Slot
-parameter_slots = tagged_slots (codes "in") parameter_cases parameter_word parameter_rows
+  -- Parameter Object
+  abbrev pub parameter_form : Parameter S → Form
+  parameter_form = tagged_form parameter_word parameter_rows
 
--- the slots that it has in common with those of other places: its `in`, and what parameters of all places have
-abbrev pub shared_slots : Parameter → List Slot
-shared_slots x =
-    (constant (codes "in") (parameter_word x), absent)
-    ∷ record_slots parameter_data parameter_data_rows (data_of_parameter x)
+  abbrev pub parameter_slots : Parameter S → List Slot
+  parameter_slots = tagged_slots (codes "in") parameter_cases parameter_word parameter_rows
 
--- its word is that of one of the places
-pub parameter_known : (x : Parameter) → is_case parameter_cases (parameter_word x) ≡ true
-parameter_known (parameters.Query d r s e) = refl
-parameter_known (parameters.Header d s) = refl
-parameter_known (parameters.Path d s) = refl
-parameter_known (parameters.Cookie d s) = refl
+  -- the slots that it has in common with those of other places: its `in`, and what parameters of all places have
+  abbrev pub shared_slots : Parameter S → List Slot
+  shared_slots x =
+      (constant (codes "in") (parameter_word x), absent)
+      ∷ record_slots parameter_data parameter_data_rows (data_of_parameter x)

@@ -15,6 +15,7 @@ use crate::location::ParameterLocation;
 use crate::parameter_data::ParameterData;
 use crate::read::{read_cookie, read_header, read_path, read_query};
 use crate::write::put_parameter;
+use openapi_knots::SchemaObject;
 use openapi_node::{Cause, Expected, Fault, Node, OrderedMap, Steps, View};
 use openapi_rows::{FromNode, Object, Referable, ToNode, tag};
 use openapi_values::{CookieStyle, HeaderStyle, PathStyle, QueryStyle, ReferenceOr};
@@ -23,11 +24,11 @@ use std::alloc::Global;
 /// The Parameter Object (OpenAPI 3.0.3, section 4.7.12): one parameter of an operation. Its `in` says where it is. A
 /// style is written also where it is the default one.
 #[derive(Clone, Debug, PartialEq, Drop)]
-pub enum Parameter {
+pub enum Parameter<S> {
     /// `query`: in the query of the URL, as `id` in `/items?id=7`.
     Query {
         /// What parameters of all places have.
-        parameter_data: ParameterData,
+        parameter_data: ParameterData<S>,
         /// `allowReserved`: whether the value may have the reserved characters of RFC 3986 as they are. False by
         /// default.
         allow_reserved: bool,
@@ -40,29 +41,29 @@ pub enum Parameter {
     /// `header`: in a header of the request, in whose name capitals do not count.
     Header {
         /// What parameters of all places have.
-        parameter_data: ParameterData,
+        parameter_data: ParameterData<S>,
         /// How the value is written. `simple` by default, the only one.
         style: HeaderStyle,
     },
     /// `path`: in the path of the URL, as `id` in `/items/{id}`.
     Path {
         /// What parameters of all places have.
-        parameter_data: ParameterData,
+        parameter_data: ParameterData<S>,
         /// How the value is written. `simple` by default.
         style: PathStyle,
     },
     /// `cookie`: in a cookie that is sent.
     Cookie {
         /// What parameters of all places have.
-        parameter_data: ParameterData,
+        parameter_data: ParameterData<S>,
         /// How the value is written. `form` by default, the only one.
         style: CookieStyle,
     },
 }
 
-impl Parameter {
+impl<S> Parameter<S> {
     /// What the parameter has as those of all places have it. The rest is dropped.
-    pub fn parameter_data(self) -> ParameterData
+    pub fn parameter_data(self) -> ParameterData<S>
         ensures { result ≡ data_of_parameter self }
     {
         match self {
@@ -74,7 +75,7 @@ impl Parameter {
     }
 
     /// What the parameter has as those of all places have it.
-    pub fn parameter_data_ref(&self) -> &ParameterData
+    pub fn parameter_data_ref(&self) -> &ParameterData<S>
         ensures { result.now ≡ data_of_parameter self.now }
     {
         match self {
@@ -86,21 +87,21 @@ impl Parameter {
     }
 }
 
-impl Object for Parameter {
+impl<S: SchemaObject> Object for Parameter<S> {
     ghost object = { parameter };
 
-    ghost slots_of = { parameter_slots };
+    ghost slots_of = { parameter_slots S.form_of };
 
-    ghost apart = { λ x. tagged_apart (codes "in") parameter_cases parameter_word parameter_rows x (parameter_known x)
+    ghost apart = { λ x. tagged_apart (codes "in") parameter_cases parameter_word (parameter_rows S.form_of) x (parameter_known x)
         parameter_sound };
 }
 
-impl FromNode for Parameter {
+impl<S: SchemaObject> FromNode for Parameter<S> {
     ghost kind = { parameter };
 
-    ghost form_of = { parameter_form };
+    ghost form_of = { parameter_form S.form_of };
 
-    fn from_view(alloc: Global, view: &View<'_>, steps: &mut Steps) -> Result<Parameter, Fault> {
+    fn from_view(alloc: Global, view: &View<'_>, steps: &mut Steps) -> Result<Parameter<S>, Fault> {
         let View::Object(members) = view else {
             return Err(Fault::new(alloc, Cause::WrongKind(Expected::Object)));
         };
@@ -118,7 +119,7 @@ impl FromNode for Parameter {
     ghost well_made = { parameter_sound };
 }
 
-impl ToNode for Parameter {
+impl<S: SchemaObject> ToNode for Parameter<S> {
     fn to_node(&self, alloc: Global) -> Result<Node, Fault> {
         let mut out = OrderedMap::new(alloc);
         match put_parameter(alloc, self, &mut out) {
@@ -130,7 +131,7 @@ impl ToNode for Parameter {
     ghost there = { λ x. refl };
 }
 
-impl Referable for Parameter {
+impl<S: SchemaObject> Referable for Parameter<S> {
     ghost direct = { refl };
 
     ghost spares_ref = { parameter_spares };
@@ -138,12 +139,12 @@ impl Referable for Parameter {
 
 /// Reads a parameter or a reference to one. Err names a rule that the tree breaks, at its place, or says that memory ran
 /// out.
-pub fn parameter_ref_from_node(
+pub fn parameter_ref_from_node<S: SchemaObject>(
     alloc: Global,
     node: &Node,
     steps: &mut Steps,
-) -> Result<ReferenceOr<Parameter>, Fault>
-    ensures reads { Gives (reference_form parameter_form) result (ref_to parameter) node.now }
+) -> Result<ReferenceOr<Parameter<S>>, Fault>
+    ensures reads { Gives (reference_form (parameter_form S.form_of)) result (ref_to parameter) node.now }
     ensures refuses { Refuses result (ref_to parameter) node.now }
     ensures rises { steps.old + 1 ≤ steps.new }
     ensures count { steps.new ≤ steps.old + 3 * size_of node.now }
@@ -153,8 +154,11 @@ pub fn parameter_ref_from_node(
 
 /// Writes a parameter or a reference to one. Err at a name of an extension that does not begin with `x-`, or for want of
 /// memory.
-pub fn parameter_ref_to_node(alloc: Global, value: &ReferenceOr<Parameter>) -> Result<Node, Fault>
-    ensures { WrittenAs (ref_to parameter) (reference_form parameter_form value.now) result }
+pub fn parameter_ref_to_node<S: SchemaObject>(
+    alloc: Global,
+    value: &ReferenceOr<Parameter<S>>,
+) -> Result<Node, Fault>
+    ensures { WrittenAs (ref_to parameter) (reference_form (parameter_form S.form_of) value.now) result }
 {
     value.to_node(alloc)
 }

@@ -7,7 +7,7 @@ ghost use Rattle.openapi_rows.specs.Forms.{record_form, record_slots};
 ghost use Rattle.openapi_parameters.specs.Parameters.{parameter_data_rows};
 
 use openapi_contents::{ParameterSchemaOrContent, format_name, read_format, write_format};
-use openapi_knots::put_decided;
+use openapi_knots::{SchemaObject, put_decided};
 use openapi_node::{Fault, Node, OrderedMap, Steps, View};
 use openapi_records::Example;
 use openapi_rows::{
@@ -20,7 +20,7 @@ use std::alloc::Global;
 /// What a Parameter Object (OpenAPI 3.0.3, section 4.7.12) has wherever its parameter is: all but `in`, `style`, and
 /// what stands in a query alone.
 #[derive(Clone, Debug, PartialEq, Drop)]
-pub struct ParameterData {
+pub struct ParameterData<S> {
     /// The name of the parameter, in which capitals count: in a path the name of a part of its template, in a header
     /// that of the header. Required.
     pub name: String,
@@ -40,26 +40,26 @@ pub struct ParameterData {
     /// Extensions: the members whose names begin with `x-`, in their order.
     pub extensions: OrderedMap<Node>,
     /// What the value is like: `schema` or `content`. Required here, as in the Rust crate.
-    pub format: ParameterSchemaOrContent,
+    pub format: ParameterSchemaOrContent<S>,
 }
 
-impl Object for ParameterData {
+impl<S: SchemaObject> Object for ParameterData<S> {
     ghost object = { by parameter_data };
 
-    ghost slots_of = { record_slots parameter_data parameter_data_rows };
+    ghost slots_of = { record_slots parameter_data (parameter_data_rows S.form_of) };
 
-    ghost apart = { λ x. final_apart parameter_data (parameter_data_rows x) };
+    ghost apart = { λ x. final_apart parameter_data (parameter_data_rows S.form_of x) };
 }
 
 #[tactic(auto, unfolding(openapi_tables::specs::Tables::final_tables, openapi_tables::specs::Tables::tables_with))]
-impl Record for ParameterData {
-    ghost rows_of = { parameter_data_rows };
+impl<S: SchemaObject> Record for ParameterData<S> {
+    ghost rows_of = { parameter_data_rows S.form_of };
 
     fn from_members(
         alloc: Global,
         members: &OrderedMap<Node>,
         steps: &mut Steps,
-    ) -> Result<ParameterData, Fault> {
+    ) -> Result<ParameterData<S>, Fault> {
         let required_flag = or_implied::<Self, _>(alloc, members, "required", steps)?;
         let deprecated = optional::<Self, _>(alloc, members, "deprecated", steps)?;
         let explode = optional::<Self, _>(alloc, members, "explode", steps)?;
@@ -100,16 +100,16 @@ impl Record for ParameterData {
     ghost by_rows = { λ x. refl };
 }
 
-impl FromNode for ParameterData {
+impl<S: SchemaObject> FromNode for ParameterData<S> {
     ghost kind = { by parameter_data };
 
-    ghost form_of = { record_form parameter_data_rows };
+    ghost form_of = { record_form (parameter_data_rows S.form_of) };
 
     fn from_view(
         alloc: Global,
         view: &View<'_>,
         steps: &mut Steps,
-    ) -> Result<ParameterData, Fault> {
+    ) -> Result<ParameterData<S>, Fault> {
         read_record(alloc, view, steps)
     }
 
@@ -118,7 +118,7 @@ impl FromNode for ParameterData {
     ghost well_made = { refl };
 }
 
-impl ToNode for ParameterData {
+impl<S: SchemaObject> ToNode for ParameterData<S> {
     fn to_node(&self, alloc: Global) -> Result<Node, Fault> {
         write_record(alloc, self)
     }

@@ -11,6 +11,7 @@ ghost use Rattle.openapi_parameters.specs.Parameters.{parameter_rows, parameter_
 
 use crate::parameter::Parameter;
 use crate::parameter_data::ParameterData;
+use openapi_knots::SchemaObject;
 use openapi_node::{Fault, Node, OrderedMap, Steps};
 use openapi_rows::{Object, Record, optional, or_implied};
 use std::alloc::Global;
@@ -61,12 +62,12 @@ impl Object for CookieTable {
 
 /// Reads a parameter in a query.
 #[tactic(auto, unfolding(openapi_tables::specs::Tables::final_tables, openapi_tables::specs::Tables::tables_with))]
-pub(crate) fn read_query(
+pub(crate) fn read_query<S: SchemaObject>(
     alloc: Global,
     members: &OrderedMap<Node>,
     steps: &mut Steps,
-) -> Result<Parameter, Fault>
-    ensures reads { GivesRows parameter_rows result (by kinds.query_parameter) (members_of members.now) }
+) -> Result<Parameter<S>, Fault>
+    ensures reads { GivesRows (parameter_rows S.form_of) result (by kinds.query_parameter) (members_of members.now) }
     ensures word { IfOk result (λ x. parameter_word x ≡ codes "query") }
     ensures rises { steps.old ≤ steps.new }
     ensures count { steps.new ≤ steps.old + 3 * rows_weight (final_tables kinds.query_parameter) (members_of members.now) }
@@ -84,12 +85,12 @@ pub(crate) fn read_query(
 
 /// Reads a parameter in a header.
 #[tactic(auto, unfolding(openapi_tables::specs::Tables::final_tables, openapi_tables::specs::Tables::tables_with))]
-pub(crate) fn read_header(
+pub(crate) fn read_header<S: SchemaObject>(
     alloc: Global,
     members: &OrderedMap<Node>,
     steps: &mut Steps,
-) -> Result<Parameter, Fault>
-    ensures reads { GivesRows parameter_rows result (by kinds.header_parameter) (members_of members.now) }
+) -> Result<Parameter<S>, Fault>
+    ensures reads { GivesRows (parameter_rows S.form_of) result (by kinds.header_parameter) (members_of members.now) }
     ensures word { IfOk result (λ x. parameter_word x ≡ codes "header") }
     ensures rises { steps.old ≤ steps.new }
     ensures count { steps.new ≤ steps.old + 3 * rows_weight (final_tables kinds.header_parameter) (members_of members.now) }
@@ -103,12 +104,12 @@ pub(crate) fn read_header(
 
 /// Reads a parameter in a path.
 #[tactic(auto, unfolding(openapi_tables::specs::Tables::final_tables, openapi_tables::specs::Tables::tables_with))]
-pub(crate) fn read_path(
+pub(crate) fn read_path<S: SchemaObject>(
     alloc: Global,
     members: &OrderedMap<Node>,
     steps: &mut Steps,
-) -> Result<Parameter, Fault>
-    ensures reads { GivesRows parameter_rows result (by kinds.path_parameter) (members_of members.now) }
+) -> Result<Parameter<S>, Fault>
+    ensures reads { GivesRows (parameter_rows S.form_of) result (by kinds.path_parameter) (members_of members.now) }
     ensures word { IfOk result (λ x. parameter_word x ≡ codes "path") }
     ensures rises { steps.old ≤ steps.new }
     ensures count { steps.new ≤ steps.old + 3 * rows_weight (final_tables kinds.path_parameter) (members_of members.now) }
@@ -122,12 +123,12 @@ pub(crate) fn read_path(
 
 /// Reads a parameter in a cookie.
 #[tactic(auto, unfolding(openapi_tables::specs::Tables::final_tables, openapi_tables::specs::Tables::tables_with))]
-pub(crate) fn read_cookie(
+pub(crate) fn read_cookie<S: SchemaObject>(
     alloc: Global,
     members: &OrderedMap<Node>,
     steps: &mut Steps,
-) -> Result<Parameter, Fault>
-    ensures reads { GivesRows parameter_rows result (by kinds.cookie_parameter) (members_of members.now) }
+) -> Result<Parameter<S>, Fault>
+    ensures reads { GivesRows (parameter_rows S.form_of) result (by kinds.cookie_parameter) (members_of members.now) }
     ensures word { IfOk result (λ x. parameter_word x ≡ codes "cookie") }
     ensures rises { steps.old ≤ steps.new }
     ensures count { steps.new ≤ steps.old + 3 * rows_weight (final_tables kinds.cookie_parameter) (members_of members.now) }

@@ -9,14 +9,14 @@ ghost use Rattle.openapi_parameters.specs.Parameters.{shared_slots};
 
 use crate::location::ParameterLocation;
 use crate::parameter::Parameter;
-use openapi_knots::{append, record_rows};
+use openapi_knots::{SchemaObject, append, record_rows};
 use openapi_node::{Fault, Node, OrderedMap};
 use openapi_rows::{put_implied, put_optional, put_tag};
 use openapi_values::Word;
 use std::alloc::Global;
 
 /// The place that a parameter is in.
-fn location(value: &Parameter) -> ParameterLocation
+fn location<S>(value: &Parameter<S>) -> ParameterLocation
     ensures { parameter_location_word result ≡ parameter_word value.now }
 {
     match value {
@@ -28,10 +28,14 @@ fn location(value: &Parameter) -> ParameterLocation
 }
 
 /// Writes the `in` of a parameter, and behind it what parameters of all places have.
-fn put_shared(alloc: Global, value: &Parameter, out: &mut OrderedMap<Node>) -> Result<(), Fault>
+fn put_shared<S: SchemaObject>(
+    alloc: Global,
+    value: &Parameter<S>,
+    out: &mut OrderedMap<Node>,
+) -> Result<(), Fault>
     requires { IsWritten final_tables [] out.old }
-    ensures ok { OnOk result (IsWritten final_tables (shared_slots value.now) out.new) }
-    ensures err { IfErr result (λ f. Loses f (slots_lost final_tables (parameter_slots value.now))) }
+    ensures ok { OnOk result (IsWritten final_tables (shared_slots S.form_of value.now) out.new) }
+    ensures err { IfErr result (λ f. Loses f (slots_lost final_tables (parameter_slots S.form_of value.now))) }
 {
     put_tag(alloc, value, out, "in", location(value).as_str())?;
     append(alloc, out, record_rows(alloc, value.parameter_data_ref())?)
@@ -39,14 +43,14 @@ fn put_shared(alloc: Global, value: &Parameter, out: &mut OrderedMap<Node>) -> R
 
 /// Writes the members of a parameter.
 #[tactic(auto, unfolding(openapi_tables::specs::Tables::final_tables, openapi_tables::specs::Tables::tables_with))]
-pub(crate) fn put_parameter(
+pub(crate) fn put_parameter<S: SchemaObject>(
     alloc: Global,
-    value: &Parameter,
+    value: &Parameter<S>,
     out: &mut OrderedMap<Node>,
 ) -> Result<(), Fault>
     requires { IsWritten final_tables [] out.old }
-    ensures ok { OnOk result (IsWritten final_tables (parameter_slots value.now) out.new) }
-    ensures err { IfErr result (λ f. Loses f (slots_lost final_tables (parameter_slots value.now))) }
+    ensures ok { OnOk result (IsWritten final_tables (parameter_slots S.form_of value.now) out.new) }
+    ensures err { IfErr result (λ f. Loses f (slots_lost final_tables (parameter_slots S.form_of value.now))) }
 {
     put_shared(alloc, value, out)?;
     match value {

@@ -9,13 +9,14 @@ use Rattle.openapi_parameters.proofs.read.read_header.Goals as goal
 
 pub returns-in_err-from_members-clause-reads : goal.returns-in_err-from_members-clause-reads
 unfolding final_tables tables_with
-returns-in_err-from_members-clause-reads c =
+returns-in_err-from_members-clause-reads g c =
     let p = err_from_is_err_and c.from_residual-in_err-from_members.result c.from_residual-in_err-from_members.ensures.1 in
     rw (p.1, p.2) (data_fails header_parameter refl (members_of c.args.members.now) c.in_err-from_members.field-0.0
     c.in_err-from_members.ensures.reads)
 
 pub returns-clause-reads : goal.returns-clause-reads
 unfolding final_tables tables_with
-returns-clause-reads c =
-    data_reads header_parameter refl (members_of c.args.members.now) c.in_ok-from_members.field-0
+returns-clause-reads g c =
+    let schema_form = g.S.FromNode.form_of in
+    data_reads schema_form header_parameter refl (members_of c.args.members.now) c.in_ok-from_members.field-0
     (word_form header_style_word c.in_ok-style.style ∷ []) c.in_ok-from_members.ensures.reads (c.in_ok-style.ensures.reads, tt)

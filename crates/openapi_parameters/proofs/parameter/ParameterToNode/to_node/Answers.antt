@@ -7,21 +7,23 @@ use Rattle.openapi_parameters.specs.Parameters.{parameter_cases, parameter_known
 use Rattle.openapi_parameters.proofs.parameter.ParameterToNode.to_node.Goals as goal
 
 pub put_parameter-requires : goal.put_parameter-requires
-put_parameter-requires c = none_written final_tables c.new-out.result c.new-out.ensures
+put_parameter-requires g c = none_written final_tables c.new-out.result c.new-out.ensures
 
 pub returns-in-Ok : goal.returns-in-Ok
-returns-in-Ok c =
+returns-in-Ok g c =
+    let schema_form = g.S.FromNode.form_of in
     let x = c.args.self.now in
     record {
-      written = tagged_writes (codes "in") parameter_cases parameter_word parameter_rows x (parameter_known x)
+      written = tagged_writes (codes "in") parameter_cases parameter_word (parameter_rows schema_form) x (parameter_known x)
           c.object.result c.put_parameter.new.out c.in-Ok.ensures.ok c.object.ensures;
     }
 
 pub returns-in-Err : goal.returns-in-Err
-returns-in-Err c =
+returns-in-Err g c =
+    let schema_form = g.S.FromNode.form_of in
     let x = c.args.self.now in
     record {
       written = subst (λ ps. Loses c.in-Err.fault ps)
-          (tagged_loses (codes "in") parameter_cases parameter_word parameter_rows x (parameter_known x))
+          (tagged_loses (codes "in") parameter_cases parameter_word (parameter_rows schema_form) x (parameter_known x))
           c.in-Err.ensures.err;
     }

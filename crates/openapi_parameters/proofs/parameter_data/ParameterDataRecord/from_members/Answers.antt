@@ -6,13 +6,13 @@ use Rattle.openapi_parameters.proofs.parameter_data.ParameterDataRecord.from_mem
 
 pub returns-in_err-read_format-clause-reads : goal.returns-in_err-read_format-clause-reads
 unfolding final_tables tables_with
-returns-in_err-read_format-clause-reads c =
+returns-in_err-read_format-clause-reads g c =
     let p = err_from_is_err_and c.from_residual-in_err-read_format.result c.from_residual-in_err-read_format.ensures.1 in
     rw (p.1, p.2) (c.in_err-read_format.ensures.reads (by parameter_data) refl refl)
 
 pub returns-clause-reads : goal.returns-clause-reads
 unfolding final_tables tables_with
-returns-clause-reads c = (
+returns-clause-reads g c = (
   c.in_ok-required.ensures.reads,
   (
     c.in_ok-optional.ensures.reads,

@@ -8,7 +8,8 @@ use Rattle.openapi_parameters.proofs.parameter_data.ParameterDataRecord.put_rows
 
 pub put_decided-requires-clause-slot : goal.put_decided-requires-clause-slot
 unfolding final_tables tables_with
-put_decided-requires-clause-slot c =
+put_decided-requires-clause-slot g c =
+    let schema_form = g.S.FromNode.form_of in
     let x = c.args.self.now in
-    format_held (record_slots parameter_data parameter_data_rows x) x.format c.format_name.result.now
+    format_held schema_form (record_slots parameter_data (parameter_data_rows schema_form) x) x.format c.format_name.result.now
     c.write_format.result refl c.format_name.ensures c.write_format.ensures

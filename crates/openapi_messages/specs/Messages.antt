@@ -11,29 +11,30 @@ use Rattle.openapi_messages.specs.declared.request_body.RequestBody.{RequestBody
 use Rattle.openapi_messages.specs.declared.response.Response.{Response}
 use Rattle.openapi_messages.specs.declared.responses.Responses.{Responses}
 
--- Request Body Object
-abbrev pub request_body_rows : RequestBody → List Form
-request_body_rows x =
-    optional_form text_form x.description
-    ∷ map_form media_type_form x.content
-    ∷ flag_form x.required
-    ∷ extensions_form x.extensions
-    ∷ []
+module _ {S : Type 0} (schema_form : S → Form) where
+  -- Request Body Object
+  abbrev pub request_body_rows : RequestBody S → List Form
+  request_body_rows x =
+      optional_form text_form x.description
+      ∷ map_form (media_type_form schema_form) x.content
+      ∷ flag_form x.required
+      ∷ extensions_form x.extensions
+      ∷ []
 
--- Response Object
-abbrev pub response_rows : Response → List Form
-response_rows x =
-    text_form x.description
-    ∷ map_form (reference_form header_form) x.headers
-    ∷ map_form media_type_form x.content
-    ∷ map_form (reference_form (record_form link_rows)) x.links
-    ∷ extensions_form x.extensions
-    ∷ []
+  -- Response Object
+  abbrev pub response_rows : Response S → List Form
+  response_rows x =
+      text_form x.description
+      ∷ map_form (reference_form (header_form schema_form)) x.headers
+      ∷ map_form (media_type_form schema_form) x.content
+      ∷ map_form (reference_form (record_form link_rows)) x.links
+      ∷ extensions_form x.extensions
+      ∷ []
 
--- Responses Object
-abbrev pub responses_rows : Responses → List Form
-responses_rows x =
-    optional_form (reference_form (record_form response_rows)) x.default
-    ∷ coded_form (reference_form (record_form response_rows)) x.responses
-    ∷ extensions_form x.extensions
-    ∷ []
+  -- Responses Object
+  abbrev pub responses_rows : Responses S → List Form
+  responses_rows x =
+      optional_form (reference_form (record_form response_rows)) x.default
+      ∷ coded_form (reference_form (record_form response_rows)) x.responses
+      ∷ extensions_form x.extensions
+      ∷ []

@@ -11,6 +11,7 @@ ghost use Rattle.openapi_rows.proofs.Spared.{request_body_spares};
 ghost use Rattle.openapi_messages.specs.Messages.{request_body_rows};
 
 use openapi_contents::Content;
+use openapi_knots::SchemaObject;
 use openapi_node::{Fault, Node, OrderedMap, Steps, View};
 use openapi_rows::{
     FromNode, Object, Record, Referable, ToNode, extensions, optional, or_implied, put_extensions,
@@ -21,21 +22,21 @@ use std::alloc::Global;
 
 /// The Request Body Object (OpenAPI 3.0.3, section 4.7.13): what is sent to an operation in the body of a request.
 #[derive(Clone, Debug, PartialEq, Drop)]
-pub struct RequestBody {
+pub struct RequestBody<S> {
     /// A description of the body, in CommonMark.
     pub description: Option<String>,
     /// What the body may hold, by media types or ranges of these. Required by OpenAPI; here a missing one is empty, as in
     /// the Rust crate.
-    pub content: Content,
+    pub content: Content<S>,
     /// Whether the body has to be sent. False by default.
     pub required: bool,
     /// Extensions: the members whose names begin with `x-`, in their order.
     pub extensions: OrderedMap<Node>,
 }
 
-impl RequestBody {
+impl<S> RequestBody<S> {
     /// No description, nothing that may be sent, and not required.
-    pub fn new(alloc: Global) -> RequestBody
+    pub fn new(alloc: Global) -> RequestBody<S>
         ensures description { result.description ≡ None }
         ensures content { result.content ≡ [] }
         ensures required { result.required ≡ false }
@@ -50,23 +51,23 @@ impl RequestBody {
     }
 }
 
-impl Object for RequestBody {
+impl<S: SchemaObject> Object for RequestBody<S> {
     ghost object = { by request_body };
 
-    ghost slots_of = { record_slots request_body request_body_rows };
+    ghost slots_of = { record_slots request_body (request_body_rows S.form_of) };
 
-    ghost apart = { λ x. final_apart request_body (request_body_rows x) };
+    ghost apart = { λ x. final_apart request_body (request_body_rows S.form_of x) };
 }
 
 #[tactic(auto, unfolding(openapi_tables::specs::Tables::final_tables, openapi_tables::specs::Tables::tables_with))]
-impl Record for RequestBody {
-    ghost rows_of = { request_body_rows };
+impl<S: SchemaObject> Record for RequestBody<S> {
+    ghost rows_of = { request_body_rows S.form_of };
 
     fn from_members(
         alloc: Global,
         members: &OrderedMap<Node>,
         steps: &mut Steps,
-    ) -> Result<RequestBody, Fault> {
+    ) -> Result<RequestBody<S>, Fault> {
         Ok(RequestBody {
             required: or_implied::<Self, _>(alloc, members, "required", steps)?,
             description: optional::<Self, _>(alloc, members, "description", steps)?,
@@ -87,12 +88,16 @@ impl Record for RequestBody {
     ghost by_rows = { λ x. refl };
 }
 
-impl FromNode for RequestBody {
+impl<S: SchemaObject> FromNode for RequestBody<S> {
     ghost kind = { by request_body };
 
-    ghost form_of = { record_form request_body_rows };
+    ghost form_of = { record_form (request_body_rows S.form_of) };
 
-    fn from_view(alloc: Global, view: &View<'_>, steps: &mut Steps) -> Result<RequestBody, Fault> {
+    fn from_view(
+        alloc: Global,
+        view: &View<'_>,
+        steps: &mut Steps,
+    ) -> Result<RequestBody<S>, Fault> {
         read_record(alloc, view, steps)
     }
 
@@ -101,7 +106,7 @@ impl FromNode for RequestBody {
     ghost well_made = { refl };
 }
 
-impl ToNode for RequestBody {
+impl<S: SchemaObject> ToNode for RequestBody<S> {
     fn to_node(&self, alloc: Global) -> Result<Node, Fault> {
         write_record(alloc, self)
     }
@@ -109,7 +114,7 @@ impl ToNode for RequestBody {
     ghost there = { λ x. refl };
 }
 
-impl Referable for RequestBody {
+impl<S: SchemaObject> Referable for RequestBody<S> {
     ghost direct = { refl };
 
     ghost spares_ref = { request_body_spares };
@@ -117,12 +122,12 @@ impl Referable for RequestBody {
 
 /// Reads a request body or a reference to one. Err names a rule that the tree breaks, at its place, or says that memory
 /// ran out.
-pub fn request_body_ref_from_node(
+pub fn request_body_ref_from_node<S: SchemaObject>(
     alloc: Global,
     node: &Node,
     steps: &mut Steps,
-) -> Result<ReferenceOr<RequestBody>, Fault>
-    ensures reads { Gives (reference_form (record_form request_body_rows)) result (ref_to (by request_body)) node.now }
+) -> Result<ReferenceOr<RequestBody<S>>, Fault>
+    ensures reads { Gives (reference_form (record_form (request_body_rows S.form_of))) result (ref_to (by request_body)) node.now }
     ensures refuses { Refuses result (ref_to (by request_body)) node.now }
     ensures rises { steps.old + 1 ≤ steps.new }
     ensures count { steps.new ≤ steps.old + 3 * size_of node.now }
@@ -132,11 +137,11 @@ pub fn request_body_ref_from_node(
 
 /// Writes a request body or a reference to one. Err at a name of an extension that does not begin with `x-`, or for want
 /// of memory.
-pub fn request_body_ref_to_node(
+pub fn request_body_ref_to_node<S: SchemaObject>(
     alloc: Global,
-    value: &ReferenceOr<RequestBody>,
+    value: &ReferenceOr<RequestBody<S>>,
 ) -> Result<Node, Fault>
-    ensures { WrittenAs (ref_to (by request_body)) (reference_form (record_form request_body_rows) value.now) result }
+    ensures { WrittenAs (ref_to (by request_body)) (reference_form (record_form (request_body_rows S.form_of)) value.now) result }
 {
     value.to_node(alloc)
 }

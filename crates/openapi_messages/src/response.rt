@@ -11,6 +11,7 @@ ghost use Rattle.openapi_rows.proofs.Spared.{response_spares};
 ghost use Rattle.openapi_messages.specs.Messages.{response_rows};
 
 use openapi_contents::{Content, Header};
+use openapi_knots::SchemaObject;
 use openapi_node::{Fault, Node, OrderedMap, Steps, View};
 use openapi_records::Link;
 use openapi_rows::{
@@ -22,23 +23,23 @@ use std::alloc::Global;
 
 /// The Response Object (OpenAPI 3.0.3, section 4.7.17): one answer of an operation.
 #[derive(Clone, Debug, PartialEq, Drop)]
-pub struct Response {
+pub struct Response<S> {
     /// A description of the response, in CommonMark. Required.
     pub description: String,
     /// The headers of the response, or references to some, by their names. OpenAPI has `Content-Type` ignored among them;
     /// it is kept here.
-    pub headers: OrderedMap<ReferenceOr<Header>>,
+    pub headers: OrderedMap<ReferenceOr<Header<S>>>,
     /// What the response may hold, by media types or ranges of these.
-    pub content: Content,
+    pub content: Content<S>,
     /// What may follow the response: links, or references to some, by short names.
     pub links: OrderedMap<ReferenceOr<Link>>,
     /// Extensions: the members whose names begin with `x-`, in their order.
     pub extensions: OrderedMap<Node>,
 }
 
-impl Response {
+impl<S> Response<S> {
     /// The empty description, and nothing else.
-    pub fn new(alloc: Global) -> Response
+    pub fn new(alloc: Global) -> Response<S>
         ensures description { string_bytes result.description ≡ [] }
         ensures headers { result.headers ≡ [] }
         ensures content { result.content ≡ [] }
@@ -55,23 +56,23 @@ impl Response {
     }
 }
 
-impl Object for Response {
+impl<S: SchemaObject> Object for Response<S> {
     ghost object = { by response };
 
-    ghost slots_of = { record_slots response response_rows };
+    ghost slots_of = { record_slots response (response_rows S.form_of) };
 
-    ghost apart = { λ x. final_apart response (response_rows x) };
+    ghost apart = { λ x. final_apart response (response_rows S.form_of x) };
 }
 
 #[tactic(auto, unfolding(openapi_tables::specs::Tables::final_tables, openapi_tables::specs::Tables::tables_with))]
-impl Record for Response {
-    ghost rows_of = { response_rows };
+impl<S: SchemaObject> Record for Response<S> {
+    ghost rows_of = { response_rows S.form_of };
 
     fn from_members(
         alloc: Global,
         members: &OrderedMap<Node>,
         steps: &mut Steps,
-    ) -> Result<Response, Fault> {
+    ) -> Result<Response<S>, Fault> {
         Ok(Response {
             description: required::<Self, _>(alloc, members, "description", steps)?,
             headers: or_implied::<Self, _>(alloc, members, "headers", steps)?,
@@ -94,12 +95,12 @@ impl Record for Response {
     ghost by_rows = { λ x. refl };
 }
 
-impl FromNode for Response {
+impl<S: SchemaObject> FromNode for Response<S> {
     ghost kind = { by response };
 
-    ghost form_of = { record_form response_rows };
+    ghost form_of = { record_form (response_rows S.form_of) };
 
-    fn from_view(alloc: Global, view: &View<'_>, steps: &mut Steps) -> Result<Response, Fault> {
+    fn from_view(alloc: Global, view: &View<'_>, steps: &mut Steps) -> Result<Response<S>, Fault> {
         read_record(alloc, view, steps)
     }
 
@@ -108,7 +109,7 @@ impl FromNode for Response {
     ghost well_made = { refl };
 }
 
-impl ToNode for Response {
+impl<S: SchemaObject> ToNode for Response<S> {
     fn to_node(&self, alloc: Global) -> Result<Node, Fault> {
         write_record(alloc, self)
     }
@@ -116,7 +117,7 @@ impl ToNode for Response {
     ghost there = { λ x. refl };
 }
 
-impl Referable for Response {
+impl<S: SchemaObject> Referable for Response<S> {
     ghost direct = { refl };
 
     ghost spares_ref = { response_spares };
@@ -124,12 +125,12 @@ impl Referable for Response {
 
 /// Reads a response or a reference to one. Err names a rule that the tree breaks, at its place, or says that memory ran
 /// out.
-pub fn response_ref_from_node(
+pub fn response_ref_from_node<S: SchemaObject>(
     alloc: Global,
     node: &Node,
     steps: &mut Steps,
-) -> Result<ReferenceOr<Response>, Fault>
-    ensures reads { Gives (reference_form (record_form response_rows)) result (ref_to (by response)) node.now }
+) -> Result<ReferenceOr<Response<S>>, Fault>
+    ensures reads { Gives (reference_form (record_form (response_rows S.form_of))) result (ref_to (by response)) node.now }
     ensures refuses { Refuses result (ref_to (by response)) node.now }
     ensures rises { steps.old + 1 ≤ steps.new }
     ensures count { steps.new ≤ steps.old + 3 * size_of node.now }
@@ -139,8 +140,11 @@ pub fn response_ref_from_node(
 
 /// Writes a response or a reference to one. Err at a name of an extension that does not begin with `x-`, or for want of
 /// memory.
-pub fn response_ref_to_node(alloc: Global, value: &ReferenceOr<Response>) -> Result<Node, Fault>
-    ensures { WrittenAs (ref_to (by response)) (reference_form (record_form response_rows) value.now) result }
+pub fn response_ref_to_node<S: SchemaObject>(
+    alloc: Global,
+    value: &ReferenceOr<Response<S>>,
+) -> Result<Node, Fault>
+    ensures { WrittenAs (ref_to (by response)) (reference_form (record_form (response_rows S.form_of)) value.now) result }
 {
     value.to_node(alloc)
 }

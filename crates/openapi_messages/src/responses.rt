@@ -9,6 +9,7 @@ ghost use Rattle.openapi_messages.specs.Messages.{responses_rows};
 use crate::codes::{coded_entries, put_coded};
 use crate::response::Response;
 use indexmap::IndexMap;
+use openapi_knots::SchemaObject;
 use openapi_node::{Fault, Node, OrderedMap, Steps, View};
 use openapi_rows::{
     FromNode, Object, Record, ToNode, extensions, optional, put_extensions, put_optional,
@@ -19,21 +20,21 @@ use std::alloc::Global;
 
 /// The Responses Object (OpenAPI 3.0.3, section 4.7.16): the responses that an operation may give, by their status codes.
 #[derive(Clone, Debug, PartialEq, Drop)]
-pub struct Responses {
+pub struct Responses<S> {
     /// The response for the codes that are not listed, or a reference to one.
-    pub default: Option<ReferenceOr<Response>>,
+    pub default: Option<ReferenceOr<Response<S>>>,
     /// Extensions: the members whose names begin with `x-`, in their order.
     pub extensions: OrderedMap<Node>,
     /// The response, or a reference to one, for each status code or range of codes, in the order in which the codes came.
     /// Of two names of one code, such as `2xx` and `2XX`, both values are checked, and the later one stands in the place of
     /// the earlier. Any digit may begin a range, though OpenAPI lists `1XX` to `5XX` alone. A code can be written where its
     /// text is read as it again: one of 100 to 999, or a range of one digit.
-    pub responses: IndexMap<StatusCode, ReferenceOr<Response>>,
+    pub responses: IndexMap<StatusCode, ReferenceOr<Response<S>>>,
 }
 
-impl Responses {
+impl<S> Responses<S> {
     /// No responses.
-    pub fn new(alloc: Global) -> Responses
+    pub fn new(alloc: Global) -> Responses<S>
         ensures default { result.default ≡ None }
         ensures responses { result.responses.entries ≡ [] }
         ensures extensions { result.extensions ≡ [] }
@@ -46,23 +47,23 @@ impl Responses {
     }
 }
 
-impl Object for Responses {
+impl<S: SchemaObject> Object for Responses<S> {
     ghost object = { by responses };
 
-    ghost slots_of = { record_slots responses responses_rows };
+    ghost slots_of = { record_slots responses (responses_rows S.form_of) };
 
-    ghost apart = { λ x. final_apart responses (responses_rows x) };
+    ghost apart = { λ x. final_apart responses (responses_rows S.form_of x) };
 }
 
 #[tactic(auto, unfolding(openapi_tables::specs::Tables::final_tables, openapi_tables::specs::Tables::tables_with))]
-impl Record for Responses {
-    ghost rows_of = { responses_rows };
+impl<S: SchemaObject> Record for Responses<S> {
+    ghost rows_of = { responses_rows S.form_of };
 
     fn from_members(
         alloc: Global,
         members: &OrderedMap<Node>,
         steps: &mut Steps,
-    ) -> Result<Responses, Fault> {
+    ) -> Result<Responses<S>, Fault> {
         Ok(Responses {
             extensions: extensions::<Self>(alloc, members, steps)?,
             default: optional::<Self, _>(alloc, members, "default", steps)?,
@@ -81,12 +82,12 @@ impl Record for Responses {
     ghost by_rows = { λ x. refl };
 }
 
-impl FromNode for Responses {
+impl<S: SchemaObject> FromNode for Responses<S> {
     ghost kind = { by responses };
 
-    ghost form_of = { record_form responses_rows };
+    ghost form_of = { record_form (responses_rows S.form_of) };
 
-    fn from_view(alloc: Global, view: &View<'_>, steps: &mut Steps) -> Result<Responses, Fault> {
+    fn from_view(alloc: Global, view: &View<'_>, steps: &mut Steps) -> Result<Responses<S>, Fault> {
         read_record(alloc, view, steps)
     }
 
@@ -95,7 +96,7 @@ impl FromNode for Responses {
     ghost well_made = { refl };
 }
 
-impl ToNode for Responses {
+impl<S: SchemaObject> ToNode for Responses<S> {
     fn to_node(&self, alloc: Global) -> Result<Node, Fault> {
         write_record(alloc, self)
     }

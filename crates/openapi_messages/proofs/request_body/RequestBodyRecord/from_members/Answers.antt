@@ -3,7 +3,7 @@ use Rattle.openapi_messages.proofs.request_body.RequestBodyRecord.from_members.G
 
 pub returns-clause-reads : goal.returns-clause-reads
 unfolding final_tables tables_with
-returns-clause-reads c = (
+returns-clause-reads g c = (
   c.in_ok-optional.ensures.reads,
   (
     c.in_ok-or_implied-2.ensures.reads,

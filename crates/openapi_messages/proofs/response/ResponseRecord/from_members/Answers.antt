@@ -3,7 +3,7 @@ use Rattle.openapi_messages.proofs.response.ResponseRecord.from_members.Goals as
 
 pub returns-clause-reads : goal.returns-clause-reads
 unfolding final_tables tables_with
-returns-clause-reads c = (
+returns-clause-reads g c = (
   c.in_ok-required.ensures.reads,
   (
     c.in_ok-or_implied.ensures.reads,

@@ -59,161 +59,162 @@ use Rattle.openapi_operations.specs.declared.callback.Callback.TheFolds.{
 use Rattle.openapi_operations.specs.declared.callback.Callback.TheOpen.{Callback-F, Operation-F, PathItem-F}
 
 -- one level of each type, and the same with what stands inside seen as forms
-abbrev pub ACallback : Type 0
-ACallback = Callback-F the_data the_data-1 the_data-2
+abbrev pub ACallback : Type 0 → Type 0
+ACallback S = Callback-F S (the_data S) (the_data-1 S) (the_data-2 S)
 
-abbrev pub AnOperation : Type 0
-AnOperation = Operation-F the_data the_data-1 the_data-2
+abbrev pub AnOperation : Type 0 → Type 0
+AnOperation S = Operation-F S (the_data S) (the_data-1 S) (the_data-2 S)
 
-abbrev pub APathItem : Type 0
-APathItem = PathItem-F the_data the_data-1 the_data-2
+abbrev pub APathItem : Type 0 → Type 0
+APathItem S = PathItem-F S (the_data S) (the_data-1 S) (the_data-2 S)
 
-abbrev callback_level : ACallback → Callback-F (List Form) (List Form) (List Form)
-callback_level d = map-Callback the_data the_data-1 the_data-2 (List Form) (List Form) (List Form) callback_rows
-    operation_rows path_item_rows d
+module _ {S : Type 0} (schema_form : S → Form) where
+  abbrev callback_level : ACallback S → Callback-F S (List Form) (List Form) (List Form)
+  callback_level d = map-Callback S (the_data S) (the_data-1 S) (the_data-2 S) (List Form) (List Form) (List Form) (callback_rows schema_form)
+      (operation_rows schema_form) (path_item_rows schema_form) d
 
-abbrev operation_level : AnOperation → Operation-F (List Form) (List Form) (List Form)
-operation_level d = map-Operation the_data the_data-1 the_data-2 (List Form) (List Form) (List Form) callback_rows
-    operation_rows path_item_rows d
+  abbrev operation_level : AnOperation S → Operation-F S (List Form) (List Form) (List Form)
+  operation_level d = map-Operation S (the_data S) (the_data-1 S) (the_data-2 S) (List Form) (List Form) (List Form) (callback_rows schema_form)
+      (operation_rows schema_form) (path_item_rows schema_form) d
 
-abbrev path_item_level : APathItem → PathItem-F (List Form) (List Form) (List Form)
-path_item_level d = map-PathItem the_data the_data-1 the_data-2 (List Form) (List Form) (List Form) callback_rows
-    operation_rows path_item_rows d
+  abbrev path_item_level : APathItem S → PathItem-F S (List Form) (List Form) (List Form)
+  path_item_level d = map-PathItem S (the_data S) (the_data-1 S) (the_data-2 S) (List Form) (List Form) (List Form) (callback_rows schema_form)
+      (operation_rows schema_form) (path_item_rows schema_form) d
 
--- a callback by its fields
-abbrev callback_parts : ACallback → List Form
-callback_parts d =
-    map_form path_item_form d.paths
-    ∷ extensions_form d.extensions
-    ∷ []
+  -- a callback by its fields
+  abbrev callback_parts : ACallback S → List Form
+  callback_parts d =
+      map_form (path_item_form schema_form) d.paths
+      ∷ extensions_form d.extensions
+      ∷ []
 
-requests_level : (d : ACallback) (es : Entries PathItem)
-    → pairs_of of_rows (callback_level (record d { paths = es })).paths ≡ pairs_of path_item_form es
-requests_level d [] = refl
-requests_level d ((n, x) ∷ es) =
-    ap (λ l. record { key = name n; value = path_item_form x } ∷ l) (requests_level d es)
+  requests_level : (d : ACallback S) (es : Entries (PathItem S))
+      → pairs_of of_rows (callback_level (record d { paths = es })).paths ≡ pairs_of (path_item_form schema_form) es
+  requests_level d [] = refl
+  requests_level d ((n, x) ∷ es) =
+      ap (λ l. record { key = name n; value = (path_item_form schema_form) x } ∷ l) (requests_level d es)
 
-callback_step-level : (d : ACallback) → callback_step (callback_level d) ≡ callback_parts d
-callback_step-level d = λ i. named (named_of (requests_level d d.paths i)) ∷ extensions_form d.extensions ∷ []
+  callback_step-level : (d : ACallback S) → (callback_step schema_form) (callback_level d) ≡ callback_parts d
+  callback_step-level d = λ i. named (named_of (requests_level d d.paths i)) ∷ extensions_form d.extensions ∷ []
 
-pub callback_rows-out : (x : Callback) → callback_rows x ≡ callback_fields x
-callback_rows-out x =
-    fold_out-Callback (List Form) (List Form) (List Form) callback_step operation_step path_item_step x
-    ∙ callback_step-level (out-Callback x)
+  pub callback_rows-out : (x : Callback S) → (callback_rows schema_form) x ≡ (callback_fields schema_form) x
+  callback_rows-out x =
+      fold_out-Callback S (List Form) (List Form) (List Form) (callback_step schema_form) (operation_step schema_form) (path_item_step schema_form) x
+      ∙ callback_step-level (out-Callback S x)
 
-pub callback_read : (d : ACallback) (ms : Members)
-    → AreRows final_tables (final_tables callback_object) (callback_parts d) ms
-    → AreRows final_tables (final_tables callback_object) (callback_fields (roll-Callback d)) ms
-callback_read d ms h =
-    subst (λ fs. AreRows final_tables (final_tables callback_object) fs ms)
-    (sym (fold-roll-Callback (List Form) (List Form) (List Form) callback_step operation_step path_item_step d
-    ∙ callback_step-level d) ∙ callback_rows-out (roll-Callback d)) h
+  pub callback_read : (d : ACallback S) (ms : Members)
+      → AreRows final_tables (final_tables callback_object) (callback_parts d) ms
+      → AreRows final_tables (final_tables callback_object) (callback_fields schema_form (roll-Callback S d)) ms
+  callback_read d ms h =
+      subst (λ fs. AreRows final_tables (final_tables callback_object) fs ms)
+      (sym (fold-roll-Callback S (List Form) (List Form) (List Form) (callback_step schema_form) (operation_step schema_form) (path_item_step schema_form) d
+      ∙ callback_step-level d) ∙ callback_rows-out (roll-Callback S d)) h
 
--- an operation by its fields
-abbrev operation_parts : AnOperation → List Form
-operation_parts d =
-    list_form text_form d.tags
-    ∷ optional_form text_form d.summary
-    ∷ optional_form text_form d.description
-    ∷ optional_form docs_form d.external_docs
-    ∷ optional_form text_form d.operation_id
-    ∷ list_form parameter_ref_form d.parameters
-    ∷ optional_form body_ref_form d.request_body
-    ∷ record_form responses_rows d.responses
-    ∷ map_form (reference_form callback_form) d.callbacks
-    ∷ flag_form d.deprecated
-    ∷ optional_form (list_form security_requirement_form) d.security
-    ∷ list_form server_form d.servers
-    ∷ extensions_form d.extensions
-    ∷ []
+  -- an operation by its fields
+  abbrev operation_parts : AnOperation S → List Form
+  operation_parts d =
+      list_form text_form d.tags
+      ∷ optional_form text_form d.summary
+      ∷ optional_form text_form d.description
+      ∷ optional_form docs_form d.external_docs
+      ∷ optional_form text_form d.operation_id
+      ∷ list_form (parameter_ref_form schema_form) d.parameters
+      ∷ optional_form (body_ref_form schema_form) d.request_body
+      ∷ record_form (responses_rows schema_form) d.responses
+      ∷ map_form (reference_form (callback_form schema_form)) d.callbacks
+      ∷ flag_form d.deprecated
+      ∷ optional_form (list_form security_requirement_form) d.security
+      ∷ list_form server_form d.servers
+      ∷ extensions_form d.extensions
+      ∷ []
 
-callbacks_level : (d : AnOperation) (es : Entries (ReferenceOr Callback))
-    → pairs_of (reference_form of_rows) (operation_level (record d { callbacks = es })).callbacks
-    ≡ pairs_of (reference_form callback_form) es
-callbacks_level d [] = refl
-callbacks_level d ((n, r.Reference s) ∷ es) =
-    ap (λ l. record { key = name n; value = reference (string_bytes s) } ∷ l) (callbacks_level d es)
-callbacks_level d ((n, r.Item x) ∷ es) =
-    ap (λ l. record { key = name n; value = an_item (callback_form x) } ∷ l) (callbacks_level d es)
+  callbacks_level : (d : AnOperation S) (es : Entries (ReferenceOr (Callback S)))
+      → pairs_of (reference_form of_rows) (operation_level (record d { callbacks = es })).callbacks
+      ≡ pairs_of (reference_form (callback_form schema_form)) es
+  callbacks_level d [] = refl
+  callbacks_level d ((n, r.Reference s) ∷ es) =
+      ap (λ l. record { key = name n; value = reference (string_bytes s) } ∷ l) (callbacks_level d es)
+  callbacks_level d ((n, r.Item x) ∷ es) =
+      ap (λ l. record { key = name n; value = an_item (callback_form schema_form x) } ∷ l) (callbacks_level d es)
 
-operation_step-level : (d : AnOperation) → operation_step (operation_level d) ≡ operation_parts d
-operation_step-level d =
-    (λ i. list_form text_form d.tags ∷ optional_form text_form d.summary ∷ optional_form text_form d.description
-    ∷ optional_form docs_form d.external_docs ∷ optional_form text_form d.operation_id
-    ∷ list_form parameter_ref_form d.parameters ∷ optional_form body_ref_form d.request_body
-    ∷ record_form responses_rows d.responses ∷ named (named_of (callbacks_level d d.callbacks i))
-    ∷ flag_form d.deprecated ∷ optional_form (list_form security_requirement_form) d.security
-    ∷ list_form server_form d.servers ∷ extensions_form d.extensions ∷ [])
+  operation_step-level : (d : AnOperation S) → (operation_step schema_form) (operation_level d) ≡ operation_parts d
+  operation_step-level d =
+      (λ i. list_form text_form d.tags ∷ optional_form text_form d.summary ∷ optional_form text_form d.description
+      ∷ optional_form docs_form d.external_docs ∷ optional_form text_form d.operation_id
+      ∷ list_form (parameter_ref_form schema_form) d.parameters ∷ optional_form (body_ref_form schema_form) d.request_body
+      ∷ record_form (responses_rows schema_form) d.responses ∷ named (named_of (callbacks_level d d.callbacks i))
+      ∷ flag_form d.deprecated ∷ optional_form (list_form security_requirement_form) d.security
+      ∷ list_form server_form d.servers ∷ extensions_form d.extensions ∷ [])
 
-pub operation_rows-out : (x : Operation) → operation_rows x ≡ operation_fields x
-operation_rows-out x =
-    fold_out-Operation (List Form) (List Form) (List Form) callback_step operation_step path_item_step x
-    ∙ operation_step-level (out-Operation x)
+  pub operation_rows-out : (x : Operation S) → (operation_rows schema_form) x ≡ (operation_fields schema_form) x
+  operation_rows-out x =
+      fold_out-Operation S (List Form) (List Form) (List Form) (callback_step schema_form) (operation_step schema_form) (path_item_step schema_form) x
+      ∙ operation_step-level (out-Operation S x)
 
-pub operation_fields-roll : (d : AnOperation) → operation_fields (roll-Operation d) ≡ operation_parts d
-operation_fields-roll d =
-    sym (operation_rows-out (roll-Operation d))
-    ∙ fold-roll-Operation (List Form) (List Form) (List Form) callback_step operation_step path_item_step d
-    ∙ operation_step-level d
+  pub operation_fields-roll : (d : AnOperation S) → (operation_fields schema_form) (roll-Operation S d) ≡ operation_parts d
+  operation_fields-roll d =
+      sym (operation_rows-out (roll-Operation S d))
+      ∙ fold-roll-Operation S (List Form) (List Form) (List Form) (callback_step schema_form) (operation_step schema_form) (path_item_step schema_form) d
+      ∙ operation_step-level d
 
--- a path item by its fields
-abbrev path_item_parts : APathItem → List Form
-path_item_parts d =
-    optional_form text_form d.summary
-    ∷ optional_form text_form d.description
-    ∷ optional_form operation_form d.get
-    ∷ optional_form operation_form d.put
-    ∷ optional_form operation_form d.post
-    ∷ optional_form operation_form d.delete
-    ∷ optional_form operation_form d.options
-    ∷ optional_form operation_form d.head
-    ∷ optional_form operation_form d.patch
-    ∷ optional_form operation_form d.trace
-    ∷ list_form server_form d.servers
-    ∷ list_form parameter_ref_form d.parameters
-    ∷ extensions_form d.extensions
-    ∷ []
+  -- a path item by its fields
+  abbrev path_item_parts : APathItem S → List Form
+  path_item_parts d =
+      optional_form text_form d.summary
+      ∷ optional_form text_form d.description
+      ∷ optional_form (operation_form schema_form) d.get
+      ∷ optional_form (operation_form schema_form) d.put
+      ∷ optional_form (operation_form schema_form) d.post
+      ∷ optional_form (operation_form schema_form) d.delete
+      ∷ optional_form (operation_form schema_form) d.options
+      ∷ optional_form (operation_form schema_form) d.head
+      ∷ optional_form (operation_form schema_form) d.patch
+      ∷ optional_form (operation_form schema_form) d.trace
+      ∷ list_form server_form d.servers
+      ∷ list_form (parameter_ref_form schema_form) d.parameters
+      ∷ extensions_form d.extensions
+      ∷ []
 
--- the operation under a method
-method_level : (d : APathItem) (o : Option Operation)
-    → optional_form of_rows (path_item_level (record d { get = o })).get ≡ optional_form operation_form o
-method_level d None = refl
-method_level d (Some x) = refl
+  -- the operation under a method
+  method_level : (d : APathItem S) (o : Option (Operation S))
+      → optional_form of_rows (path_item_level (record d { get = o })).get ≡ optional_form (operation_form schema_form) o
+  method_level d None = refl
+  method_level d (Some x) = refl
 
-path_item_step-level : (d : APathItem) → path_item_step (path_item_level d) ≡ path_item_parts d
-path_item_step-level d =
-    (λ i. optional_form text_form d.summary ∷ optional_form text_form d.description ∷ method_level d d.get i
-    ∷ method_level d d.put i ∷ method_level d d.post i ∷ method_level d d.delete i ∷ method_level d d.options i
-    ∷ method_level d d.head i ∷ method_level d d.patch i ∷ method_level d d.trace i ∷ list_form server_form d.servers
-    ∷ list_form parameter_ref_form d.parameters ∷ extensions_form d.extensions ∷ [])
+  path_item_step-level : (d : APathItem S) → (path_item_step schema_form) (path_item_level d) ≡ path_item_parts d
+  path_item_step-level d =
+      (λ i. optional_form text_form d.summary ∷ optional_form text_form d.description ∷ method_level d d.get i
+      ∷ method_level d d.put i ∷ method_level d d.post i ∷ method_level d d.delete i ∷ method_level d d.options i
+      ∷ method_level d d.head i ∷ method_level d d.patch i ∷ method_level d d.trace i ∷ list_form server_form d.servers
+      ∷ list_form (parameter_ref_form schema_form) d.parameters ∷ extensions_form d.extensions ∷ [])
 
-pub path_item_rows-out : (x : PathItem) → path_item_rows x ≡ path_item_fields x
-path_item_rows-out x =
-    fold_out-PathItem (List Form) (List Form) (List Form) callback_step operation_step path_item_step x
-    ∙ path_item_step-level (out-PathItem x)
+  pub path_item_rows-out : (x : PathItem S) → (path_item_rows schema_form) x ≡ (path_item_fields schema_form) x
+  path_item_rows-out x =
+      fold_out-PathItem S (List Form) (List Form) (List Form) (callback_step schema_form) (operation_step schema_form) (path_item_step schema_form) x
+      ∙ path_item_step-level (out-PathItem S x)
 
-pub path_item_fields-roll : (d : APathItem) → path_item_fields (roll-PathItem d) ≡ path_item_parts d
-path_item_fields-roll d =
-    sym (path_item_rows-out (roll-PathItem d))
-    ∙ fold-roll-PathItem (List Form) (List Form) (List Form) callback_step operation_step path_item_step d
-    ∙ path_item_step-level d
+  pub path_item_fields-roll : (d : APathItem S) → (path_item_fields schema_form) (roll-PathItem S d) ≡ path_item_parts d
+  path_item_fields-roll d =
+      sym (path_item_rows-out (roll-PathItem S d))
+      ∙ fold-roll-PathItem S (List Form) (List Form) (List Form) (callback_step schema_form) (operation_step schema_form) (path_item_step schema_form) d
+      ∙ path_item_step-level d
 
--- each as an object
-pub callback_given : (r : Result Callback Fault) (ms : Members) (t : Tree) → t ≡ object ms
-    → GivesRows callback_fields r (by callback_object) ms → Gives callback_form r (by callback_object) t
-callback_given r ms t e h =
-    let same : callback_fields ≡ callback_rows = λ i x. sym (callback_rows-out x) i in
-    subst (λ rows. Gives (record_form rows) r (by callback_object) t) same
-    (table_read callback_fields callback_object r ms t e h)
+  -- each as an object
+  pub callback_given : (r : Result (Callback S) Fault) (ms : Members) (t : Tree) → t ≡ object ms
+      → GivesRows (callback_fields schema_form) r (by callback_object) ms → Gives (callback_form schema_form) r (by callback_object) t
+  callback_given r ms t e h =
+      let same : (callback_fields schema_form) ≡ (callback_rows schema_form) = λ i x. sym (callback_rows-out x) i in
+      subst (λ rows. Gives (record_form rows) r (by callback_object) t) same
+      (table_read (callback_fields schema_form) callback_object r ms t e h)
 
-pub operation_given : (r : Result Operation Fault) (ms : Members) (t : Tree) → t ≡ object ms
-    → GivesRows operation_fields r (by operation) ms → Gives operation_form r (by operation) t
-operation_given r ms t e h =
-    let same : operation_fields ≡ operation_rows = λ i x. sym (operation_rows-out x) i in
-    subst (λ rows. Gives (record_form rows) r (by operation) t) same (table_read operation_fields operation r ms t e h)
+  pub operation_given : (r : Result (Operation S) Fault) (ms : Members) (t : Tree) → t ≡ object ms
+      → GivesRows (operation_fields schema_form) r (by operation) ms → Gives (operation_form schema_form) r (by operation) t
+  operation_given r ms t e h =
+      let same : (operation_fields schema_form) ≡ (operation_rows schema_form) = λ i x. sym (operation_rows-out x) i in
+      subst (λ rows. Gives (record_form rows) r (by operation) t) same (table_read (operation_fields schema_form) operation r ms t e h)
 
-pub path_item_given : (r : Result PathItem Fault) (ms : Members) (t : Tree) → t ≡ object ms
-    → GivesRows path_item_fields r (by path_item) ms → Gives path_item_form r (by path_item) t
-path_item_given r ms t e h =
-    let same : path_item_fields ≡ path_item_rows = λ i x. sym (path_item_rows-out x) i in
-    subst (λ rows. Gives (record_form rows) r (by path_item) t) same (table_read path_item_fields path_item r ms t e h)
+  pub path_item_given : (r : Result (PathItem S) Fault) (ms : Members) (t : Tree) → t ≡ object ms
+      → GivesRows (path_item_fields schema_form) r (by path_item) ms → Gives (path_item_form schema_form) r (by path_item) t
+  path_item_given r ms t e h =
+      let same : (path_item_fields schema_form) ≡ (path_item_rows schema_form) = λ i x. sym (path_item_rows-out x) i in
+      subst (λ rows. Gives (record_form rows) r (by path_item) t) same (table_read (path_item_fields schema_form) path_item r ms t e h)

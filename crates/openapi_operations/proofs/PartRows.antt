@@ -36,7 +36,7 @@ unfolding final_tables tables_with
 operation_weight ms = omega arith
 
 -- the operations of a path item, by what was read under each method, of which the last may be refused
-pub methods_read : (r : Result (Unit {0}) Fault) (last : Option Operation) (ms : Members) {a b c d e f g : Form}
+pub methods_read : {S : Type 0} (schema_form : S → Form) (r : Result (Unit {0}) Fault) (last : Option (Operation S)) (ms : Members) {a b c d e f g : Form}
     → RowGives final_tables (optional_row "get" (by operation)) ms a
     → RowGives final_tables (optional_row "put" (by operation)) ms b
     → RowGives final_tables (optional_row "post" (by operation)) ms c
@@ -44,8 +44,8 @@ pub methods_read : (r : Result (Unit {0}) Fault) (last : Option Operation) (ms :
     → RowGives final_tables (optional_row "options" (by operation)) ms e
     → RowGives final_tables (optional_row "head" (by operation)) ms f
     → RowGives final_tables (optional_row "patch" (by operation)) ms g
-    → GivesRow (λ done. optional_form operation_form last) r (by path_item) (optional_row "trace" (by operation)) ms
-    → GivesPart (λ done. a ∷ b ∷ c ∷ d ∷ e ∷ f ∷ g ∷ optional_form operation_form last ∷ []) r (by path_item)
+    → GivesRow (λ done. optional_form (operation_form schema_form) last) r (by path_item) (optional_row "trace" (by operation)) ms
+    → GivesPart (λ done. a ∷ b ∷ c ∷ d ∷ e ∷ f ∷ g ∷ optional_form (operation_form schema_form) last ∷ []) r (by path_item)
     method_rows ms
-methods_read (Ok done) last ms h1 h2 h3 h4 h5 h6 h7 h8 = (h1, (h2, (h3, (h4, (h5, (h6, (h7, (h8, tt))))))))
-methods_read (Err fault) last ms h1 h2 h3 h4 h5 h6 h7 h8 = h8
+methods_read schema_form (Ok done) last ms h1 h2 h3 h4 h5 h6 h7 h8 = (h1, (h2, (h3, (h4, (h5, (h6, (h7, (h8, tt))))))))
+methods_read schema_form (Err fault) last ms h1 h2 h3 h4 h5 h6 h7 h8 = h8

@@ -41,17 +41,18 @@ Fits [] os = Unit {0}
 Fits (n ∷ ns) [] = ⊥
 Fits (n ∷ ns) (o ∷ os) = Fits ns os
 
--- the forms of those that are there are the slots that are there
-forms_held : (ns : List (List ℕ)) (os : List (Option Operation)) (rest : List Form) → Fits ns os
-    → forms_under operation_form (those_held ns os)
-    ≡ those_there ns (forms_of (join (each (optional_form operation_form) os) rest))
-forms_held [] os rest f = refl
-forms_held (n ∷ ns) [] rest f = absurd f
-forms_held (n ∷ ns) (None ∷ os) rest f = forms_held ns os rest f
-forms_held (n ∷ ns) (Some x ∷ os) rest f =
-    ap (λ l. record { name = n; value = operation_form x } ∷ l) (forms_held ns os rest f)
+module _ {S : Type 0} (schema_form : S → Form) where
+  -- the forms of those that are there are the slots that are there
+  forms_held : (ns : List (List ℕ)) (os : List (Option (Operation S))) (rest : List Form) → Fits ns os
+      → forms_under (operation_form schema_form) (those_held ns os)
+      ≡ those_there ns (forms_of (join (each (optional_form (operation_form schema_form)) os) rest))
+  forms_held [] os rest f = refl
+  forms_held (n ∷ ns) [] rest f = absurd f
+  forms_held (n ∷ ns) (None ∷ os) rest f = forms_held ns os rest f
+  forms_held (n ∷ ns) (Some x ∷ os) rest f =
+      ap (λ l. record { name = n; value = (operation_form schema_form) x } ∷ l) (forms_held ns os rest f)
 
-pub present_forms : (x : PathItem) → forms_under operation_form (present_operations x) ≡ present_ops (path_item_form x)
-present_forms x =
-    forms_held methods (operations_in x) (take 3 (drop 10 (path_item_fields x))) tt
-    ∙ sym (ap (λ fs. present_ops (fields plain (forms_of fs))) (path_item_rows-out x))
+  pub present_forms : (x : PathItem S) → forms_under (operation_form schema_form) (present_operations x) ≡ present_ops (path_item_form schema_form x)
+  present_forms x =
+      forms_held methods (operations_in x) (take 3 (drop 10 (path_item_fields schema_form x))) tt
+      ∙ sym (ap (λ fs. present_ops (fields plain (forms_of fs))) (path_item_rows-out schema_form x))

@@ -30,62 +30,63 @@ use Rattle.openapi_operations.specs.declared.operation.Operation.{Operation, out
 use Rattle.openapi_operations.specs.declared.path_item.PathItem.{PathItem, out-PathItem}
 use Rattle.openapi_operations.specs.declared.paths.Paths.{Paths}
 
--- Operation Object
-abbrev pub operation_fields : Operation → List Form
-operation_fields x =
-    list_form text_form (out-Operation x).tags
-    ∷ optional_form text_form (out-Operation x).summary
-    ∷ optional_form text_form (out-Operation x).description
-    ∷ optional_form docs_form (out-Operation x).external_docs
-    ∷ optional_form text_form (out-Operation x).operation_id
-    ∷ list_form parameter_ref_form (out-Operation x).parameters
-    ∷ optional_form body_ref_form (out-Operation x).request_body
-    ∷ record_form responses_rows (out-Operation x).responses
-    ∷ map_form (reference_form callback_form) (out-Operation x).callbacks
-    ∷ flag_form (out-Operation x).deprecated
-    ∷ optional_form (list_form security_requirement_form) (out-Operation x).security
-    ∷ list_form server_form (out-Operation x).servers
-    ∷ extensions_form (out-Operation x).extensions
-    ∷ []
+module _ {S : Type 0} (schema_form : S → Form) where
+  -- Operation Object
+  abbrev pub operation_fields : Operation S → List Form
+  operation_fields x =
+      list_form text_form (out-Operation S x).tags
+      ∷ optional_form text_form (out-Operation S x).summary
+      ∷ optional_form text_form (out-Operation S x).description
+      ∷ optional_form docs_form (out-Operation S x).external_docs
+      ∷ optional_form text_form (out-Operation S x).operation_id
+      ∷ list_form (parameter_ref_form schema_form) (out-Operation S x).parameters
+      ∷ optional_form (body_ref_form schema_form) (out-Operation S x).request_body
+      ∷ record_form (responses_rows schema_form) (out-Operation S x).responses
+      ∷ map_form (reference_form (callback_form schema_form)) (out-Operation S x).callbacks
+      ∷ flag_form (out-Operation S x).deprecated
+      ∷ optional_form (list_form security_requirement_form) (out-Operation S x).security
+      ∷ list_form server_form (out-Operation S x).servers
+      ∷ extensions_form (out-Operation S x).extensions
+      ∷ []
 
--- Path Item Object
-abbrev pub path_item_fields : PathItem → List Form
-path_item_fields x =
-    optional_form text_form (out-PathItem x).summary
-    ∷ optional_form text_form (out-PathItem x).description
-    ∷ optional_form operation_form (out-PathItem x).get
-    ∷ optional_form operation_form (out-PathItem x).put
-    ∷ optional_form operation_form (out-PathItem x).post
-    ∷ optional_form operation_form (out-PathItem x).delete
-    ∷ optional_form operation_form (out-PathItem x).options
-    ∷ optional_form operation_form (out-PathItem x).head
-    ∷ optional_form operation_form (out-PathItem x).patch
-    ∷ optional_form operation_form (out-PathItem x).trace
-    ∷ list_form server_form (out-PathItem x).servers
-    ∷ list_form parameter_ref_form (out-PathItem x).parameters
-    ∷ extensions_form (out-PathItem x).extensions
-    ∷ []
+  -- Path Item Object
+  abbrev pub path_item_fields : PathItem S → List Form
+  path_item_fields x =
+      optional_form text_form (out-PathItem S x).summary
+      ∷ optional_form text_form (out-PathItem S x).description
+      ∷ optional_form (operation_form schema_form) (out-PathItem S x).get
+      ∷ optional_form (operation_form schema_form) (out-PathItem S x).put
+      ∷ optional_form (operation_form schema_form) (out-PathItem S x).post
+      ∷ optional_form (operation_form schema_form) (out-PathItem S x).delete
+      ∷ optional_form (operation_form schema_form) (out-PathItem S x).options
+      ∷ optional_form (operation_form schema_form) (out-PathItem S x).head
+      ∷ optional_form (operation_form schema_form) (out-PathItem S x).patch
+      ∷ optional_form (operation_form schema_form) (out-PathItem S x).trace
+      ∷ list_form server_form (out-PathItem S x).servers
+      ∷ list_form (parameter_ref_form schema_form) (out-PathItem S x).parameters
+      ∷ extensions_form (out-PathItem S x).extensions
+      ∷ []
 
--- Callback Object
-abbrev pub callback_fields : Callback → List Form
-callback_fields x =
-    map_form path_item_form (out-Callback x).paths
-    ∷ extensions_form (out-Callback x).extensions
-    ∷ []
+  -- Callback Object
+  abbrev pub callback_fields : Callback S → List Form
+  callback_fields x =
+      map_form (path_item_form schema_form) (out-Callback S x).paths
+      ∷ extensions_form (out-Callback S x).extensions
+      ∷ []
 
--- Paths Object
-abbrev pub paths_rows : Paths → List Form
-paths_rows x =
-    map_form (reference_form path_item_form) x.paths
-    ∷ extensions_form x.extensions
-    ∷ []
+  -- Paths Object
+  abbrev pub paths_rows : Paths S → List Form
+  paths_rows x =
+      map_form (reference_form (path_item_form schema_form)) x.paths
+      ∷ extensions_form x.extensions
+      ∷ []
 
--- the slots of the first three
-abbrev pub operation_slots : Operation → List Slot
-operation_slots = record_slots operation operation_fields
+  -- the slots of the first three
+  abbrev pub operation_slots : Operation S → List Slot
+  operation_slots = record_slots operation operation_fields
 
-abbrev pub path_item_slots : PathItem → List Slot
-path_item_slots = record_slots path_item path_item_fields
+  abbrev pub path_item_slots : PathItem S → List Slot
+  path_item_slots = record_slots path_item path_item_fields
 
-abbrev pub callback_slots : Callback → List Slot
-callback_slots = record_slots callback_object callback_fields
+  abbrev pub callback_slots : Callback S → List Slot
+  callback_slots = record_slots callback_object callback_fields

@@ -1,3 +1,4 @@
+pub mod Coding
 pub mod Fields
 pub mod OperationForms
 pub mod Parts

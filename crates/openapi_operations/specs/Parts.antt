@@ -70,13 +70,6 @@ message_rows =
     ∷ required_row "responses" (by responses)
     ∷ []
 
-abbrev pub message_forms : OperationMessages → List Form
-message_forms a =
-    list_form parameter_ref_form a.parameters
-    ∷ optional_form body_ref_form a.request_body
-    ∷ record_form responses_rows a.responses
-    ∷ []
-
 -- what a path item has beside its operations
 abbrev pub beside_rows : List Row
 beside_rows =
@@ -85,15 +78,6 @@ beside_rows =
     ∷ list_row "servers" (list_of (by server))
     ∷ list_row "parameters" (list_of (ref_to parameter))
     ∷ extension_rows
-
-abbrev pub beside_forms : PathItemValues → List Form
-beside_forms a =
-    optional_form text_form a.summary
-    ∷ optional_form text_form a.description
-    ∷ list_form server_form a.servers
-    ∷ list_form parameter_ref_form a.parameters
-    ∷ extensions_form a.extensions
-    ∷ []
 
 -- its operations
 abbrev pub method_rows : List Row
@@ -108,50 +92,70 @@ method_rows =
     ∷ optional_row "trace" (by operation)
     ∷ []
 
-abbrev pub method_forms : Methods Operation → List Form
-method_forms m =
-    optional_form operation_form m.get
-    ∷ optional_form operation_form m.put
-    ∷ optional_form operation_form m.post
-    ∷ optional_form operation_form m.delete
-    ∷ optional_form operation_form m.options
-    ∷ optional_form operation_form m.head
-    ∷ optional_form operation_form m.patch
-    ∷ optional_form operation_form m.trace
-    ∷ []
+module _ {S : Type 0} (schema_form : S → Form) where
+  -- what is sent to an operation, and what it answers
+  abbrev pub message_forms : OperationMessages S → List Form
+  message_forms a =
+      list_form (parameter_ref_form schema_form) a.parameters
+      ∷ optional_form (body_ref_form schema_form) a.request_body
+      ∷ record_form (responses_rows schema_form) a.responses
+      ∷ []
 
--- the parts in the order of the rows of the whole table
-abbrev pub operation_joined : OperationTexts → OperationSettings → Entries (ReferenceOr Callback) → Entries Tree
-    → OperationMessages → List Form
-operation_joined a b callbacks extensions m =
-    list_form text_form a.tags
-    ∷ optional_form text_form a.summary
-    ∷ optional_form text_form a.description
-    ∷ optional_form docs_form b.external_docs
-    ∷ optional_form text_form a.operation_id
-    ∷ list_form parameter_ref_form m.parameters
-    ∷ optional_form body_ref_form m.request_body
-    ∷ record_form responses_rows m.responses
-    ∷ map_form (reference_form callback_form) callbacks
-    ∷ flag_form a.deprecated
-    ∷ optional_form (list_form security_requirement_form) b.security
-    ∷ list_form server_form b.servers
-    ∷ extensions_form extensions
-    ∷ []
+  -- what a path item has beside its operations
+  abbrev pub beside_forms : PathItemValues S → List Form
+  beside_forms a =
+      optional_form text_form a.summary
+      ∷ optional_form text_form a.description
+      ∷ list_form server_form a.servers
+      ∷ list_form (parameter_ref_form schema_form) a.parameters
+      ∷ extensions_form a.extensions
+      ∷ []
 
-abbrev pub path_item_joined : PathItemValues → Methods Operation → List Form
-path_item_joined a m =
-    optional_form text_form a.summary
-    ∷ optional_form text_form a.description
-    ∷ optional_form operation_form m.get
-    ∷ optional_form operation_form m.put
-    ∷ optional_form operation_form m.post
-    ∷ optional_form operation_form m.delete
-    ∷ optional_form operation_form m.options
-    ∷ optional_form operation_form m.head
-    ∷ optional_form operation_form m.patch
-    ∷ optional_form operation_form m.trace
-    ∷ list_form server_form a.servers
-    ∷ list_form parameter_ref_form a.parameters
-    ∷ extensions_form a.extensions
-    ∷ []
+  -- its operations
+  abbrev pub method_forms : Methods (Operation S) → List Form
+  method_forms m =
+      optional_form (operation_form schema_form) m.get
+      ∷ optional_form (operation_form schema_form) m.put
+      ∷ optional_form (operation_form schema_form) m.post
+      ∷ optional_form (operation_form schema_form) m.delete
+      ∷ optional_form (operation_form schema_form) m.options
+      ∷ optional_form (operation_form schema_form) m.head
+      ∷ optional_form (operation_form schema_form) m.patch
+      ∷ optional_form (operation_form schema_form) m.trace
+      ∷ []
+
+  -- the parts in the order of the rows of the whole table
+  abbrev pub operation_joined : OperationTexts → OperationSettings → Entries (ReferenceOr (Callback S)) → Entries Tree
+      → OperationMessages S → List Form
+  operation_joined a b callbacks extensions m =
+      list_form text_form a.tags
+      ∷ optional_form text_form a.summary
+      ∷ optional_form text_form a.description
+      ∷ optional_form docs_form b.external_docs
+      ∷ optional_form text_form a.operation_id
+      ∷ list_form (parameter_ref_form schema_form) m.parameters
+      ∷ optional_form (body_ref_form schema_form) m.request_body
+      ∷ record_form (responses_rows schema_form) m.responses
+      ∷ map_form (reference_form (callback_form schema_form)) callbacks
+      ∷ flag_form a.deprecated
+      ∷ optional_form (list_form security_requirement_form) b.security
+      ∷ list_form server_form b.servers
+      ∷ extensions_form extensions
+      ∷ []
+
+  abbrev pub path_item_joined : PathItemValues S → Methods (Operation S) → List Form
+  path_item_joined a m =
+      optional_form text_form a.summary
+      ∷ optional_form text_form a.description
+      ∷ optional_form (operation_form schema_form) m.get
+      ∷ optional_form (operation_form schema_form) m.put
+      ∷ optional_form (operation_form schema_form) m.post
+      ∷ optional_form (operation_form schema_form) m.delete
+      ∷ optional_form (operation_form schema_form) m.options
+      ∷ optional_form (operation_form schema_form) m.head
+      ∷ optional_form (operation_form schema_form) m.patch
+      ∷ optional_form (operation_form schema_form) m.trace
+      ∷ list_form server_form a.servers
+      ∷ list_form (parameter_ref_form schema_form) a.parameters
+      ∷ extensions_form a.extensions
+      ∷ []

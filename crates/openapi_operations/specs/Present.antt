@@ -22,20 +22,20 @@ abbrev pub under_methods : {X : Type 0} → Methods X → List (Option X)
 under_methods m = m.get ∷ m.put ∷ m.post ∷ m.delete ∷ m.options ∷ m.head ∷ m.patch ∷ m.trace ∷ []
 
 -- what stands under the methods of a path item, in their order
-abbrev pub operations_in : PathItem → List (Option Operation)
+abbrev pub operations_in : {S : Type 0} → PathItem S → List (Option (Operation S))
 operations_in x =
-    (out-PathItem x).get
-    ∷ (out-PathItem x).put
-    ∷ (out-PathItem x).post
-    ∷ (out-PathItem x).delete
-    ∷ (out-PathItem x).options
-    ∷ (out-PathItem x).head
-    ∷ (out-PathItem x).patch
-    ∷ (out-PathItem x).trace
+    (out-PathItem _ x).get
+    ∷ (out-PathItem _ x).put
+    ∷ (out-PathItem _ x).post
+    ∷ (out-PathItem _ x).delete
+    ∷ (out-PathItem _ x).options
+    ∷ (out-PathItem _ x).head
+    ∷ (out-PathItem _ x).patch
+    ∷ (out-PathItem _ x).trace
     ∷ []
 
 -- the operations of a path item that are there
-abbrev pub present_operations : PathItem → Entries Operation
+abbrev pub present_operations : {S : Type 0} → PathItem S → Entries (Operation S)
 present_operations x = those_held methods (operations_in x)
 
 -- what values that are lent are

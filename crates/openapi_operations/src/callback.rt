@@ -15,6 +15,7 @@ ghost use Rattle.openapi_operations.specs.Spared.{callback_spares};
 use crate::path_item::PathItem;
 use crate::read::read_callback;
 use crate::write::write_callback;
+use openapi_knots::SchemaObject;
 use openapi_node::{Fault, Node, OrderedMap, Steps, View};
 use openapi_rows::{FromNode, Object, Referable, ToNode};
 use openapi_values::ReferenceOr;
@@ -24,22 +25,22 @@ use std::alloc::Global;
 /// where to.
 #[cycle(operations)]
 #[derive(Clone, Debug, PartialEq, Drop)]
-pub struct Callback {
+pub struct Callback<S> {
     /// The requests, each as a path item under its expression: the members whose names do not begin with `x-`, in their
     /// order. No reference stands in the place of such a path item. It is `$ref` that is ignored there, and not what
     /// stands beside it.
-    pub paths: OrderedMap<PathItem>,
+    pub paths: OrderedMap<PathItem<S>>,
     /// Extensions: the members whose names begin with `x-`, in their order.
     pub extensions: OrderedMap<Node>,
 }
 
-impl Callback {
+impl<S> Callback<S> {
     ghost use Rattle.openapi_operations.specs.declared.callback.Callback.{out-Callback};
 
     /// No requests.
-    pub fn new(alloc: Global) -> Callback
-        ensures paths { (out-Callback result).paths ≡ [] }
-        ensures extensions { (out-Callback result).extensions ≡ [] }
+    pub fn new(alloc: Global) -> Callback<S>
+        ensures paths { (out-Callback S result).paths ≡ [] }
+        ensures extensions { (out-Callback S result).extensions ≡ [] }
     {
         Callback {
             paths: OrderedMap::new(alloc),
@@ -48,20 +49,20 @@ impl Callback {
     }
 }
 
-impl Object for Callback {
+impl<S: SchemaObject> Object for Callback<S> {
     ghost object = { by callback_object };
 
-    ghost slots_of = { record_slots callback_object callback_fields };
+    ghost slots_of = { record_slots callback_object (callback_fields S.form_of) };
 
-    ghost apart = { λ x. final_apart callback_object (callback_fields x) };
+    ghost apart = { λ x. final_apart callback_object (callback_fields S.form_of x) };
 }
 
-impl FromNode for Callback {
+impl<S: SchemaObject> FromNode for Callback<S> {
     ghost kind = { by callback_object };
 
-    ghost form_of = { callback_form };
+    ghost form_of = { callback_form S.form_of };
 
-    fn from_view(alloc: Global, view: &View<'_>, steps: &mut Steps) -> Result<Callback, Fault> {
+    fn from_view(alloc: Global, view: &View<'_>, steps: &mut Steps) -> Result<Callback<S>, Fault> {
         read_callback(alloc, view, steps)
     }
 
@@ -71,7 +72,7 @@ impl FromNode for Callback {
 }
 
 /// Refused also at a name among `paths` that begins with `x-`, which would be read as an extension.
-impl ToNode for Callback {
+impl<S: SchemaObject> ToNode for Callback<S> {
     fn to_node(&self, alloc: Global) -> Result<Node, Fault> {
         write_callback(alloc, self)
     }
@@ -79,7 +80,7 @@ impl ToNode for Callback {
     ghost there = { λ x. refl };
 }
 
-impl Referable for Callback {
+impl<S: SchemaObject> Referable for Callback<S> {
     ghost direct = { refl };
 
     ghost spares_ref = { callback_spares };
@@ -87,12 +88,12 @@ impl Referable for Callback {
 
 /// Reads a callback or a reference to one. Err names a rule that the tree breaks, at its place, or says that memory ran
 /// out.
-pub fn callback_ref_from_node(
+pub fn callback_ref_from_node<S: SchemaObject>(
     alloc: Global,
     node: &Node,
     steps: &mut Steps,
-) -> Result<ReferenceOr<Callback>, Fault>
-    ensures reads { Gives (reference_form callback_form) result callback_ref node.now }
+) -> Result<ReferenceOr<Callback<S>>, Fault>
+    ensures reads { Gives (reference_form (callback_form S.form_of)) result callback_ref node.now }
     ensures refuses { Refuses result callback_ref node.now }
     ensures rises { steps.old + 1 ≤ steps.new }
     ensures count { steps.new ≤ steps.old + 3 * size_of node.now }
@@ -102,8 +103,11 @@ pub fn callback_ref_from_node(
 
 /// Writes a callback or a reference to one. Err at a name or a code in it that would not be read again, or for want of
 /// memory.
-pub fn callback_ref_to_node(alloc: Global, value: &ReferenceOr<Callback>) -> Result<Node, Fault>
-    ensures { WrittenAs callback_ref (reference_form callback_form value.now) result }
+pub fn callback_ref_to_node<S: SchemaObject>(
+    alloc: Global,
+    value: &ReferenceOr<Callback<S>>,
+) -> Result<Node, Fault>
+    ensures { WrittenAs callback_ref (reference_form (callback_form S.form_of) value.now) result }
 {
     value.to_node(alloc)
 }

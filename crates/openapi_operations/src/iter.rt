@@ -10,38 +10,40 @@ ghost use Rattle.openapi_operations.specs.Present.{those_held, under_methods};
 use crate::methods::Methods;
 use crate::operation::Operation;
 use crate::path_item::PathItem;
+use openapi_knots::SchemaObject;
 use std::marker::Model;
 
 /// The operations of a path item that are there, each as `(&'static str, &Operation)`: its method, as it is written in
 /// the document, and the operation. They come in the order of the fields of [`PathItem`], from `get` to `trace`.
 #[derive(Drop)]
-pub struct PathItemIter<'a> {
-    left: Methods<&'a Operation>,
+pub struct PathItemIter<'a, S> {
+    left: Methods<&'a Operation<S>>,
 }
 
-impl<'a> Model for PathItemIter<'a> {
+impl<'a, S> Model for PathItemIter<'a, S> {
     ghost use Rattle.std.specs.Coded.{coded_list, coded×, coded_ℕ};
     ghost use Rattle.openapi_map.specs.Entries.{Entries};
     ghost use Rattle.openapi_tables.specs.Operations.{methods};
     ghost use Rattle.openapi_operations.specs.Present.{lent, those_held, under_methods};
+    ghost use Rattle.openapi_operations.specs.Coding.{code_row};
     ghost use Rattle.openapi_operations.specs.contracts.operation.Operation as operation;
     ghost use Rattle.openapi_operations.specs.declared.operation.Operation.{Operation};
 
-    ghost Value = { Entries Operation };
+    ghost Value = { Entries (Operation S) };
 
-    ghost coded = { coded_list (coded× (coded_list coded_ℕ) operation.the_row.coded) };
+    ghost coded = { coded_list (coded× (coded_list coded_ℕ) (operation.the_row (code_row S S.code)).coded) };
 
     ghost view = { λ it. lent (those_held methods (under_methods it.left)) };
 }
 
-impl<'a> Iterator for PathItemIter<'a> {
-    type Item = (&'static str, &'a Operation);
+impl<'a, S> Iterator for PathItemIter<'a, S> {
+    type Item = (&'static str, &'a Operation<S>);
 
     ghost next_gives = { TakesFirst deref_pair };
 
     ghost remaining = { λ it. at_most (length it) };
 
-    fn next(&mut self) -> Option<(&'static str, &'a Operation)> {
+    fn next(&mut self) -> Option<(&'static str, &'a Operation<S>)> {
         self.left.take_first()
     }
 }
@@ -50,45 +52,46 @@ impl<'a> Iterator for PathItemIter<'a> {
 /// document, and the operation, which the path item no longer owns. They come in the order of the fields of
 /// [`PathItem`], from `get` to `trace`.
 #[derive(Drop)]
-pub struct PathItemIntoIter {
-    left: Methods<Operation>,
+pub struct PathItemIntoIter<S> {
+    left: Methods<Operation<S>>,
 }
 
-impl Model for PathItemIntoIter {
+impl<S> Model for PathItemIntoIter<S> {
     ghost use Rattle.std.specs.Coded.{coded_list, coded×, coded_ℕ};
     ghost use Rattle.openapi_map.specs.Entries.{Entries};
     ghost use Rattle.openapi_tables.specs.Operations.{methods};
     ghost use Rattle.openapi_operations.specs.Present.{those_held, under_methods};
+    ghost use Rattle.openapi_operations.specs.Coding.{code_row};
     ghost use Rattle.openapi_operations.specs.contracts.operation.Operation as operation;
     ghost use Rattle.openapi_operations.specs.declared.operation.Operation.{Operation};
 
-    ghost Value = { Entries Operation };
+    ghost Value = { Entries (Operation S) };
 
-    ghost coded = { coded_list (coded× (coded_list coded_ℕ) operation.the_row.coded) };
+    ghost coded = { coded_list (coded× (coded_list coded_ℕ) (operation.the_row (code_row S S.code)).coded) };
 
     ghost view = { λ it. those_held methods (under_methods it.left) };
 }
 
-impl Iterator for PathItemIntoIter {
-    type Item = (&'static str, Operation);
+impl<S: Drop> Iterator for PathItemIntoIter<S> {
+    type Item = (&'static str, Operation<S>);
 
     ghost next_gives = { TakesFirst owned_method };
 
     ghost remaining = { λ it. at_most (length it) };
 
-    fn next(&mut self) -> Option<(&'static str, Operation)> {
+    fn next(&mut self) -> Option<(&'static str, Operation<S>)> {
         self.left.take_first()
     }
 }
 
-impl PathItem {
+impl<S: SchemaObject> PathItem<S> {
     /// The operations that are there, in the order get, put, post, delete, options, head, patch, trace. No memory is
     /// taken.
-    pub fn iter(&self) -> PathItemIter<'_>
+    pub fn iter(&self) -> PathItemIter<'_, S>
         ensures rest { result ≡ present_operations self.now }
-        ensures forms { forms_under operation_form result ≡ present_ops (path_item_form self.now) }
-        ensures runs { ShowsInOrder (deref_pair {K = List ℕ} {X = Operation}) }
-        ensures values_run { ShowsValuesInOrder (deref_pair {K = List ℕ} {X = Operation}) }
+        ensures forms { forms_under (operation_form S.form_of) result ≡ present_ops (path_item_form S.form_of self.now) }
+        ensures runs { ShowsInOrder (deref_pair {K = List ℕ} {X = Operation S}) }
+        ensures values_run { ShowsValuesInOrder (deref_pair {K = List ℕ} {X = Operation S}) }
     {
         PathItemIter {
             left: Methods {
@@ -106,19 +109,19 @@ impl PathItem {
 }
 
 /// The operations that are there, in the order get, put, post, delete, options, head, patch, trace. No memory is taken.
-impl IntoIterator for PathItem {
+impl<S: SchemaObject> IntoIterator for PathItem<S> {
     ghost use Rattle.openapi_operations.specs.declared.operation.Operation.{Operation};
 
-    type Item = (&'static str, Operation);
+    type Item = (&'static str, Operation<S>);
 
-    type IntoIter = PathItemIntoIter;
+    type IntoIter = PathItemIntoIter<S>;
 
     ghost into_iter_gives = { λ x it. (it ≡ present_operations x)
-        × (forms_under operation_form it ≡ present_ops (path_item_form x))
-        × ShowsInOrder (owned_method {K = List ℕ} {X = Operation})
-        × ShowsValuesInOrder (owned_method {K = List ℕ} {X = Operation}) };
+        × (forms_under (operation_form S.form_of) it ≡ present_ops (path_item_form S.form_of x))
+        × ShowsInOrder (owned_method {K = List ℕ} {X = Operation S})
+        × ShowsValuesInOrder (owned_method {K = List ℕ} {X = Operation S}) };
 
-    fn into_iter(self) -> PathItemIntoIter {
+    fn into_iter(self) -> PathItemIntoIter<S> {
         PathItemIntoIter {
             left: Methods {
                 get: self.get,

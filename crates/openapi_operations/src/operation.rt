@@ -11,6 +11,7 @@ use crate::callback::Callback;
 use crate::read::read_operation;
 use crate::write::write_operation;
 use openapi_annotations::ExternalDocumentation;
+use openapi_knots::SchemaObject;
 use openapi_messages::{RequestBody, Responses};
 use openapi_node::{Fault, Node, OrderedMap, Steps, View};
 use openapi_parameters::Parameter;
@@ -24,7 +25,7 @@ use std::alloc::Global;
 /// it stands under.
 #[cycle(operations)]
 #[derive(Clone, Debug, PartialEq, Drop)]
-pub struct Operation {
+pub struct Operation<S> {
     /// The tags by which the operation is grouped.
     pub tags: Vec<String>,
     /// What the operation does, in a few words.
@@ -46,35 +47,35 @@ pub struct Operation {
     pub extensions: OrderedMap<Node>,
     /// The parameters of the operation, or references to some. One takes the place of a parameter of the path item that
     /// has its name and place.
-    pub parameters: Vec<ReferenceOr<Parameter>>,
+    pub parameters: Vec<ReferenceOr<Parameter<S>>>,
     /// The requests that the API may send in turn, or references to some, by names.
-    pub callbacks: OrderedMap<ReferenceOr<Callback>>,
+    pub callbacks: OrderedMap<ReferenceOr<Callback<S>>>,
     /// The responses that may come. Required.
-    pub responses: Responses,
+    pub responses: Responses<S>,
     /// `requestBody`: what is sent as the body of a request, or a reference to it.
-    pub request_body: Option<ReferenceOr<RequestBody>>,
+    pub request_body: Option<ReferenceOr<RequestBody<S>>>,
 }
 
-impl Operation {
+impl<S> Operation<S> {
     ghost use Rattle.openapi_operations.specs.declared.operation.Operation.{out-Operation};
 
     /// What nothing is said of, without responses.
-    pub fn new(alloc: Global) -> Operation
-        ensures tags { (out-Operation result).tags.items ≡ [] }
-        ensures summary { (out-Operation result).summary ≡ None }
-        ensures description { (out-Operation result).description ≡ None }
-        ensures external_docs { (out-Operation result).external_docs ≡ None }
-        ensures operation_id { (out-Operation result).operation_id ≡ None }
-        ensures parameters { (out-Operation result).parameters.items ≡ [] }
-        ensures request_body { (out-Operation result).request_body ≡ None }
-        ensures default_response { (out-Operation result).responses.default ≡ None }
-        ensures responses { (out-Operation result).responses.responses.entries ≡ [] }
-        ensures response_extensions { (out-Operation result).responses.extensions ≡ [] }
-        ensures callbacks { (out-Operation result).callbacks ≡ [] }
-        ensures deprecated { (out-Operation result).deprecated ≡ false }
-        ensures security { (out-Operation result).security ≡ None }
-        ensures servers { (out-Operation result).servers.items ≡ [] }
-        ensures extensions { (out-Operation result).extensions ≡ [] }
+    pub fn new(alloc: Global) -> Operation<S>
+        ensures tags { (out-Operation S result).tags.items ≡ [] }
+        ensures summary { (out-Operation S result).summary ≡ None }
+        ensures description { (out-Operation S result).description ≡ None }
+        ensures external_docs { (out-Operation S result).external_docs ≡ None }
+        ensures operation_id { (out-Operation S result).operation_id ≡ None }
+        ensures parameters { (out-Operation S result).parameters.items ≡ [] }
+        ensures request_body { (out-Operation S result).request_body ≡ None }
+        ensures default_response { (out-Operation S result).responses.default ≡ None }
+        ensures responses { (out-Operation S result).responses.responses.entries ≡ [] }
+        ensures response_extensions { (out-Operation S result).responses.extensions ≡ [] }
+        ensures callbacks { (out-Operation S result).callbacks ≡ [] }
+        ensures deprecated { (out-Operation S result).deprecated ≡ false }
+        ensures security { (out-Operation S result).security ≡ None }
+        ensures servers { (out-Operation S result).servers.items ≡ [] }
+        ensures extensions { (out-Operation S result).extensions ≡ [] }
     {
         Operation {
             tags: Vec::new(alloc),
@@ -94,20 +95,20 @@ impl Operation {
     }
 }
 
-impl Object for Operation {
+impl<S: SchemaObject> Object for Operation<S> {
     ghost object = { by operation };
 
-    ghost slots_of = { record_slots operation operation_fields };
+    ghost slots_of = { record_slots operation (operation_fields S.form_of) };
 
-    ghost apart = { λ x. final_apart operation (operation_fields x) };
+    ghost apart = { λ x. final_apart operation (operation_fields S.form_of x) };
 }
 
-impl FromNode for Operation {
+impl<S: SchemaObject> FromNode for Operation<S> {
     ghost kind = { by operation };
 
-    ghost form_of = { operation_form };
+    ghost form_of = { operation_form S.form_of };
 
-    fn from_view(alloc: Global, view: &View<'_>, steps: &mut Steps) -> Result<Operation, Fault> {
+    fn from_view(alloc: Global, view: &View<'_>, steps: &mut Steps) -> Result<Operation<S>, Fault> {
         read_operation(alloc, view, steps)
     }
 
@@ -116,7 +117,7 @@ impl FromNode for Operation {
     ghost well_made = { refl };
 }
 
-impl ToNode for Operation {
+impl<S: SchemaObject> ToNode for Operation<S> {
     fn to_node(&self, alloc: Global) -> Result<Node, Fault> {
         write_operation(alloc, self)
     }

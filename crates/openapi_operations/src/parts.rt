@@ -1,4 +1,5 @@
 //! What is read and written of operations and path items in parts, but for what leads back to path items.
+ghost use Rattle.std.proofs.Common.{refl};
 ghost use Rattle.std.specs.Prelude.{◌≡◌, ◌+◌, ◌*◌, ◌≤◌, [], codes, OnOk, IfErr};
 ghost use Rattle.openapi_node.specs.Tree.{members_of};
 ghost use Rattle.openapi_tables.specs.ByRow.{AreRows, is_named, rows_weight};
@@ -17,13 +18,14 @@ use crate::methods::Methods;
 use crate::operation::Operation;
 use crate::path_item::PathItem;
 use openapi_annotations::ExternalDocumentation;
+use openapi_knots::SchemaObject;
 use openapi_messages::{RequestBody, Responses};
 use openapi_node::{Fault, Node, OrderedMap, Steps};
 use openapi_parameters::Parameter;
 use openapi_records::Server;
 use openapi_rows::{
-    extensions, optional, or_implied, put_extensions, put_implied, put_optional, put_required,
-    required,
+    Object, extensions, optional, or_implied, put_extensions, put_implied, put_optional,
+    put_required, required,
 };
 use openapi_security::SecurityRequirement;
 use openapi_values::ReferenceOr;
@@ -49,20 +51,31 @@ pub(crate) struct OperationSettings {
 
 /// What is sent to an operation, and what it answers.
 #[derive(Drop)]
-pub(crate) struct OperationMessages {
-    pub parameters: Vec<ReferenceOr<Parameter>>,
-    pub request_body: Option<ReferenceOr<RequestBody>>,
-    pub responses: Responses,
+pub(crate) struct OperationMessages<S> {
+    pub parameters: Vec<ReferenceOr<Parameter<S>>>,
+    pub request_body: Option<ReferenceOr<RequestBody<S>>>,
+    pub responses: Responses<S>,
 }
 
 /// What a path item has beside its operations.
 #[derive(Drop)]
-pub(crate) struct PathItemValues {
+pub(crate) struct PathItemValues<S> {
     pub summary: Option<String>,
     pub description: Option<String>,
     pub servers: Vec<Server>,
-    pub parameters: Vec<ReferenceOr<Parameter>>,
+    pub parameters: Vec<ReferenceOr<Parameter<S>>>,
     pub extensions: OrderedMap<Node>,
+}
+
+/// The table of operations.
+struct OperationTable;
+
+impl Object for OperationTable {
+    ghost object = { kinds.by kinds.operation };
+
+    ghost slots_of = { λ x. [] };
+
+    ghost apart = { λ x. refl };
 }
 
 /// Reads the texts of an operation, and its flag first.
@@ -77,11 +90,11 @@ pub(crate) fn read_texts(
     ensures count { steps.new ≤ steps.old + 3 * rows_weight text_rows (members_of members.now) }
 {
     Ok(OperationTexts {
-        deprecated: or_implied::<Operation, _>(alloc, members, "deprecated", steps)?,
-        tags: or_implied::<Operation, _>(alloc, members, "tags", steps)?,
-        summary: optional::<Operation, _>(alloc, members, "summary", steps)?,
-        description: optional::<Operation, _>(alloc, members, "description", steps)?,
-        operation_id: optional::<Operation, _>(alloc, members, "operationId", steps)?,
+        deprecated: or_implied::<OperationTable, _>(alloc, members, "deprecated", steps)?,
+        tags: or_implied::<OperationTable, _>(alloc, members, "tags", steps)?,
+        summary: optional::<OperationTable, _>(alloc, members, "summary", steps)?,
+        description: optional::<OperationTable, _>(alloc, members, "description", steps)?,
+        operation_id: optional::<OperationTable, _>(alloc, members, "operationId", steps)?,
     })
 }
 
@@ -97,60 +110,60 @@ pub(crate) fn read_settings(
     ensures count { steps.new ≤ steps.old + 3 * rows_weight setting_rows (members_of members.now) }
 {
     Ok(OperationSettings {
-        security: optional::<Operation, _>(alloc, members, "security", steps)?,
-        servers: or_implied::<Operation, _>(alloc, members, "servers", steps)?,
-        external_docs: optional::<Operation, _>(alloc, members, "externalDocs", steps)?,
+        security: optional::<OperationTable, _>(alloc, members, "security", steps)?,
+        servers: or_implied::<OperationTable, _>(alloc, members, "servers", steps)?,
+        external_docs: optional::<OperationTable, _>(alloc, members, "externalDocs", steps)?,
     })
 }
 
 /// Reads what is sent to an operation, and what it answers.
 #[tactic(auto, unfolding(openapi_tables::specs::Tables::final_tables, openapi_tables::specs::Tables::tables_with))]
-pub(crate) fn read_messages(
+pub(crate) fn read_messages<S: SchemaObject>(
     alloc: Global,
     members: &OrderedMap<Node>,
     steps: &mut Steps,
-) -> Result<OperationMessages, Fault>
-    ensures reads { GivesPart message_forms result (kinds.by kinds.operation) message_rows (members_of members.now) }
+) -> Result<OperationMessages<S>, Fault>
+    ensures reads { GivesPart (message_forms S.form_of) result (kinds.by kinds.operation) message_rows (members_of members.now) }
     ensures rises { steps.old ≤ steps.new }
     ensures count { steps.new ≤ steps.old + 3 * rows_weight message_rows (members_of members.now) }
 {
     Ok(OperationMessages {
-        parameters: or_implied::<Operation, _>(alloc, members, "parameters", steps)?,
-        request_body: optional::<Operation, _>(alloc, members, "requestBody", steps)?,
-        responses: required::<Operation, _>(alloc, members, "responses", steps)?,
+        parameters: or_implied::<Operation<S>, _>(alloc, members, "parameters", steps)?,
+        request_body: optional::<Operation<S>, _>(alloc, members, "requestBody", steps)?,
+        responses: required::<Operation<S>, _>(alloc, members, "responses", steps)?,
     })
 }
 
 /// Reads what a path item has beside its operations.
 #[tactic(auto, unfolding(openapi_tables::specs::Tables::final_tables, openapi_tables::specs::Tables::tables_with))]
-pub(crate) fn read_beside(
+pub(crate) fn read_beside<S: SchemaObject>(
     alloc: Global,
     members: &OrderedMap<Node>,
     steps: &mut Steps,
-) -> Result<PathItemValues, Fault>
-    ensures reads { GivesPart beside_forms result (kinds.by kinds.path_item) beside_rows (members_of members.now) }
+) -> Result<PathItemValues<S>, Fault>
+    ensures reads { GivesPart (beside_forms S.form_of) result (kinds.by kinds.path_item) beside_rows (members_of members.now) }
     ensures rises { steps.old ≤ steps.new }
     ensures count { steps.new ≤ steps.old + 3 * rows_weight beside_rows (members_of members.now) }
 {
     Ok(PathItemValues {
-        summary: optional::<PathItem, _>(alloc, members, "summary", steps)?,
-        description: optional::<PathItem, _>(alloc, members, "description", steps)?,
-        servers: or_implied::<PathItem, _>(alloc, members, "servers", steps)?,
-        parameters: or_implied::<PathItem, _>(alloc, members, "parameters", steps)?,
-        extensions: extensions::<PathItem>(alloc, members, steps)?,
+        summary: optional::<PathItem<S>, _>(alloc, members, "summary", steps)?,
+        description: optional::<PathItem<S>, _>(alloc, members, "description", steps)?,
+        servers: or_implied::<PathItem<S>, _>(alloc, members, "servers", steps)?,
+        parameters: or_implied::<PathItem<S>, _>(alloc, members, "parameters", steps)?,
+        extensions: extensions::<PathItem<S>>(alloc, members, steps)?,
     })
 }
 
 /// Reads a path item whose operations were read.
 #[inline(never)]
-pub(crate) fn path_item_with(
+pub(crate) fn path_item_with<S: SchemaObject>(
     alloc: Global,
     members: &OrderedMap<Node>,
-    methods: Methods<Operation>,
+    methods: Methods<Operation<S>>,
     steps: &mut Steps,
-) -> Result<PathItem, Fault>
-    requires { AreRows final_tables method_rows (method_forms methods) (members_of members.now) }
-    ensures reads { GivesRows path_item_fields result (kinds.by kinds.path_item) (members_of members.now) }
+) -> Result<PathItem<S>, Fault>
+    requires { AreRows final_tables method_rows (method_forms S.form_of methods) (members_of members.now) }
+    ensures reads { GivesRows (path_item_fields S.form_of) result (kinds.by kinds.path_item) (members_of members.now) }
     ensures rises { steps.old ≤ steps.new }
     ensures count { steps.new ≤ steps.old + 3 * rows_weight beside_rows (members_of members.now) }
 {
@@ -164,14 +177,14 @@ pub(crate) fn path_item_with(
 }
 
 /// An operation of its parts.
-pub(crate) fn joined_operation(
+pub(crate) fn joined_operation<S: SchemaObject>(
     texts: OperationTexts,
     settings: OperationSettings,
-    callbacks: OrderedMap<ReferenceOr<Callback>>,
+    callbacks: OrderedMap<ReferenceOr<Callback<S>>>,
     extensions: OrderedMap<Node>,
-    messages: OperationMessages,
-) -> Operation
-    ensures { operation_fields result ≡ operation_joined texts settings callbacks extensions messages }
+    messages: OperationMessages<S>,
+) -> Operation<S>
+    ensures { (operation_fields S.form_of) result ≡ (operation_joined S.form_of) texts settings callbacks extensions messages }
 {
     Operation {
         tags: texts.tags,
@@ -191,8 +204,11 @@ pub(crate) fn joined_operation(
 }
 
 /// A path item of its parts.
-pub(crate) fn joined_path_item(beside: PathItemValues, methods: Methods<Operation>) -> PathItem
-    ensures { path_item_fields result ≡ path_item_joined beside methods }
+pub(crate) fn joined_path_item<S: SchemaObject>(
+    beside: PathItemValues<S>,
+    methods: Methods<Operation<S>>,
+) -> PathItem<S>
+    ensures { (path_item_fields S.form_of) result ≡ (path_item_joined S.form_of) beside methods }
 {
     PathItem {
         summary: beside.summary,
@@ -213,15 +229,15 @@ pub(crate) fn joined_path_item(beside: PathItemValues, methods: Methods<Operatio
 
 /// Writes what stands before the callbacks of an operation, into an object that has no members yet.
 #[tactic(auto, unfolding(openapi_tables::specs::Tables::final_tables, openapi_tables::specs::Tables::tables_with))]
-pub(crate) fn put_before_callbacks(
+pub(crate) fn put_before_callbacks<S: SchemaObject>(
     alloc: Global,
-    operation: &Operation,
+    operation: &Operation<S>,
     out: &mut OrderedMap<Node>,
 ) -> Result<(), Fault>
     requires { IsWritten final_tables [] out.old }
     ensures ok { OnOk result (IsWritten final_tables (before (is_named (codes "callbacks"))
-        (operation_slots operation.now)) out.new) }
-    ensures err { IfErr result (λ f. Loses f (slots_lost final_tables (operation_slots operation.now))) }
+        (operation_slots S.form_of operation.now)) out.new) }
+    ensures err { IfErr result (λ f. Loses f (slots_lost final_tables (operation_slots S.form_of operation.now))) }
 {
     put_implied(alloc, operation, out, "tags", &operation.tags)?;
     put_optional(alloc, operation, out, "summary", &operation.summary)?;
@@ -253,14 +269,14 @@ pub(crate) fn put_before_callbacks(
 
 /// Writes what stands behind the callbacks of an operation.
 #[tactic(auto, unfolding(openapi_tables::specs::Tables::final_tables, openapi_tables::specs::Tables::tables_with))]
-pub(crate) fn put_behind_callbacks(
+pub(crate) fn put_behind_callbacks<S: SchemaObject>(
     alloc: Global,
-    operation: &Operation,
+    operation: &Operation<S>,
     out: &mut OrderedMap<Node>,
 ) -> Result<(), Fault>
-    requires { IsWritten final_tables (through (is_named (codes "callbacks")) (operation_slots operation.now)) out.old }
-    ensures ok { OnOk result (IsWritten final_tables (operation_slots operation.now) out.new) }
-    ensures err { IfErr result (λ f. Loses f (slots_lost final_tables (operation_slots operation.now))) }
+    requires { IsWritten final_tables (through (is_named (codes "callbacks")) (operation_slots S.form_of operation.now)) out.old }
+    ensures ok { OnOk result (IsWritten final_tables (operation_slots S.form_of operation.now) out.new) }
+    ensures err { IfErr result (λ f. Loses f (slots_lost final_tables (operation_slots S.form_of operation.now))) }
 {
     put_implied(alloc, operation, out, "deprecated", &operation.deprecated)?;
     put_optional(alloc, operation, out, "security", &operation.security)?;

@@ -14,6 +14,7 @@ ghost use Rattle.openapi_operations.specs.OperationForms.{path_item_form};
 use crate::operation::Operation;
 use crate::read::read_path_item;
 use crate::write::write_path_item;
+use openapi_knots::SchemaObject;
 use openapi_node::{Fault, Node, OrderedMap, Steps, View};
 use openapi_parameters::Parameter;
 use openapi_records::Server;
@@ -24,53 +25,53 @@ use std::alloc::Global;
 /// The Path Item Object (OpenAPI 3.0.3, section 4.7.9): the operations under one path, each by its HTTP method.
 #[cycle(operations)]
 #[derive(Clone, Debug, PartialEq, Drop)]
-pub struct PathItem {
+pub struct PathItem<S> {
     /// What all operations under the path are about, in a few words.
     pub summary: Option<String>,
     /// What all operations under the path are about, in CommonMark.
     pub description: Option<String>,
     /// The operation of GET.
-    pub get: Option<Operation>,
+    pub get: Option<Operation<S>>,
     /// The operation of PUT.
-    pub put: Option<Operation>,
+    pub put: Option<Operation<S>>,
     /// The operation of POST.
-    pub post: Option<Operation>,
+    pub post: Option<Operation<S>>,
     /// The operation of DELETE.
-    pub delete: Option<Operation>,
+    pub delete: Option<Operation<S>>,
     /// The operation of OPTIONS.
-    pub options: Option<Operation>,
+    pub options: Option<Operation<S>>,
     /// The operation of HEAD.
-    pub head: Option<Operation>,
+    pub head: Option<Operation<S>>,
     /// The operation of PATCH.
-    pub patch: Option<Operation>,
+    pub patch: Option<Operation<S>>,
     /// The operation of TRACE.
-    pub trace: Option<Operation>,
+    pub trace: Option<Operation<S>>,
     /// The servers of the operations under the path, in the place of those of the document.
     pub servers: Vec<Server>,
     /// The parameters of all operations under the path, or references to some.
-    pub parameters: Vec<ReferenceOr<Parameter>>,
+    pub parameters: Vec<ReferenceOr<Parameter<S>>>,
     /// Extensions: the members whose names begin with `x-`, in their order.
     pub extensions: OrderedMap<Node>,
 }
 
-impl PathItem {
+impl<S> PathItem<S> {
     ghost use Rattle.openapi_operations.specs.declared.path_item.PathItem.{out-PathItem};
 
     /// A path without operations.
-    pub fn new(alloc: Global) -> PathItem
-        ensures summary { (out-PathItem result).summary ≡ None }
-        ensures description { (out-PathItem result).description ≡ None }
-        ensures get { (out-PathItem result).get ≡ None }
-        ensures put { (out-PathItem result).put ≡ None }
-        ensures post { (out-PathItem result).post ≡ None }
-        ensures delete { (out-PathItem result).delete ≡ None }
-        ensures options { (out-PathItem result).options ≡ None }
-        ensures head { (out-PathItem result).head ≡ None }
-        ensures patch { (out-PathItem result).patch ≡ None }
-        ensures trace { (out-PathItem result).trace ≡ None }
-        ensures servers { (out-PathItem result).servers.items ≡ [] }
-        ensures parameters { (out-PathItem result).parameters.items ≡ [] }
-        ensures extensions { (out-PathItem result).extensions ≡ [] }
+    pub fn new(alloc: Global) -> PathItem<S>
+        ensures summary { (out-PathItem S result).summary ≡ None }
+        ensures description { (out-PathItem S result).description ≡ None }
+        ensures get { (out-PathItem S result).get ≡ None }
+        ensures put { (out-PathItem S result).put ≡ None }
+        ensures post { (out-PathItem S result).post ≡ None }
+        ensures delete { (out-PathItem S result).delete ≡ None }
+        ensures options { (out-PathItem S result).options ≡ None }
+        ensures head { (out-PathItem S result).head ≡ None }
+        ensures patch { (out-PathItem S result).patch ≡ None }
+        ensures trace { (out-PathItem S result).trace ≡ None }
+        ensures servers { (out-PathItem S result).servers.items ≡ [] }
+        ensures parameters { (out-PathItem S result).parameters.items ≡ [] }
+        ensures extensions { (out-PathItem S result).extensions ≡ [] }
     {
         PathItem {
             summary: None,
@@ -90,20 +91,20 @@ impl PathItem {
     }
 }
 
-impl Object for PathItem {
+impl<S: SchemaObject> Object for PathItem<S> {
     ghost object = { by path_item };
 
-    ghost slots_of = { record_slots path_item path_item_fields };
+    ghost slots_of = { record_slots path_item (path_item_fields S.form_of) };
 
-    ghost apart = { λ x. final_apart path_item (path_item_fields x) };
+    ghost apart = { λ x. final_apart path_item (path_item_fields S.form_of x) };
 }
 
-impl FromNode for PathItem {
+impl<S: SchemaObject> FromNode for PathItem<S> {
     ghost kind = { by path_item };
 
-    ghost form_of = { path_item_form };
+    ghost form_of = { path_item_form S.form_of };
 
-    fn from_view(alloc: Global, view: &View<'_>, steps: &mut Steps) -> Result<PathItem, Fault> {
+    fn from_view(alloc: Global, view: &View<'_>, steps: &mut Steps) -> Result<PathItem<S>, Fault> {
         read_path_item(alloc, view, steps)
     }
 
@@ -112,7 +113,7 @@ impl FromNode for PathItem {
     ghost well_made = { refl };
 }
 
-impl ToNode for PathItem {
+impl<S: SchemaObject> ToNode for PathItem<S> {
     fn to_node(&self, alloc: Global) -> Result<Node, Fault> {
         write_path_item(alloc, self)
     }
@@ -120,7 +121,7 @@ impl ToNode for PathItem {
     ghost there = { λ x. refl };
 }
 
-impl Referable for PathItem {
+impl<S: SchemaObject> Referable for PathItem<S> {
     ghost direct = { refl };
 
     ghost spares_ref = { path_item_spares };
@@ -128,12 +129,12 @@ impl Referable for PathItem {
 
 /// Reads a path item or a reference to one. Err names a rule that the tree breaks, at its place, or says that memory ran
 /// out.
-pub fn path_item_ref_from_node(
+pub fn path_item_ref_from_node<S: SchemaObject>(
     alloc: Global,
     node: &Node,
     steps: &mut Steps,
-) -> Result<ReferenceOr<PathItem>, Fault>
-    ensures reads { Gives (reference_form path_item_form) result (ref_to (by path_item)) node.now }
+) -> Result<ReferenceOr<PathItem<S>>, Fault>
+    ensures reads { Gives (reference_form (path_item_form S.form_of)) result (ref_to (by path_item)) node.now }
     ensures refuses { Refuses result (ref_to (by path_item)) node.now }
     ensures rises { steps.old + 1 ≤ steps.new }
     ensures count { steps.new ≤ steps.old + 3 * size_of node.now }
@@ -143,8 +144,11 @@ pub fn path_item_ref_from_node(
 
 /// Writes a path item or a reference to one. Err at a name or a code in it that would not be read again, or for want of
 /// memory.
-pub fn path_item_ref_to_node(alloc: Global, value: &ReferenceOr<PathItem>) -> Result<Node, Fault>
-    ensures { WrittenAs (ref_to (by path_item)) (reference_form path_item_form value.now) result }
+pub fn path_item_ref_to_node<S: SchemaObject>(
+    alloc: Global,
+    value: &ReferenceOr<PathItem<S>>,
+) -> Result<Node, Fault>
+    ensures { WrittenAs (ref_to (by path_item)) (reference_form (path_item_form S.form_of) value.now) result }
 {
     value.to_node(alloc)
 }

@@ -10,6 +10,7 @@ ghost use Rattle.openapi_rows.specs.Forms.{record_form, record_slots};
 ghost use Rattle.openapi_operations.specs.Fields.{paths_rows};
 
 use crate::path_item::PathItem;
+use openapi_knots::SchemaObject;
 use openapi_map::{IntoIter, Iter};
 use openapi_node::{Fault, Node, OrderedMap, Steps, View};
 use openapi_rows::{
@@ -40,17 +41,17 @@ impl ClassNames for PathNames {
 
 /// The Paths Object (OpenAPI 3.0.3, section 4.7.8): the paths of an API, each with its operations.
 #[derive(Clone, Debug, PartialEq, Drop)]
-pub struct Paths {
+pub struct Paths<S> {
     /// The operations under each path, or a reference to them: the members whose names begin with `/`, in their order.
     /// Other names but those of extensions are ignored, and what stands under them is not looked at.
-    pub paths: OrderedMap<ReferenceOr<PathItem>>,
+    pub paths: OrderedMap<ReferenceOr<PathItem<S>>>,
     /// Extensions: the members whose names begin with `x-`, in their order.
     pub extensions: OrderedMap<Node>,
 }
 
-impl Paths {
+impl<S> Paths<S> {
     /// No paths.
-    pub fn new(alloc: Global) -> Paths
+    pub fn new(alloc: Global) -> Paths<S>
         ensures paths { result.paths ≡ [] }
         ensures extensions { result.extensions ≡ [] }
     {
@@ -61,10 +62,10 @@ impl Paths {
     }
 
     /// The paths with their path items or references, in their order.
-    pub fn iter(&self) -> Iter<'_, ReferenceOr<PathItem>>
+    pub fn iter(&self) -> Iter<'_, ReferenceOr<PathItem<S>>>
         ensures rest { result ≡ self.now.paths }
-        ensures runs { ShowsInOrder (deref_pair {K = List ℕ} {X = ReferenceOr PathItem}) }
-        ensures values_run { ShowsValuesInOrder (deref_pair {K = List ℕ} {X = ReferenceOr PathItem}) }
+        ensures runs { ShowsInOrder (deref_pair {K = List ℕ} {X = ReferenceOr (PathItem S)}) }
+        ensures values_run { ShowsValuesInOrder (deref_pair {K = List ℕ} {X = ReferenceOr (PathItem S)}) }
         ensures distinct { HasDistinctNames self.now.paths }
         ensures fits { length self.now.paths < 2 ^ 63 }
     {
@@ -73,40 +74,40 @@ impl Paths {
 }
 
 /// The paths with their path items or references, in their order.
-impl IntoIterator for Paths {
+impl<S: Drop> IntoIterator for Paths<S> {
     ghost use Rattle.openapi_values.specs.declared.reference.ReferenceOr.{ReferenceOr};
     ghost use Rattle.openapi_operations.specs.declared.path_item.PathItem.{PathItem};
 
-    type Item = (String, ReferenceOr<PathItem>);
+    type Item = (String, ReferenceOr<PathItem<S>>);
 
-    type IntoIter = IntoIter<ReferenceOr<PathItem>>;
+    type IntoIter = IntoIter<ReferenceOr<PathItem<S>>>;
 
     ghost into_iter_gives = { λ p it. (it ≡ p.paths) × (length p.paths < 2 ^ 63) × HasDistinctNames p.paths
-        × ShowsInOrder (owned_entry {V = ReferenceOr PathItem})
-        × ShowsValuesInOrder (owned_entry {V = ReferenceOr PathItem}) };
+        × ShowsInOrder (owned_entry {V = ReferenceOr (PathItem S)})
+        × ShowsValuesInOrder (owned_entry {V = ReferenceOr (PathItem S)}) };
 
-    fn into_iter(self) -> IntoIter<ReferenceOr<PathItem>> {
+    fn into_iter(self) -> IntoIter<ReferenceOr<PathItem<S>>> {
         self.paths.into_iter()
     }
 }
 
-impl Object for Paths {
+impl<S: SchemaObject> Object for Paths<S> {
     ghost object = { by paths };
 
-    ghost slots_of = { record_slots paths paths_rows };
+    ghost slots_of = { record_slots paths (paths_rows S.form_of) };
 
-    ghost apart = { λ x. final_apart paths (paths_rows x) };
+    ghost apart = { λ x. final_apart paths (paths_rows S.form_of x) };
 }
 
 #[tactic(auto, unfolding(openapi_tables::specs::Tables::final_tables, openapi_tables::specs::Tables::tables_with))]
-impl Record for Paths {
-    ghost rows_of = { paths_rows };
+impl<S: SchemaObject> Record for Paths<S> {
+    ghost rows_of = { paths_rows S.form_of };
 
     fn from_members(
         alloc: Global,
         members: &OrderedMap<Node>,
         steps: &mut Steps,
-    ) -> Result<Paths, Fault> {
+    ) -> Result<Paths<S>, Fault> {
         Ok(Paths {
             paths: class_entries::<Self, PathNames, _>(alloc, members, steps)?,
             extensions: extensions::<Self>(alloc, members, steps)?,
@@ -123,12 +124,12 @@ impl Record for Paths {
     ghost by_rows = { λ x. refl };
 }
 
-impl FromNode for Paths {
+impl<S: SchemaObject> FromNode for Paths<S> {
     ghost kind = { by paths };
 
-    ghost form_of = { record_form paths_rows };
+    ghost form_of = { record_form (paths_rows S.form_of) };
 
-    fn from_view(alloc: Global, view: &View<'_>, steps: &mut Steps) -> Result<Paths, Fault> {
+    fn from_view(alloc: Global, view: &View<'_>, steps: &mut Steps) -> Result<Paths<S>, Fault> {
         read_record(alloc, view, steps)
     }
 
@@ -138,7 +139,7 @@ impl FromNode for Paths {
 }
 
 /// Refused also at a name among `paths` that does not begin with `/`, which would not be read again.
-impl ToNode for Paths {
+impl<S: SchemaObject> ToNode for Paths<S> {
     fn to_node(&self, alloc: Global) -> Result<Node, Fault> {
         write_record(alloc, self)
     }

@@ -20,7 +20,7 @@ use crate::methods::Methods;
 use crate::operation::Operation;
 use crate::parts::{joined_operation, path_item_with, read_messages, read_settings, read_texts};
 use crate::path_item::PathItem;
-use openapi_knots::{members_shown, put_read};
+use openapi_knots::{SchemaObject, members_shown, put_read};
 use openapi_node::{Fault, Node, OrderedMap, Steps, View, find_member};
 use openapi_rows::{
     Extensions, Names, as_member, at_name, extensions, present_view, read_reference,
@@ -30,12 +30,12 @@ use std::alloc::Global;
 
 /// Reads a path item.
 #[cycle(read)]
-pub(crate) fn read_path_item(
+pub(crate) fn read_path_item<S: SchemaObject>(
     alloc: Global,
     view: &View<'_>,
     steps: &mut Steps,
-) -> Result<PathItem, Fault>
-    ensures reads { Gives path_item_form result (kinds.by kinds.path_item) (shown view.now) }
+) -> Result<PathItem<S>, Fault>
+    ensures reads { Gives (path_item_form S.form_of) result (kinds.by kinds.path_item) (shown view.now) }
     ensures rises { steps.old ≤ steps.new }
     ensures count { steps.new + 3 ≤ steps.old + 3 * size_of (shown view.now) }
 {
@@ -48,12 +48,12 @@ pub(crate) fn read_path_item(
 /// Reads a path item among the members of an object, its operations first.
 #[cycle(read)]
 #[tactic(auto, unfolding(openapi_tables::specs::Tables::final_tables, openapi_tables::specs::Tables::tables_with))]
-fn path_item_of(
+fn path_item_of<S: SchemaObject>(
     alloc: Global,
     members: &OrderedMap<Node>,
     steps: &mut Steps,
-) -> Result<PathItem, Fault>
-    ensures reads { GivesRows path_item_fields result (kinds.by kinds.path_item) (members_of members.now) }
+) -> Result<PathItem<S>, Fault>
+    ensures reads { GivesRows (path_item_fields S.form_of) result (kinds.by kinds.path_item) (members_of members.now) }
     ensures rises { steps.old ≤ steps.new }
     ensures count { steps.new ≤ steps.old + 3 * rows_weight (rows_asked final_tables (kinds.by kinds.path_item))
         (members_of members.now) }
@@ -71,10 +71,10 @@ fn path_item_of(
 /// Reads the operations of a path item to where they are kept, since they are large.
 #[cycle(read)]
 #[tactic(auto, unfolding(openapi_tables::specs::Tables::final_tables, openapi_tables::specs::Tables::tables_with))]
-fn read_methods(
+fn read_methods<S: SchemaObject>(
     alloc: Global,
     members: &OrderedMap<Node>,
-    methods: &mut Methods<Operation>,
+    methods: &mut Methods<Operation<S>>,
     steps: &mut Steps,
 ) -> Result<(), Fault>
     requires get { methods.old.get ≡ None }
@@ -85,7 +85,7 @@ fn read_methods(
     requires head { methods.old.head ≡ None }
     requires patch { methods.old.patch ≡ None }
     requires trace { methods.old.trace ≡ None }
-    ensures reads { GivesPart (λ done. method_forms methods.new) result (kinds.by kinds.path_item) method_rows
+    ensures reads { GivesPart (λ done. (method_forms S.form_of) methods.new) result (kinds.by kinds.path_item) method_rows
         (members_of members.now) }
     ensures rises { steps.old ≤ steps.new }
     ensures count { steps.new ≤ steps.old + 3 * rows_weight method_rows (members_of members.now) }
@@ -102,17 +102,17 @@ fn read_methods(
 
 /// Reads the operation under a method to where it is kept, where it is there and not null.
 #[cycle(read)]
-fn read_method(
+fn read_method<S: SchemaObject>(
     alloc: Global,
     members: &OrderedMap<Node>,
     method: &'static str,
-    place: &mut Option<Operation>,
+    place: &mut Option<Operation<S>>,
     steps: &mut Steps,
 ) -> Result<(), Fault>
     requires row { row_where (is_named method.now) (rows_asked final_tables (kinds.by kinds.path_item)) ≡ Some
         (kinds.row method.now kinds.optional (kinds.by kinds.operation)) }
     requires free { place.old ≡ None }
-    ensures reads { GivesRow (λ done. optional_form operation_form place.new) result (kinds.by kinds.path_item)
+    ensures reads { GivesRow (λ done. optional_form (operation_form S.form_of) place.new) result (kinds.by kinds.path_item)
         (kinds.row method.entry.now kinds.optional (kinds.by kinds.operation)) (members_of members.now) }
     ensures rises { steps.old ≤ steps.new }
     ensures count { steps.new ≤ steps.old + 3 * row_weight
@@ -132,12 +132,12 @@ fn read_method(
 
 /// Reads an operation.
 #[cycle(read)]
-pub(crate) fn read_operation(
+pub(crate) fn read_operation<S: SchemaObject>(
     alloc: Global,
     view: &View<'_>,
     steps: &mut Steps,
-) -> Result<Operation, Fault>
-    ensures reads { Gives operation_form result (kinds.by kinds.operation) (shown view.now) }
+) -> Result<Operation<S>, Fault>
+    ensures reads { Gives (operation_form S.form_of) result (kinds.by kinds.operation) (shown view.now) }
     ensures rises { steps.old ≤ steps.new }
     ensures count { steps.new + 3 ≤ steps.old + 3 * size_of (shown view.now) }
 {
@@ -150,12 +150,12 @@ pub(crate) fn read_operation(
 /// Reads an operation among the members of an object, what is large last.
 #[cycle(read)]
 #[tactic(auto, unfolding(openapi_tables::specs::Tables::final_tables, openapi_tables::specs::Tables::tables_with))]
-fn operation_of(
+fn operation_of<S: SchemaObject>(
     alloc: Global,
     members: &OrderedMap<Node>,
     steps: &mut Steps,
-) -> Result<Operation, Fault>
-    ensures reads { GivesRows operation_fields result (kinds.by kinds.operation) (members_of members.now) }
+) -> Result<Operation<S>, Fault>
+    ensures reads { GivesRows (operation_fields S.form_of) result (kinds.by kinds.operation) (members_of members.now) }
     ensures rises { steps.old ≤ steps.new }
     ensures count { steps.new ≤ steps.old + 3 * rows_weight (rows_asked final_tables (kinds.by kinds.operation))
         (members_of members.now) }
@@ -163,19 +163,19 @@ fn operation_of(
     let texts = read_texts(alloc, members, steps)?;
     let settings = read_settings(alloc, members, steps)?;
     let callbacks = read_callbacks(alloc, members, steps)?;
-    let extensions = extensions::<Operation>(alloc, members, steps)?;
+    let extensions = extensions::<Operation<S>>(alloc, members, steps)?;
     let messages = read_messages(alloc, members, steps)?;
     Ok(joined_operation(texts, settings, callbacks, extensions, messages))
 }
 
 /// The callbacks of an operation, by their names; none where `callbacks` is missing.
 #[cycle(read)]
-fn read_callbacks(
+fn read_callbacks<S: SchemaObject>(
     alloc: Global,
     members: &OrderedMap<Node>,
     steps: &mut Steps,
-) -> Result<OrderedMap<ReferenceOr<Callback>>, Fault>
-    ensures reads { GivesRow (map_form (reference_form callback_form)) result (kinds.by kinds.operation)
+) -> Result<OrderedMap<ReferenceOr<Callback<S>>>, Fault>
+    ensures reads { GivesRow (map_form (reference_form (callback_form S.form_of))) result (kinds.by kinds.operation)
         (kinds.row (codes "callbacks") kinds.listed (kinds.map_of callback_ref)) (members_of members.now) }
     ensures rises { steps.old ≤ steps.new }
     ensures count { steps.new ≤ steps.old + 3 * row_weight
@@ -192,12 +192,12 @@ fn read_callbacks(
 
 /// The callbacks and references of a map.
 #[cycle(read)]
-fn callbacks_in(
+fn callbacks_in<S: SchemaObject>(
     alloc: Global,
     view: &View<'_>,
     steps: &mut Steps,
-) -> Result<OrderedMap<ReferenceOr<Callback>>, Fault>
-    ensures reads { Gives (map_form (reference_form callback_form)) result (kinds.map_of callback_ref) (shown view.now) }
+) -> Result<OrderedMap<ReferenceOr<Callback<S>>>, Fault>
+    ensures reads { Gives (map_form (reference_form (callback_form S.form_of))) result (kinds.map_of callback_ref) (shown view.now) }
     ensures rises { steps.old ≤ steps.new }
     ensures count { steps.new + 3 ≤ steps.old + 3 * size_of (shown view.now) }
 {
@@ -209,12 +209,12 @@ fn callbacks_in(
 
 /// The callbacks and references among the members of an object, in order.
 #[cycle(read)]
-fn callbacks_of(
+fn callbacks_of<S: SchemaObject>(
     alloc: Global,
     members: &OrderedMap<Node>,
     steps: &mut Steps,
-) -> Result<OrderedMap<ReferenceOr<Callback>>, Fault>
-    ensures reads { Gives (map_form (reference_form callback_form)) result (kinds.map_of callback_ref)
+) -> Result<OrderedMap<ReferenceOr<Callback<S>>>, Fault>
+    ensures reads { Gives (map_form (reference_form (callback_form S.form_of))) result (kinds.map_of callback_ref)
         (object (members_of members.now)) }
     ensures rises { steps.old ≤ steps.new }
     ensures count { steps.new ≤ steps.old + 3 * members_size (members_of members.now) }
@@ -238,12 +238,12 @@ fn callbacks_of(
 
 /// Reads a callback or a reference to one. An object with a text under `$ref` is a reference, whatever else it has.
 #[cycle(read)]
-fn read_callback_ref(
+fn read_callback_ref<S: SchemaObject>(
     alloc: Global,
     view: &View<'_>,
     steps: &mut Steps,
-) -> Result<ReferenceOr<Callback>, Fault>
-    ensures reads { Gives (reference_form callback_form) result callback_ref (shown view.now) }
+) -> Result<ReferenceOr<Callback<S>>, Fault>
+    ensures reads { Gives (reference_form (callback_form S.form_of)) result callback_ref (shown view.now) }
     ensures rises { steps.old ≤ steps.new }
     ensures count { steps.new + 2 ≤ steps.old + 3 * size_of (shown view.now) }
 {
@@ -261,12 +261,12 @@ fn read_callback_ref(
 
 /// Reads a callback.
 #[cycle(read)]
-pub(crate) fn read_callback(
+pub(crate) fn read_callback<S: SchemaObject>(
     alloc: Global,
     view: &View<'_>,
     steps: &mut Steps,
-) -> Result<Callback, Fault>
-    ensures reads { Gives callback_form result (kinds.by kinds.callback_object) (shown view.now) }
+) -> Result<Callback<S>, Fault>
+    ensures reads { Gives (callback_form S.form_of) result (kinds.by kinds.callback_object) (shown view.now) }
     ensures rises { steps.old ≤ steps.new }
     ensures count { steps.new + 3 ≤ steps.old + 3 * size_of (shown view.now) }
 {
@@ -279,29 +279,29 @@ pub(crate) fn read_callback(
 /// Reads a callback among the members of an object.
 #[cycle(read)]
 #[tactic(auto, unfolding(openapi_tables::specs::Tables::final_tables, openapi_tables::specs::Tables::tables_with))]
-fn callback_of(
+fn callback_of<S: SchemaObject>(
     alloc: Global,
     members: &OrderedMap<Node>,
     steps: &mut Steps,
-) -> Result<Callback, Fault>
-    ensures reads { GivesRows callback_fields result (kinds.by kinds.callback_object) (members_of members.now) }
+) -> Result<Callback<S>, Fault>
+    ensures reads { GivesRows (callback_fields S.form_of) result (kinds.by kinds.callback_object) (members_of members.now) }
     ensures rises { steps.old ≤ steps.new }
     ensures count { steps.new ≤ steps.old + 3 * rows_weight (rows_asked final_tables (kinds.by kinds.callback_object))
         (members_of members.now) }
 {
     let paths = read_requests(alloc, members, steps)?;
-    let extensions = extensions::<Callback>(alloc, members, steps)?;
+    let extensions = extensions::<Callback<S>>(alloc, members, steps)?;
     Ok(Callback { paths, extensions })
 }
 
 /// The path items of a callback: the members whose names do not begin with `x-`, in order.
 #[cycle(read)]
-fn read_requests(
+fn read_requests<S: SchemaObject>(
     alloc: Global,
     members: &OrderedMap<Node>,
     steps: &mut Steps,
-) -> Result<OrderedMap<PathItem>, Fault>
-    ensures reads { GivesRow (map_form path_item_form) result (kinds.by kinds.callback_object)
+) -> Result<OrderedMap<PathItem<S>>, Fault>
+    ensures reads { GivesRow (map_form (path_item_form S.form_of)) result (kinds.by kinds.callback_object)
         (kinds.class kinds.callback_names (kinds.by kinds.path_item)) (members_of members.now) }
     ensures rises { steps.old ≤ steps.new }
     ensures count { steps.new ≤ steps.old + 3 * row_weight

@@ -16,7 +16,7 @@ use crate::callback::Callback;
 use crate::operation::Operation;
 use crate::parts::{put_before_callbacks, put_behind_callbacks};
 use crate::path_item::PathItem;
-use openapi_knots::{as_some, put_row, put_written, whole_object};
+use openapi_knots::{SchemaObject, as_some, put_row, put_written, whole_object};
 use openapi_node::{Cause, Fault, Node, OrderedMap};
 use openapi_rows::{Extensions, Names, put_extensions, put_implied, put_optional, write_reference};
 use openapi_values::ReferenceOr;
@@ -24,8 +24,11 @@ use std::alloc::Global;
 
 /// Writes a path item.
 #[cycle(write)]
-pub(crate) fn write_path_item(alloc: Global, path_item: &PathItem) -> Result<Node, Fault>
-    ensures { WrittenAs (kinds.by kinds.path_item) (path_item_form path_item.now) result }
+pub(crate) fn write_path_item<S: SchemaObject>(
+    alloc: Global,
+    path_item: &PathItem<S>,
+) -> Result<Node, Fault>
+    ensures { WrittenAs (kinds.by kinds.path_item) (path_item_form S.form_of path_item.now) result }
 {
     whole_object(path_item_members(alloc, path_item))
 }
@@ -33,8 +36,11 @@ pub(crate) fn write_path_item(alloc: Global, path_item: &PathItem) -> Result<Nod
 /// The members that a path item is written as.
 #[cycle(write)]
 #[tactic(auto, unfolding(openapi_tables::specs::Tables::final_tables, openapi_tables::specs::Tables::tables_with))]
-fn path_item_members(alloc: Global, path_item: &PathItem) -> Result<OrderedMap<Node>, Fault>
-    ensures { RowsWritten (path_item_slots path_item.now) result }
+fn path_item_members<S: SchemaObject>(
+    alloc: Global,
+    path_item: &PathItem<S>,
+) -> Result<OrderedMap<Node>, Fault>
+    ensures { RowsWritten (path_item_slots S.form_of path_item.now) result }
 {
     let mut out = OrderedMap::new(alloc);
     put_optional(alloc, path_item, &mut out, "summary", &path_item.summary)?;
@@ -61,11 +67,15 @@ fn path_item_members(alloc: Global, path_item: &PathItem) -> Result<OrderedMap<N
 /// Writes the operations of a path item, behind its texts.
 #[cycle(write)]
 #[tactic(auto, unfolding(openapi_tables::specs::Tables::final_tables, openapi_tables::specs::Tables::tables_with))]
-fn put_methods(alloc: Global, path_item: &PathItem, out: &mut OrderedMap<Node>) -> Result<(), Fault>
-    requires { IsWritten final_tables (before (is_named (codes "get")) (path_item_slots path_item.now)) out.old }
+fn put_methods<S: SchemaObject>(
+    alloc: Global,
+    path_item: &PathItem<S>,
+    out: &mut OrderedMap<Node>,
+) -> Result<(), Fault>
+    requires { IsWritten final_tables (before (is_named (codes "get")) (path_item_slots S.form_of path_item.now)) out.old }
     ensures ok { OnOk result (IsWritten final_tables (through (is_named (codes "trace"))
-        (path_item_slots path_item.now)) out.new) }
-    ensures err { IfErr result (λ f. Loses f (slots_lost final_tables (path_item_slots path_item.now))) }
+        (path_item_slots S.form_of path_item.now)) out.new) }
+    ensures err { IfErr result (λ f. Loses f (slots_lost final_tables (path_item_slots S.form_of path_item.now))) }
 {
     let get = write_method(alloc, &path_item.get);
     put_row(alloc, path_item, out, "get", get)?;
@@ -87,8 +97,11 @@ fn put_methods(alloc: Global, path_item: &PathItem, out: &mut OrderedMap<Node>) 
 
 /// Writes the operation under a method; nothing where there is none.
 #[cycle(write)]
-fn write_method(alloc: Global, value: &Option<Operation>) -> Result<Option<Node>, Fault>
-    ensures { GivesWritten kinds.optional (kinds.by kinds.operation) (optional_form operation_form value.now) result }
+fn write_method<S: SchemaObject>(
+    alloc: Global,
+    value: &Option<Operation<S>>,
+) -> Result<Option<Node>, Fault>
+    ensures { GivesWritten kinds.optional (kinds.by kinds.operation) (optional_form (operation_form S.form_of) value.now) result }
 {
     match value {
         None => Ok(None),
@@ -98,8 +111,11 @@ fn write_method(alloc: Global, value: &Option<Operation>) -> Result<Option<Node>
 
 /// Writes an operation.
 #[cycle(write)]
-pub(crate) fn write_operation(alloc: Global, operation: &Operation) -> Result<Node, Fault>
-    ensures { WrittenAs (kinds.by kinds.operation) (operation_form operation.now) result }
+pub(crate) fn write_operation<S: SchemaObject>(
+    alloc: Global,
+    operation: &Operation<S>,
+) -> Result<Node, Fault>
+    ensures { WrittenAs (kinds.by kinds.operation) (operation_form S.form_of operation.now) result }
 {
     whole_object(operation_members(alloc, operation))
 }
@@ -107,8 +123,11 @@ pub(crate) fn write_operation(alloc: Global, operation: &Operation) -> Result<No
 /// The members that an operation is written as.
 #[cycle(write)]
 #[tactic(auto, unfolding(openapi_tables::specs::Tables::final_tables, openapi_tables::specs::Tables::tables_with))]
-fn operation_members(alloc: Global, operation: &Operation) -> Result<OrderedMap<Node>, Fault>
-    ensures { RowsWritten (operation_slots operation.now) result }
+fn operation_members<S: SchemaObject>(
+    alloc: Global,
+    operation: &Operation<S>,
+) -> Result<OrderedMap<Node>, Fault>
+    ensures { RowsWritten (operation_slots S.form_of operation.now) result }
 {
     let mut out = OrderedMap::new(alloc);
     put_before_callbacks(alloc, operation, &mut out)?;
@@ -125,11 +144,11 @@ fn operation_members(alloc: Global, operation: &Operation) -> Result<OrderedMap<
 
 /// Writes callbacks and references by names; nothing where there are none.
 #[cycle(write)]
-fn write_callbacks(
+fn write_callbacks<S: SchemaObject>(
     alloc: Global,
-    values: &OrderedMap<ReferenceOr<Callback>>,
+    values: &OrderedMap<ReferenceOr<Callback<S>>>,
 ) -> Result<Option<Node>, Fault>
-    ensures { GivesWritten kinds.listed (kinds.map_of callback_ref) (map_form (reference_form callback_form) values.now)
+    ensures { GivesWritten kinds.listed (kinds.map_of callback_ref) (map_form (reference_form (callback_form S.form_of)) values.now)
         result }
 {
     if values.is_empty() {
@@ -148,8 +167,11 @@ fn write_callbacks(
 
 /// Writes a callback or a reference to one.
 #[cycle(write)]
-fn write_callback_ref(alloc: Global, value: &ReferenceOr<Callback>) -> Result<Node, Fault>
-    ensures { WrittenAs callback_ref (reference_form callback_form value.now) result }
+fn write_callback_ref<S: SchemaObject>(
+    alloc: Global,
+    value: &ReferenceOr<Callback<S>>,
+) -> Result<Node, Fault>
+    ensures { WrittenAs callback_ref (reference_form (callback_form S.form_of) value.now) result }
 {
     match value {
         ReferenceOr::Reference { reference } => write_reference(alloc, reference.as_str()),
@@ -159,8 +181,11 @@ fn write_callback_ref(alloc: Global, value: &ReferenceOr<Callback>) -> Result<No
 
 /// Writes a callback.
 #[cycle(write)]
-pub(crate) fn write_callback(alloc: Global, callback: &Callback) -> Result<Node, Fault>
-    ensures { WrittenAs (kinds.by kinds.callback_object) (callback_form callback.now) result }
+pub(crate) fn write_callback<S: SchemaObject>(
+    alloc: Global,
+    callback: &Callback<S>,
+) -> Result<Node, Fault>
+    ensures { WrittenAs (kinds.by kinds.callback_object) (callback_form S.form_of callback.now) result }
 {
     whole_object(callback_members(alloc, callback))
 }
@@ -168,8 +193,11 @@ pub(crate) fn write_callback(alloc: Global, callback: &Callback) -> Result<Node,
 /// The members that a callback is written as.
 #[cycle(write)]
 #[tactic(auto, unfolding(openapi_tables::specs::Tables::final_tables, openapi_tables::specs::Tables::tables_with))]
-fn callback_members(alloc: Global, callback: &Callback) -> Result<OrderedMap<Node>, Fault>
-    ensures { RowsWritten (callback_slots callback.now) result }
+fn callback_members<S: SchemaObject>(
+    alloc: Global,
+    callback: &Callback<S>,
+) -> Result<OrderedMap<Node>, Fault>
+    ensures { RowsWritten (callback_slots S.form_of callback.now) result }
 {
     let mut out = request_members(alloc, callback)?;
     put_extensions(alloc, callback, &mut out, &callback.extensions)?;
@@ -179,10 +207,13 @@ fn callback_members(alloc: Global, callback: &Callback) -> Result<OrderedMap<Nod
 /// The members that the path items of a callback are written as. Err also at a name that begins with `x-`.
 #[cycle(write)]
 #[tactic(auto, unfolding(openapi_tables::specs::Tables::final_tables, openapi_tables::specs::Tables::tables_with))]
-fn request_members(alloc: Global, callback: &Callback) -> Result<OrderedMap<Node>, Fault>
+fn request_members<S: SchemaObject>(
+    alloc: Global,
+    callback: &Callback<S>,
+) -> Result<OrderedMap<Node>, Fault>
     ensures ok { IfOk result (λ out. IsWritten final_tables (through (is_class kinds.callback_names)
-        (callback_slots callback.now)) out) }
-    ensures err { IfErr result (λ f. Loses f (slots_lost final_tables (callback_slots callback.now))) }
+        (callback_slots S.form_of callback.now)) out) }
+    ensures err { IfErr result (λ f. Loses f (slots_lost final_tables (callback_slots S.form_of callback.now))) }
 {
     let mut out = OrderedMap::new(alloc);
     for i in 0..callback.paths.len() {

@@ -2,8 +2,9 @@ use Rattle.openapi_operations.proofs.Opened.{operation_fields-roll}
 use Rattle.openapi_operations.proofs.parts.joined_operation.Goals as goal
 
 pub returns : goal.returns
-returns c =
-    operation_fields-roll (record {
+returns g c =
+    let schema_form = g.S.FromNode.form_of in
+    operation_fields-roll schema_form (record {
       tags = c.args.texts.tags;
       summary = c.args.texts.summary;
       description = c.args.texts.description;

@@ -2,8 +2,9 @@ use Rattle.openapi_operations.proofs.Opened.{path_item_fields-roll}
 use Rattle.openapi_operations.proofs.parts.joined_path_item.Goals as goal
 
 pub returns : goal.returns
-returns c =
-    path_item_fields-roll (record {
+returns g c =
+    let schema_form = g.S.FromNode.form_of in
+    path_item_fields-roll schema_form (record {
       summary = c.args.beside.summary;
       description = c.args.beside.description;
       get = c.args.methods.get;

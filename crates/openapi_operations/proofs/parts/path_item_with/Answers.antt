@@ -7,7 +7,7 @@ use Rattle.openapi_operations.proofs.parts.path_item_with.Goals as goal
 
 pub returns-in-Ok-clause-reads : goal.returns-in-Ok-clause-reads
 unfolding final_tables tables_with
-returns-in-Ok-clause-reads c =
+returns-in-Ok-clause-reads g c =
     let ms = members_of c.args.members.now in
     let beside = rw c.in-Ok.is at c.read_beside.ensures.reads in
     let done = c.requires in

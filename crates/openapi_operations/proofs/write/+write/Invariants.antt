@@ -13,51 +13,75 @@ use Rattle.openapi_operations.proofs.write.+write.Given as goal
 
 -- the size of the form that is left to write; and for the same form, the caller above what it calls
 abbrev pub decreases-write_path_item : goal.decreases-write_path_item
-decreases-write_path_item l = 8 * form_size (path_item_form l.path_item.now)
+decreases-write_path_item g l =
+    let schema_form = g.S.FromNode.form_of in
+    8 * form_size (path_item_form schema_form l.path_item.now)
 
 abbrev pub decreases-path_item_members : goal.decreases-path_item_members
-decreases-path_item_members l = 8 * rows_size (path_item_fields l.path_item.now) + 4
+decreases-path_item_members g l =
+    let schema_form = g.S.FromNode.form_of in
+    8 * rows_size (path_item_fields schema_form l.path_item.now) + 4
 
 abbrev pub decreases-put_methods : goal.decreases-put_methods
-decreases-put_methods l = 8 * rows_size (path_item_fields l.path_item.now) + 3
+decreases-put_methods g l =
+    let schema_form = g.S.FromNode.form_of in
+    8 * rows_size (path_item_fields schema_form l.path_item.now) + 3
 
 abbrev pub decreases-write_method : goal.decreases-write_method
-decreases-write_method l = 8 * form_size (optional_form operation_form l.value.now) + 2
+decreases-write_method g l =
+    let schema_form = g.S.FromNode.form_of in
+    8 * form_size (optional_form (operation_form schema_form) l.value.now) + 2
 
 abbrev pub decreases-write_operation : goal.decreases-write_operation
-decreases-write_operation l = 8 * form_size (operation_form l.operation.now)
+decreases-write_operation g l =
+    let schema_form = g.S.FromNode.form_of in
+    8 * form_size (operation_form schema_form l.operation.now)
 
 abbrev pub decreases-operation_members : goal.decreases-operation_members
-decreases-operation_members l = 8 * rows_size (operation_fields l.operation.now) + 4
+decreases-operation_members g l =
+    let schema_form = g.S.FromNode.form_of in
+    8 * rows_size (operation_fields schema_form l.operation.now) + 4
 
 abbrev pub decreases-write_callbacks : goal.decreases-write_callbacks
-decreases-write_callbacks l = 8 * form_size (map_form (reference_form callback_form) l.values.now) + 3
+decreases-write_callbacks g l =
+    let schema_form = g.S.FromNode.form_of in
+    8 * form_size (map_form (reference_form (callback_form schema_form)) l.values.now) + 3
 
 abbrev pub decreases-write_callback_ref : goal.decreases-write_callback_ref
-decreases-write_callback_ref l = 8 * form_size (reference_form callback_form l.value.now)
+decreases-write_callback_ref g l =
+    let schema_form = g.S.FromNode.form_of in
+    8 * form_size (reference_form (callback_form schema_form) l.value.now)
 
 abbrev pub decreases-write_callback : goal.decreases-write_callback
-decreases-write_callback l = 8 * form_size (callback_form l.callback.now)
+decreases-write_callback g l =
+    let schema_form = g.S.FromNode.form_of in
+    8 * form_size (callback_form schema_form l.callback.now)
 
 abbrev pub decreases-callback_members : goal.decreases-callback_members
-decreases-callback_members l = 8 * rows_size (callback_fields l.callback.now) + 4
+decreases-callback_members g l =
+    let schema_form = g.S.FromNode.form_of in
+    8 * rows_size (callback_fields schema_form l.callback.now) + 4
 
 abbrev pub decreases-request_members : goal.decreases-request_members
-decreases-request_members l = 8 * rows_size (callback_fields l.callback.now) + 3
+decreases-request_members g l =
+    let schema_form = g.S.FromNode.form_of in
+    8 * rows_size (callback_fields schema_form l.callback.now) + 3
 
 abbrev pub invariant-write_callbacks-loop-i : goal.invariant-write_callbacks-loop-i
-invariant-write_callbacks-loop-i l =
+invariant-write_callbacks-loop-i g l =
+    let schema_form = g.S.FromNode.form_of in
     let done = take l.i l.values in
     record {
-      written : l.out ≡ written_entries (reference_form callback_form) callback_ref done;
-      whole : all_whole (reference_form callback_form) callback_ref done ≡ true;
+      written : l.out ≡ written_entries (reference_form (callback_form schema_form)) callback_ref done;
+      whole : all_whole (reference_form (callback_form schema_form)) callback_ref done ≡ true;
     }
 
 abbrev pub invariant-request_members-loop-i : goal.invariant-request_members-loop-i
-invariant-request_members-loop-i l =
-    let done = take l.i (out-Callback l.callback).paths in
+invariant-request_members-loop-i g l =
+    let schema_form = g.S.FromNode.form_of in
+    let done = take l.i (out-Callback _ l.callback).paths in
     record {
-      written : l.out ≡ written_entries path_item_form (by path_item) done;
+      written : l.out ≡ written_entries (path_item_form schema_form) (by path_item) done;
       named : every (λ e. in_class callback_names e.0) done ≡ true;
-      whole : all_whole path_item_form (by path_item) done ≡ true;
+      whole : all_whole (path_item_form schema_form) (by path_item) done ≡ true;
     }

@@ -4,11 +4,12 @@ use Rattle.openapi_operations.proofs.PresentForms.{present_forms, shows_in_order
 use Rattle.openapi_operations.proofs.iter.PathItemIntoIterator.into_iter.Goals as goal
 
 pub returns : goal.returns
-returns c =
+returns g c =
+    let schema_form = g.S.FromNode.form_of in
     record {
       into_iter_gives = (
         refl,
-        present_forms c.args.self,
+        present_forms schema_form c.args.self,
         shows_in_order owned_method,
         shows_values_in_order owned_method,
       );

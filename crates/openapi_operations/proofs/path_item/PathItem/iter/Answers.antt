@@ -7,7 +7,7 @@ use Rattle.openapi_operations.proofs.PresentForms.{lent_held, present_forms, sho
 use Rattle.openapi_operations.proofs.path_item.PathItem.iter.Goals as goal
 
 pub returns-clause-rest : goal.returns-clause-rest
-returns-clause-rest c =
+returns-clause-rest g c =
     lent_held methods (c.as_ref.result ∷ c.as_ref-2.result ∷ c.as_ref-3.result ∷ c.as_ref-4.result ∷ c.as_ref-5.result
     ∷ c.as_ref-6.result ∷ c.as_ref-7.result ∷ c.as_ref-8.result ∷ [])
     ∙ (λ i. those_held methods (c.as_ref.ensures.value i ∷ c.as_ref-2.ensures.value i ∷ c.as_ref-3.ensures.value i
@@ -15,10 +15,12 @@ returns-clause-rest c =
     ∷ c.as_ref-8.ensures.value i ∷ []))
 
 pub returns-clause-runs : goal.returns-clause-runs
-returns-clause-runs c = shows_in_order deref_pair
+returns-clause-runs g c = shows_in_order deref_pair
 
 pub returns-clause-values_run : goal.returns-clause-values_run
-returns-clause-values_run c = shows_values_in_order deref_pair
+returns-clause-values_run g c = shows_values_in_order deref_pair
 
 pub returns-clause-forms : goal.returns-clause-forms
-returns-clause-forms c = ap (forms_under operation_form) (returns-clause-rest c) ∙ present_forms c.args.self.now
+returns-clause-forms g c =
+    let schema_form = g.S.FromNode.form_of in
+    ap (forms_under (operation_form schema_form)) (returns-clause-rest g c) ∙ present_forms schema_form c.args.self.now

@@ -3,7 +3,7 @@ use Rattle.std.proofs.Common.{◌≡◌, ℕ, List, [], ◌∷◌, length, refl,
 use Rattle.std.proofs.iter.runs.Sources.{from_front}
 use Rattle.std.specs.Map.Iter.{TakesFirst, ShowsInOrder}
 use Rattle.openapi_map.specs.Entries.{Entries}
-use Rattle.openapi_tables.specs.Form.{name, named_of}
+use Rattle.openapi_tables.specs.Form.{Form, name, named_of}
 use Rattle.openapi_tables.specs.Lists.{join}
 use Rattle.openapi_tables.specs.Operations.{at_path, ops, ops_of_item, ops_of_paths}
 use Rattle.openapi_tables.specs.Slots.{pairs_of}
@@ -31,27 +31,28 @@ pub shows_in_order : {A X : Type 0} (shows : A → X) → ShowsInOrder shows
 shows_in_order shows =
     from_front (TakesFirst shows) shows (λ s. s) (λ s t h. ap length h.0) (λ s x t h. h)
 
-placed_join : (xs ys : List Placed) → placed_forms (join xs ys) ≡ join (placed_forms xs) (placed_forms ys)
-placed_join [] ys = refl
-placed_join (x ∷ xs) ys = ap (λ l. record { path = x.0; method = x.1.0; value = operation_form x.1.1 } ∷ l)
-    (placed_join xs ys)
+module _ {S : Type 0} (schema_form : S → Form) where
+  placed_join : (xs ys : List (Placed S)) → (placed_forms schema_form) (join xs ys) ≡ join (placed_forms schema_form xs) (placed_forms schema_form ys)
+  placed_join [] ys = refl
+  placed_join (x ∷ xs) ys = ap (λ l. record { path = x.0; method = x.1.0; value = (operation_form schema_form) x.1.1 } ∷ l)
+      (placed_join xs ys)
 
-forms_at : (p : List ℕ) (es : Entries Operation)
-    → placed_forms (under_path p es) ≡ at_path p (forms_under operation_form es)
-forms_at p [] = refl
-forms_at p (e ∷ es) = ap (λ l. record { path = p; method = e.0; value = operation_form e.1 } ∷ l) (forms_at p es)
+  forms_at : (p : List ℕ) (es : Entries (Operation S))
+      → (placed_forms schema_form) (under_path p es) ≡ at_path p (forms_under (operation_form schema_form) es)
+  forms_at p [] = refl
+  forms_at p (e ∷ es) = ap (λ l. record { path = p; method = e.0; value = (operation_form schema_form) e.1 } ∷ l) (forms_at p es)
 
-forms_of_item : (p : List ℕ) (x : ReferenceOr PathItem)
-    → placed_forms (operations_at p x) ≡ ops_of_item (name p) (reference_form path_item_form x)
-forms_of_item p (v.Reference r) = refl
-forms_of_item p (v.Item x) = forms_at p (present_operations x) ∙ ap (at_path p) (present_forms x)
+  forms_of_item : (p : List ℕ) (x : ReferenceOr (PathItem S))
+      → (placed_forms schema_form) (operations_at p x) ≡ ops_of_item (name p) (reference_form (path_item_form schema_form) x)
+  forms_of_item p (v.Reference r) = refl
+  forms_of_item p (v.Item x) = forms_at p (present_operations x) ∙ ap (at_path p) (present_forms schema_form x)
 
-forms_under_paths : (es : Entries (ReferenceOr PathItem))
-    → placed_forms (operations_under es) ≡ ops_of_paths (named_of (pairs_of (reference_form path_item_form) es))
-forms_under_paths [] = refl
-forms_under_paths (e ∷ es) =
-    placed_join (operations_at e.0 e.1) (operations_under es)
-    ∙ (λ i. join (forms_of_item e.0 e.1 i) (forms_under_paths es i))
+  forms_under_paths : (es : Entries (ReferenceOr (PathItem S)))
+      → (placed_forms schema_form) (operations_under es) ≡ ops_of_paths (named_of (pairs_of (reference_form (path_item_form schema_form)) es))
+  forms_under_paths [] = refl
+  forms_under_paths (e ∷ es) =
+      placed_join (operations_at e.0 e.1) (operations_under es)
+      ∙ (λ i. join (forms_of_item e.0 e.1 i) (forms_under_paths es i))
 
-pub document_forms : (x : OpenAPI) → placed_forms (document_operations x) ≡ ops (document_form x)
-document_forms x = forms_under_paths x.paths.paths
+  pub document_forms : (x : OpenAPI S) → (placed_forms schema_form) (document_operations x) ≡ ops (document_form schema_form x)
+  document_forms x = forms_under_paths x.paths.paths

@@ -2,6 +2,7 @@
 use Rattle.std.proofs.Common.{◌≡◌, ◌↔◌, true, refl, sym, ap, ◌∙◌, subst, []}
 use Rattle.openapi_node.specs.Tree.{Tree}
 use Rattle.openapi_tables.specs.Print.{again, print, clean}
+use Rattle.openapi_tables.specs.Form.{Form}
 use Rattle.openapi_tables.specs.Read.{form}
 use Rattle.openapi_tables.specs.Sound.{sound}
 use Rattle.openapi_tables.specs.Stays.{stays}
@@ -21,33 +22,34 @@ pub document_sound : sound final_tables document ≡ true
 unfolding final_tables tables_with
 document_sound = refl
 
-pub can_be_written : (t : Tree) (x : OpenAPI) → IsReadOf x t
-    → unwritable final_tables document (document_form x) ≡ []
-can_be_written t x r =
-    subst (λ f. unwritable final_tables document f ≡ []) r.1
-    ((writable.0 final_tables document (form final_tables document t)).0
-    (read_proper final_tables final_sound t document document_sound r.0)).1
+module _ {S : Type 0} (schema_form : S → Form) where
+  pub can_be_written : (t : Tree) (x : OpenAPI S) → IsReadOf schema_form x t
+      → unwritable final_tables document (document_form schema_form x) ≡ []
+  can_be_written t x r =
+      subst (λ f. unwritable final_tables document f ≡ []) r.1
+      ((writable.0 final_tables document (form final_tables document t)).0
+      (read_proper final_tables final_sound t document document_sound r.0)).1
 
--- of the cleaned tree is read what is read again of what was read first
-reads_again : (t : Tree) (x y : OpenAPI) → IsReadOf x t → IsReadOf y (clean final_tables document t)
-    → again final_tables document (document_form x) ≡ document_form y
-reads_again t x y r h = ap (again final_tables document) (sym r.1) ∙ h.1
+  -- of the cleaned tree is read what is read again of what was read first
+  reads_again : (t : Tree) (x y : OpenAPI S) → IsReadOf schema_form x t → IsReadOf schema_form y (clean final_tables document t)
+      → again final_tables document (document_form schema_form x) ≡ document_form schema_form y
+  reads_again t x y r h = ap (again final_tables document) (sym r.1) ∙ h.1
 
-pub is_settled : (t : Tree) (x y z : OpenAPI) → IsReadOf x t → IsReadOf y (clean final_tables document t)
-    → IsReadOf z (print final_tables document (document_form y)) → document_form z ≡ document_form y
-is_settled t x y z r h g =
-    let f = form final_tables document t in
-    let e = reads_again t x y r h in
-    let s = cleaned.settled final_tables final_sound document f document_sound
-    (read_proper final_tables final_sound t document document_sound r.0) in
-    sym g.1 ∙ sym (ap (again final_tables document) h.1) ∙ s ∙ h.1
+  pub is_settled : (t : Tree) (x y z : OpenAPI S) → IsReadOf schema_form x t → IsReadOf schema_form y (clean final_tables document t)
+      → IsReadOf schema_form z (print final_tables document (document_form schema_form y)) → document_form schema_form z ≡ document_form schema_form y
+  is_settled t x y z r h g =
+      let f = form final_tables document t in
+      let e = reads_again t x y r h in
+      let s = cleaned.settled final_tables final_sound document f document_sound
+      (read_proper final_tables final_sound t document document_sound r.0) in
+      sym g.1 ∙ sym (ap (again final_tables document) h.1) ∙ s ∙ h.1
 
-pub is_first : (t : Tree) (x y : OpenAPI) → IsReadOf x t → IsReadOf y (clean final_tables document t)
-    → (document_form y ≡ document_form x) ↔ (stays final_tables document (document_form x) ≡ true)
-is_first t x y r h =
-    let e = reads_again t x y r h in (
-      (λ g. subst (λ f. stays final_tables document f ≡ true) r.1 (first_stays final_tables final_sound t document
-          document_sound (ap (again final_tables document) r.1 ∙ e ∙ g ∙ sym r.1))),
-      (λ g. sym e ∙ ap (again final_tables document) (sym r.1) ∙ read_again final_tables final_sound t document
-          document_sound (subst (λ f. stays final_tables document f ≡ true) (sym r.1) g) ∙ r.1),
-    )
+  pub is_first : (t : Tree) (x y : OpenAPI S) → IsReadOf schema_form x t → IsReadOf schema_form y (clean final_tables document t)
+      → (document_form schema_form y ≡ document_form schema_form x) ↔ (stays final_tables document (document_form schema_form x) ≡ true)
+  is_first t x y r h =
+      let e = reads_again t x y r h in (
+        (λ g. subst (λ f. stays final_tables document f ≡ true) r.1 (first_stays final_tables final_sound t document
+            document_sound (ap (again final_tables document) r.1 ∙ e ∙ g ∙ sym r.1))),
+        (λ g. sym e ∙ ap (again final_tables document) (sym r.1) ∙ read_again final_tables final_sound t document
+            document_sound (subst (λ f. stays final_tables document f ≡ true) (sym r.1) g) ∙ r.1),
+      )

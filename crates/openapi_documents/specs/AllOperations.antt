@@ -2,6 +2,7 @@
 use Rattle.std.specs.Prelude.{ℕ, List, [], ◌∷◌, Option, Some, None}
 use Rattle.std.specs.Borrow.{Bor}
 use Rattle.openapi_map.specs.Entries.{Entries}
+use Rattle.openapi_tables.specs.Form.{Form}
 use Rattle.openapi_tables.specs.Lists.{each, join}
 use Rattle.openapi_tables.specs.Operations as tables
 use Rattle.openapi_values.specs.declared.reference.ReferenceOr.{ReferenceOr}
@@ -13,37 +14,38 @@ use Rattle.openapi_operations.specs.declared.path_item.PathItem.{PathItem}
 use Rattle.openapi_documents.specs.declared.open_api.OpenAPI.{OpenAPI}
 
 -- an operation, with its path and its method
-abbrev pub Placed : Type 0
-Placed = List ℕ × (List ℕ × Operation)
+abbrev pub Placed : Type 0 → Type 0
+Placed S = List ℕ × (List ℕ × Operation S)
 
--- operations under one path
-abbrev pub under_path : List ℕ → Entries Operation → List Placed
-under_path p [] = []
-under_path p (e ∷ es) = (p, e) ∷ under_path p es
+module _ {S : Type 0} where
+  -- operations under one path
+  abbrev pub under_path : List ℕ → Entries (Operation S) → List (Placed S)
+  under_path p [] = []
+  under_path p (e ∷ es) = (p, e) ∷ under_path p es
 
--- the operations under a path; a reference to a path item gives none
-abbrev pub operations_at : List ℕ → ReferenceOr PathItem → List Placed
-operations_at p (v.Reference r) = []
-operations_at p (v.Item x) = under_path p (present_operations x)
+  -- the operations under a path; a reference to a path item gives none
+  abbrev pub operations_at : List ℕ → ReferenceOr (PathItem S) → List (Placed S)
+  operations_at p (v.Reference r) = []
+  operations_at p (v.Item x) = under_path p (present_operations x)
 
--- the operations of all paths, in the order of the map
-abbrev pub operations_under : Entries (ReferenceOr PathItem) → List Placed
-operations_under [] = []
-operations_under (e ∷ es) = join (operations_at e.0 e.1) (operations_under es)
+  -- the operations of all paths, in the order of the map
+  abbrev pub operations_under : Entries (ReferenceOr (PathItem S)) → List (Placed S)
+  operations_under [] = []
+  operations_under (e ∷ es) = join (operations_at e.0 e.1) (operations_under es)
 
--- the operations of a document
-abbrev pub document_operations : OpenAPI → List Placed
-document_operations x = operations_under x.paths.paths
+  -- the operations of a document
+  abbrev pub document_operations : OpenAPI S → List (Placed S)
+  document_operations x = operations_under x.paths.paths
 
--- what is lent of an operation is its path, its method and itself
-abbrev pub lent_operation : Bor (List ℕ) × Bor (List ℕ) × Bor Operation → Placed
-lent_operation e = (e.0.now, (e.1.now, e.2.now))
+  -- what is lent of an operation is its path, its method and itself
+  abbrev pub lent_operation : Bor (List ℕ) × Bor (List ℕ) × Bor (Operation S) → Placed S
+  lent_operation e = (e.0.now, (e.1.now, e.2.now))
 
--- what an iterator has left of the path that it stands at
-abbrev pub left_under : List ℕ → Option (Entries Operation) → List Placed
-left_under p None = []
-left_under p (Some es) = under_path p es
+  -- what an iterator has left of the path that it stands at
+  abbrev pub left_under : List ℕ → Option (Entries (Operation S)) → List (Placed S)
+  left_under p None = []
+  left_under p (Some es) = under_path p es
 
 -- operations by their forms
-abbrev pub placed_forms : List Placed → List tables.Operation
-placed_forms es = each (λ e. record { path = e.0; method = e.1.0; value = operation_form e.1.1 }) es
+abbrev pub placed_forms : {S : Type 0} → (S → Form) → List (Placed S) → List tables.Operation
+placed_forms schema_form es = each (λ e. record { path = e.0; method = e.1.0; value = (operation_form schema_form) e.1.1 }) es

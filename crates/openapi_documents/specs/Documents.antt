@@ -7,7 +7,6 @@ use Rattle.openapi_annotations.specs.Objects.{external_documentation_rows}
 use Rattle.openapi_records.specs.Links.{link_rows}
 use Rattle.openapi_records.specs.Objects.{example_rows, info_rows, server_rows, tag_rows}
 use Rattle.openapi_security.specs.Schemes.{security_requirement_form, security_scheme_form}
-use Rattle.openapi_schema.specs.SchemaForms.{schema_form}
 use Rattle.openapi_contents.specs.ContentForms.{header_form}
 use Rattle.openapi_parameters.specs.Parameters.{parameter_form}
 use Rattle.openapi_messages.specs.Messages.{request_body_rows, response_rows}
@@ -16,35 +15,36 @@ use Rattle.openapi_operations.specs.OperationForms.{callback_form}
 use Rattle.openapi_documents.specs.declared.components.Components.{Components}
 use Rattle.openapi_documents.specs.declared.open_api.OpenAPI.{OpenAPI}
 
--- Components Object
-abbrev pub components_rows : Components → List Form
-components_rows x =
-    map_form (reference_form schema_form) x.schemas
-    ∷ map_form (reference_form (record_form response_rows)) x.responses
-    ∷ map_form (reference_form parameter_form) x.parameters
-    ∷ map_form (reference_form (record_form example_rows)) x.examples
-    ∷ map_form (reference_form (record_form request_body_rows)) x.request_bodies
-    ∷ map_form (reference_form header_form) x.headers
-    ∷ map_form (reference_form security_scheme_form) x.security_schemes
-    ∷ map_form (reference_form (record_form link_rows)) x.links
-    ∷ map_form (reference_form callback_form) x.callbacks
-    ∷ extensions_form x.extensions
-    ∷ []
+module _ {S : Type 0} (schema_form : S → Form) where
+  -- Components Object
+  abbrev pub components_rows : Components S → List Form
+  components_rows x =
+      map_form (reference_form schema_form) x.schemas
+      ∷ map_form (reference_form (record_form (response_rows schema_form))) x.responses
+      ∷ map_form (reference_form (parameter_form schema_form)) x.parameters
+      ∷ map_form (reference_form (record_form example_rows)) x.examples
+      ∷ map_form (reference_form (record_form (request_body_rows schema_form))) x.request_bodies
+      ∷ map_form (reference_form (header_form schema_form)) x.headers
+      ∷ map_form (reference_form security_scheme_form) x.security_schemes
+      ∷ map_form (reference_form (record_form link_rows)) x.links
+      ∷ map_form (reference_form (callback_form schema_form)) x.callbacks
+      ∷ extensions_form x.extensions
+      ∷ []
 
--- OpenAPI Object
-abbrev pub open_api_rows : OpenAPI → List Form
-open_api_rows x =
-    text_form x.openapi
-    ∷ record_form info_rows x.info
-    ∷ list_form (record_form server_rows) x.servers
-    ∷ record_form paths_rows x.paths
-    ∷ optional_form (record_form components_rows) x.components
-    ∷ optional_form (list_form security_requirement_form) x.security
-    ∷ list_form (record_form tag_rows) x.tags
-    ∷ optional_form (record_form external_documentation_rows) x.external_docs
-    ∷ extensions_form x.extensions
-    ∷ []
+  -- OpenAPI Object
+  abbrev pub open_api_rows : OpenAPI S → List Form
+  open_api_rows x =
+      text_form x.openapi
+      ∷ record_form info_rows x.info
+      ∷ list_form (record_form server_rows) x.servers
+      ∷ record_form (paths_rows schema_form) x.paths
+      ∷ optional_form (record_form components_rows) x.components
+      ∷ optional_form (list_form security_requirement_form) x.security
+      ∷ list_form (record_form tag_rows) x.tags
+      ∷ optional_form (record_form external_documentation_rows) x.external_docs
+      ∷ extensions_form x.extensions
+      ∷ []
 
--- a whole document
-abbrev pub document_form : OpenAPI → Form
-document_form = record_form open_api_rows
+  -- a whole document
+  abbrev pub document_form : OpenAPI S → Form
+  document_form = record_form open_api_rows

@@ -2,6 +2,7 @@
 use Rattle.std.specs.Prelude.{◌≡◌, ◌↔◌, ◌≤◌, ◌*◌, true, false, []}
 use Rattle.openapi_node.specs.Tree.{Tree, size_of}
 use Rattle.openapi_tables.specs.Conforms.{conforms}
+use Rattle.openapi_tables.specs.Form.{Form}
 use Rattle.openapi_tables.specs.Faults.{Asking, Cause, asked, causes}
 use Rattle.openapi_tables.specs.Kind.{Kind, by, open_api}
 use Rattle.openapi_tables.specs.Laws.{Among}
@@ -18,28 +19,28 @@ abbrev pub document : Kind
 document = by open_api
 
 -- a document is read of the tree: the tree conforms, and its form is that of the document
-abbrev pub IsReadOf : OpenAPI → Tree → Type 0
-IsReadOf x t = Reads document_form x document t
+abbrev pub IsReadOf : {S : Type 0} → (S → Form) → OpenAPI S → Tree → Type 0
+IsReadOf schema_form x t = Reads (document_form schema_form) x document t
 
 -- some rule that is asked of a value in the tree is broken there
 abbrev pub HasBroken : Tree → Type 0
 HasBroken t = (a : Asking) × (c : Cause) × Among a (asked final_tables document t) × Among c (causes final_tables a.kind a.tree)
 
 -- What holds of every tree, and of every document that is read of one.
-pub record Headline : Type 0 where
+pub record Headline {S : Type 0} (schema_form : S → Form) : Type 0 where
   -- a tree does not conform exactly where a rule is broken at some place
   pub refused : (t : Tree) → (conforms final_tables document t ≡ false) ↔ HasBroken t
   -- what was read can be written, and is written as the cleaned tree
-  pub cleaned : (t : Tree) (x : OpenAPI) → IsReadOf x t
-      → (unwritable final_tables document (document_form x) ≡ [])
-      × (print final_tables document (document_form x) ≡ clean final_tables document t)
+  pub cleaned : (t : Tree) (x : OpenAPI S) → IsReadOf schema_form x t
+      → (unwritable final_tables document (document_form schema_form x) ≡ [])
+      × (print final_tables document (document_form schema_form x) ≡ clean final_tables document t)
   -- the cleaned tree conforms, and is at most twice as large
   pub read_again : (t : Tree) → conforms final_tables document t ≡ true
       → (conforms final_tables document (clean final_tables document t) ≡ true)
       × (size_of (clean final_tables document t) ≤ 2 * size_of t)
   -- what is read of the cleaned tree is settled: written and read once more it is the same
-  pub settled : (t : Tree) (x y z : OpenAPI) → IsReadOf x t → IsReadOf y (clean final_tables document t)
-      → IsReadOf z (print final_tables document (document_form y)) → document_form z ≡ document_form y
+  pub settled : (t : Tree) (x y z : OpenAPI S) → IsReadOf schema_form x t → IsReadOf schema_form y (clean final_tables document t)
+      → IsReadOf schema_form z (print final_tables document (document_form schema_form y)) → document_form schema_form z ≡ document_form schema_form y
   -- and it is what was read first exactly where no schema that is held as one of any members is written as another
-  pub first : (t : Tree) (x y : OpenAPI) → IsReadOf x t → IsReadOf y (clean final_tables document t)
-      → (document_form y ≡ document_form x) ↔ (stays final_tables document (document_form x) ≡ true)
+  pub first : (t : Tree) (x y : OpenAPI S) → IsReadOf schema_form x t → IsReadOf schema_form y (clean final_tables document t)
+      → (document_form schema_form y ≡ document_form schema_form x) ↔ (stays final_tables document (document_form schema_form x) ≡ true)

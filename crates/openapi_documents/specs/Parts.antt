@@ -11,7 +11,6 @@ use Rattle.openapi_annotations.specs.Objects.{external_documentation_rows}
 use Rattle.openapi_records.specs.Links.{link_rows}
 use Rattle.openapi_records.specs.Objects.{example_rows, info_rows, server_rows, tag_rows}
 use Rattle.openapi_security.specs.Schemes.{security_scheme_form}
-use Rattle.openapi_schema.specs.SchemaForms.{schema_form}
 use Rattle.openapi_contents.specs.ContentForms.{header_form}
 use Rattle.openapi_parameters.specs.Parameters.{parameter_form}
 use Rattle.openapi_messages.specs.Messages.{request_body_rows, response_rows}
@@ -30,15 +29,6 @@ first_rows =
     ∷ list_row "requestBodies" (map_of (ref_to (by request_body)))
     ∷ []
 
-abbrev pub first_forms : FirstComponents → List Form
-first_forms x =
-    map_form (reference_form schema_form) x.schemas
-    ∷ map_form (reference_form (record_form response_rows)) x.responses
-    ∷ map_form (reference_form parameter_form) x.parameters
-    ∷ map_form (reference_form (record_form example_rows)) x.examples
-    ∷ map_form (reference_form (record_form request_body_rows)) x.request_bodies
-    ∷ []
-
 -- those whose rows stand last, and the extensions
 abbrev pub last_rows : List Row
 last_rows =
@@ -47,15 +37,6 @@ last_rows =
     ∷ list_row "links" (map_of (ref_to (by link)))
     ∷ list_row "callbacks" (map_of callback_ref)
     ∷ extension_rows
-
-abbrev pub last_forms : LastComponents → List Form
-last_forms x =
-    map_form (reference_form header_form) x.headers
-    ∷ map_form (reference_form security_scheme_form) x.security_schemes
-    ∷ map_form (reference_form (record_form link_rows)) x.links
-    ∷ map_form (reference_form callback_form) x.callbacks
-    ∷ extensions_form x.extensions
-    ∷ []
 
 -- what a document says of itself and of its servers and tags
 abbrev pub facts_rows : List Row
@@ -75,3 +56,23 @@ facts_forms x =
     ∷ list_form (record_form tag_rows) x.tags
     ∷ optional_form (record_form external_documentation_rows) x.external_docs
     ∷ []
+
+-- the forms of what the components give
+module _ {S : Type 0} (schema_form : S → Form) where
+  abbrev pub first_forms : FirstComponents S → List Form
+  first_forms x =
+      map_form (reference_form schema_form) x.schemas
+      ∷ map_form (reference_form (record_form (response_rows schema_form))) x.responses
+      ∷ map_form (reference_form (parameter_form schema_form)) x.parameters
+      ∷ map_form (reference_form (record_form example_rows)) x.examples
+      ∷ map_form (reference_form (record_form (request_body_rows schema_form))) x.request_bodies
+      ∷ []
+
+  abbrev pub last_forms : LastComponents S → List Form
+  last_forms x =
+      map_form (reference_form (header_form schema_form)) x.headers
+      ∷ map_form (reference_form security_scheme_form) x.security_schemes
+      ∷ map_form (reference_form (record_form link_rows)) x.links
+      ∷ map_form (reference_form (callback_form schema_form)) x.callbacks
+      ∷ extensions_form x.extensions
+      ∷ []

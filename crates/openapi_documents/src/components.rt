@@ -12,6 +12,7 @@ ghost use Rattle.openapi_documents.specs.Documents.{components_rows};
 ghost use Rattle.openapi_documents.specs.Parts.{first_forms, first_rows, last_forms, last_rows};
 
 use openapi_contents::Header;
+use openapi_knots::SchemaObject;
 use openapi_messages::{RequestBody, Response};
 use openapi_node::{Fault, Node, OrderedMap, Steps, View};
 use openapi_operations::Callback;
@@ -21,7 +22,6 @@ use openapi_rows::{
     FromNode, Object, Record, ToNode, extensions, or_implied, put_extensions, put_implied,
     read_record, write_record,
 };
-use openapi_schema::Schema;
 use openapi_security::SecurityScheme;
 use openapi_values::ReferenceOr;
 use std::alloc::Global;
@@ -29,32 +29,32 @@ use std::alloc::Global;
 /// The Components Object (OpenAPI 3.0.3, section 4.7.7): what the document may refer to, by names. It has no effect
 /// where nothing refers to it. Under each name an object or a reference to one may stand. The names are not checked.
 #[derive(Clone, Debug, PartialEq, Drop)]
-pub struct Components {
+pub struct Components<S> {
     /// Schemas.
-    pub schemas: OrderedMap<ReferenceOr<Schema>>,
+    pub schemas: OrderedMap<ReferenceOr<S>>,
     /// Responses.
-    pub responses: OrderedMap<ReferenceOr<Response>>,
+    pub responses: OrderedMap<ReferenceOr<Response<S>>>,
     /// Parameters.
-    pub parameters: OrderedMap<ReferenceOr<Parameter>>,
+    pub parameters: OrderedMap<ReferenceOr<Parameter<S>>>,
     /// Examples.
     pub examples: OrderedMap<ReferenceOr<Example>>,
     /// Request bodies.
-    pub request_bodies: OrderedMap<ReferenceOr<RequestBody>>,
+    pub request_bodies: OrderedMap<ReferenceOr<RequestBody<S>>>,
     /// Headers.
-    pub headers: OrderedMap<ReferenceOr<Header>>,
+    pub headers: OrderedMap<ReferenceOr<Header<S>>>,
     /// Security schemes, by the names that security requirements use.
     pub security_schemes: OrderedMap<ReferenceOr<SecurityScheme>>,
     /// Links.
     pub links: OrderedMap<ReferenceOr<Link>>,
     /// Callbacks.
-    pub callbacks: OrderedMap<ReferenceOr<Callback>>,
+    pub callbacks: OrderedMap<ReferenceOr<Callback<S>>>,
     /// Extensions: the members whose names begin with `x-`, in their order.
     pub extensions: OrderedMap<Node>,
 }
 
-impl Components {
+impl<S> Components<S> {
     /// No components.
-    pub fn new(alloc: Global) -> Components
+    pub fn new(alloc: Global) -> Components<S>
         ensures schemas { result.schemas ≡ [] }
         ensures responses { result.responses ≡ [] }
         ensures parameters { result.parameters ≡ [] }
@@ -83,81 +83,81 @@ impl Components {
 
 /// The components whose rows stand first.
 #[derive(Drop)]
-struct FirstComponents {
-    schemas: OrderedMap<ReferenceOr<Schema>>,
-    responses: OrderedMap<ReferenceOr<Response>>,
-    parameters: OrderedMap<ReferenceOr<Parameter>>,
+struct FirstComponents<S> {
+    schemas: OrderedMap<ReferenceOr<S>>,
+    responses: OrderedMap<ReferenceOr<Response<S>>>,
+    parameters: OrderedMap<ReferenceOr<Parameter<S>>>,
     examples: OrderedMap<ReferenceOr<Example>>,
-    request_bodies: OrderedMap<ReferenceOr<RequestBody>>,
+    request_bodies: OrderedMap<ReferenceOr<RequestBody<S>>>,
 }
 
 /// The components whose rows stand last, and the extensions.
 #[derive(Drop)]
-struct LastComponents {
-    headers: OrderedMap<ReferenceOr<Header>>,
+struct LastComponents<S> {
+    headers: OrderedMap<ReferenceOr<Header<S>>>,
     security_schemes: OrderedMap<ReferenceOr<SecurityScheme>>,
     links: OrderedMap<ReferenceOr<Link>>,
-    callbacks: OrderedMap<ReferenceOr<Callback>>,
+    callbacks: OrderedMap<ReferenceOr<Callback<S>>>,
     extensions: OrderedMap<Node>,
 }
 
 /// Reads the components whose rows stand first.
 #[tactic(auto, unfolding(openapi_tables::specs::Tables::final_tables, openapi_tables::specs::Tables::tables_with))]
-fn read_first(
+fn read_first<S: SchemaObject>(
     alloc: Global,
     members: &OrderedMap<Node>,
     steps: &mut Steps,
-) -> Result<FirstComponents, Fault>
-    ensures reads { GivesPart first_forms result (by kinds.components) first_rows (members_of members.now) }
+) -> Result<FirstComponents<S>, Fault>
+    ensures reads { GivesPart (first_forms S.form_of) result (by kinds.components) first_rows (members_of members.now) }
     ensures rises { steps.old ≤ steps.new }
     ensures count { steps.new ≤ steps.old + 3 * rows_weight first_rows (members_of members.now) }
 {
     Ok(FirstComponents {
-        schemas: or_implied::<Components, _>(alloc, members, "schemas", steps)?,
-        responses: or_implied::<Components, _>(alloc, members, "responses", steps)?,
-        parameters: or_implied::<Components, _>(alloc, members, "parameters", steps)?,
-        examples: or_implied::<Components, _>(alloc, members, "examples", steps)?,
-        request_bodies: or_implied::<Components, _>(alloc, members, "requestBodies", steps)?,
+        schemas: or_implied::<Components<S>, _>(alloc, members, "schemas", steps)?,
+        responses: or_implied::<Components<S>, _>(alloc, members, "responses", steps)?,
+        parameters: or_implied::<Components<S>, _>(alloc, members, "parameters", steps)?,
+        examples: or_implied::<Components<S>, _>(alloc, members, "examples", steps)?,
+        request_bodies: or_implied::<Components<S>, _>(alloc, members, "requestBodies", steps)?,
     })
 }
 
 /// Reads the components whose rows stand last, and the extensions.
 #[tactic(auto, unfolding(openapi_tables::specs::Tables::final_tables, openapi_tables::specs::Tables::tables_with))]
-fn read_last(
+fn read_last<S: SchemaObject>(
     alloc: Global,
     members: &OrderedMap<Node>,
     steps: &mut Steps,
-) -> Result<LastComponents, Fault>
-    ensures reads { GivesPart last_forms result (by kinds.components) last_rows (members_of members.now) }
+) -> Result<LastComponents<S>, Fault>
+    ensures reads { GivesPart (last_forms S.form_of) result (by kinds.components) last_rows (members_of members.now) }
     ensures rises { steps.old ≤ steps.new }
     ensures count { steps.new ≤ steps.old + 3 * rows_weight last_rows (members_of members.now) }
 {
     Ok(LastComponents {
-        headers: or_implied::<Components, _>(alloc, members, "headers", steps)?,
-        security_schemes: or_implied::<Components, _>(alloc, members, "securitySchemes", steps)?,
-        links: or_implied::<Components, _>(alloc, members, "links", steps)?,
-        callbacks: or_implied::<Components, _>(alloc, members, "callbacks", steps)?,
-        extensions: extensions::<Components>(alloc, members, steps)?,
+        headers: or_implied::<Components<S>, _>(alloc, members, "headers", steps)?,
+        security_schemes: or_implied::<Components<S>, _>(alloc, members, "securitySchemes", steps)?,
+        links: or_implied::<Components<S>, _>(alloc, members, "links", steps)?,
+        callbacks: or_implied::<Components<S>, _>(alloc, members, "callbacks", steps)?,
+        extensions: extensions::<Components<S>>(alloc, members, steps)?,
     })
 }
 
-impl Object for Components {
+impl<S: SchemaObject> Object for Components<S> {
     ghost object = { by kinds.components };
 
-    ghost slots_of = { record_slots kinds.components components_rows };
+    ghost slots_of = { record_slots kinds.components (components_rows S.form_of) };
 
-    ghost apart = { λ x. final_apart kinds.components (components_rows x) };
+    ghost apart = { λ x. final_apart kinds.components (components_rows S.form_of x) };
 }
 
 #[tactic(auto, unfolding(openapi_tables::specs::Tables::final_tables, openapi_tables::specs::Tables::tables_with))]
-impl Record for Components {
-    ghost rows_of = { components_rows };
+impl<S: SchemaObject> Record for Components<S> {
+    ghost rows_of = { components_rows S.form_of };
 
     fn from_members(
         alloc: Global,
         members: &OrderedMap<Node>,
         steps: &mut Steps,
-    ) -> Result<Components, Fault> {
+    ) -> Result<Components<S>, Fault> {
         let first = read_first(alloc, members, steps)?;
         let last = read_last(alloc, members, steps)?;
         Ok(Components {
@@ -192,12 +192,16 @@ impl Record for Components {
     ghost by_rows = { λ x. refl };
 }
 
-impl FromNode for Components {
+impl<S: SchemaObject> FromNode for Components<S> {
     ghost kind = { by kinds.components };
 
-    ghost form_of = { record_form components_rows };
+    ghost form_of = { record_form (components_rows S.form_of) };
 
-    fn from_view(alloc: Global, view: &View<'_>, steps: &mut Steps) -> Result<Components, Fault> {
+    fn from_view(
+        alloc: Global,
+        view: &View<'_>,
+        steps: &mut Steps,
+    ) -> Result<Components<S>, Fault> {
         read_record(alloc, view, steps)
     }
 
@@ -206,7 +210,7 @@ impl FromNode for Components {
     ghost well_made = { refl };
 }
 
-impl ToNode for Components {
+impl<S: SchemaObject> ToNode for Components<S> {
     fn to_node(&self, alloc: Global) -> Result<Node, Fault> {
         write_record(alloc, self)
     }

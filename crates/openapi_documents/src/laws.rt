@@ -1,6 +1,8 @@
 //! The law of whole documents: the function does nothing, and its contract is the law.
 ghost use Rattle.openapi_documents.specs.Headline.{Headline};
 
+use openapi_knots::SchemaObject;
+
 /// What holds of every tree that is to be a document, put together of the laws of the tables.
 ///
 /// - A tree does not conform exactly where a rule that is asked of a value in it is broken there. `OpenAPI::from_node`
@@ -10,6 +12,6 @@ ghost use Rattle.openapi_documents.specs.Headline.{Headline};
 /// - What is read of the cleaned tree is settled: writing and reading it again changes nothing.
 /// - It is the value that was read first exactly where no schema that is held as one of any members is printed as one
 ///   of another sort.
-pub fn headline()
-    ensures { Headline }
+pub fn headline<S: SchemaObject>()
+    ensures { Headline S.form_of }
 {}

@@ -13,6 +13,7 @@ ghost use Rattle.openapi_documents.specs.Parts.{facts_forms, facts_rows};
 
 use crate::components::Components;
 use openapi_annotations::ExternalDocumentation;
+use openapi_knots::SchemaObject;
 use openapi_node::{Fault, Node, OrderedMap, Steps, View};
 use openapi_operations::Paths;
 use openapi_records::{Info, Server, Tag};
@@ -25,7 +26,7 @@ use std::alloc::Global;
 
 /// The OpenAPI Object (OpenAPI 3.0.3, section 4.7.1): a whole document.
 #[derive(Clone, Debug, PartialEq, Drop)]
-pub struct OpenAPI {
+pub struct OpenAPI<S> {
     /// The version of the OpenAPI Specification that the document is written by, such as `3.0.3`. Required. It is not
     /// checked.
     pub openapi: String,
@@ -40,16 +41,16 @@ pub struct OpenAPI {
     /// Extensions: the members whose names begin with `x-`, in their order.
     pub extensions: OrderedMap<Node>,
     /// The paths of the API and their operations. Required.
-    pub paths: Paths,
+    pub paths: Paths<S>,
     /// Metadata about the API. Required.
     pub info: Info,
     /// What the document may refer to.
-    pub components: Option<Components>,
+    pub components: Option<Components<S>>,
 }
 
-impl OpenAPI {
+impl<S> OpenAPI<S> {
     /// Empty texts, lists and maps, and nothing else.
-    pub fn new(alloc: Global) -> OpenAPI
+    pub fn new(alloc: Global) -> OpenAPI<S>
         ensures openapi { string_bytes result.openapi ≡ [] }
         ensures title { string_bytes result.info.title ≡ [] }
         ensures description { result.info.description ≡ None }
@@ -91,6 +92,17 @@ struct Facts {
     external_docs: Option<ExternalDocumentation>,
 }
 
+/// The table of documents.
+struct DocumentTable;
+
+impl Object for DocumentTable {
+    ghost object = { by kinds.open_api };
+
+    ghost slots_of = { λ x. [] };
+
+    ghost apart = { λ x. refl };
+}
+
 /// Reads what a document says of itself and of its servers and tags.
 #[tactic(auto, unfolding(openapi_tables::specs::Tables::final_tables, openapi_tables::specs::Tables::tables_with))]
 fn read_facts(alloc: Global, members: &OrderedMap<Node>, steps: &mut Steps) -> Result<Facts, Fault>
@@ -99,31 +111,31 @@ fn read_facts(alloc: Global, members: &OrderedMap<Node>, steps: &mut Steps) -> R
     ensures count { steps.new ≤ steps.old + 3 * rows_weight facts_rows (members_of members.now) }
 {
     Ok(Facts {
-        openapi: required::<OpenAPI, _>(alloc, members, "openapi", steps)?,
-        info: required::<OpenAPI, _>(alloc, members, "info", steps)?,
-        servers: or_implied::<OpenAPI, _>(alloc, members, "servers", steps)?,
-        tags: or_implied::<OpenAPI, _>(alloc, members, "tags", steps)?,
-        external_docs: optional::<OpenAPI, _>(alloc, members, "externalDocs", steps)?,
+        openapi: required::<DocumentTable, _>(alloc, members, "openapi", steps)?,
+        info: required::<DocumentTable, _>(alloc, members, "info", steps)?,
+        servers: or_implied::<DocumentTable, _>(alloc, members, "servers", steps)?,
+        tags: or_implied::<DocumentTable, _>(alloc, members, "tags", steps)?,
+        external_docs: optional::<DocumentTable, _>(alloc, members, "externalDocs", steps)?,
     })
 }
 
-impl Object for OpenAPI {
+impl<S: SchemaObject> Object for OpenAPI<S> {
     ghost object = { by kinds.open_api };
 
-    ghost slots_of = { record_slots kinds.open_api open_api_rows };
+    ghost slots_of = { record_slots kinds.open_api (open_api_rows S.form_of) };
 
-    ghost apart = { λ x. final_apart kinds.open_api (open_api_rows x) };
+    ghost apart = { λ x. final_apart kinds.open_api (open_api_rows S.form_of x) };
 }
 
 #[tactic(auto, unfolding(openapi_tables::specs::Tables::final_tables, openapi_tables::specs::Tables::tables_with))]
-impl Record for OpenAPI {
-    ghost rows_of = { open_api_rows };
+impl<S: SchemaObject> Record for OpenAPI<S> {
+    ghost rows_of = { open_api_rows S.form_of };
 
     fn from_members(
         alloc: Global,
         members: &OrderedMap<Node>,
         steps: &mut Steps,
-    ) -> Result<OpenAPI, Fault> {
+    ) -> Result<OpenAPI<S>, Fault> {
         let facts = read_facts(alloc, members, steps)?;
         let security = optional::<Self, _>(alloc, members, "security", steps)?;
         let extensions = extensions::<Self>(alloc, members, steps)?;
@@ -159,12 +171,12 @@ impl Record for OpenAPI {
     ghost by_rows = { λ x. refl };
 }
 
-impl FromNode for OpenAPI {
+impl<S: SchemaObject> FromNode for OpenAPI<S> {
     ghost kind = { by kinds.open_api };
 
-    ghost form_of = { record_form open_api_rows };
+    ghost form_of = { record_form (open_api_rows S.form_of) };
 
-    fn from_view(alloc: Global, view: &View<'_>, steps: &mut Steps) -> Result<OpenAPI, Fault> {
+    fn from_view(alloc: Global, view: &View<'_>, steps: &mut Steps) -> Result<OpenAPI<S>, Fault> {
         read_record(alloc, view, steps)
     }
 
@@ -173,7 +185,7 @@ impl FromNode for OpenAPI {
     ghost well_made = { refl };
 }
 
-impl ToNode for OpenAPI {
+impl<S: SchemaObject> ToNode for OpenAPI<S> {
     fn to_node(&self, alloc: Global) -> Result<Node, Fault> {
         write_record(alloc, self)
     }

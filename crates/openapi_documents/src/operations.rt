@@ -9,6 +9,7 @@ ghost use Rattle.openapi_documents.specs.AllOperations.{operations_at, operation
 ghost use Rattle.openapi_documents.specs.Documents.{document_form};
 
 use crate::open_api::OpenAPI;
+use openapi_knots::SchemaObject;
 use openapi_map::Iter;
 use openapi_operations::{Operation, PathItem, PathItemIter};
 use openapi_values::ReferenceOr;
@@ -18,40 +19,43 @@ use std::marker::Model;
 /// the document, and the operation. They come path by path in the order of the map, and under a path in the order of
 /// the fields of [`PathItem`], from `get` to `trace`. A path item that is a reference has none.
 #[derive(Drop)]
-pub struct Operations<'a> {
-    paths: Iter<'a, ReferenceOr<PathItem>>,
+pub struct Operations<'a, S> {
+    paths: Iter<'a, ReferenceOr<PathItem<S>>>,
     path: &'a str,
-    under: Option<PathItemIter<'a>>,
+    under: Option<PathItemIter<'a, S>>,
 }
 
-impl<'a> Model for Operations<'a> {
+impl<'a, S> Model for Operations<'a, S> {
     ghost use Rattle.std.specs.Prelude.{List};
     ghost use Rattle.std.specs.Coded.{coded_list, coded×, coded_ℕ};
     ghost use Rattle.openapi_tables.specs.Lists.{join};
+    ghost use Rattle.openapi_operations.specs.Coding.{code_row};
     ghost use Rattle.openapi_operations.specs.contracts.operation.Operation as operation;
     ghost use Rattle.openapi_documents.specs.AllOperations.{Placed, left_under, operations_under};
 
-    ghost Value = { List Placed };
+    ghost Value = { List (Placed S) };
 
-    ghost coded = { coded_list (coded× (coded_list coded_ℕ) (coded× (coded_list coded_ℕ) operation.the_row.coded)) };
+    ghost coded = { coded_list (coded× (coded_list coded_ℕ) (coded× (coded_list coded_ℕ) (operation.the_row (code_row S S.code)).coded)) };
 
     ghost view = { λ it. join (left_under it.path.now it.under) (operations_under it.paths) };
 }
 
-impl<'a> Iterator for Operations<'a> {
-    type Item = (&'a str, &'static str, &'a Operation);
+impl<'a, S: SchemaObject> Iterator for Operations<'a, S> {
+    type Item = (&'a str, &'static str, &'a Operation<S>);
 
     ghost next_gives = { TakesFirst lent_operation };
 
     ghost remaining = { λ it. at_most (length it) };
 
-    fn next(&mut self) -> Option<(&'a str, &'static str, &'a Operation)> {
+    fn next(&mut self) -> Option<(&'a str, &'static str, &'a Operation<S>)> {
         next_of(&mut self.paths, &mut self.path, &mut self.under)
     }
 }
 
 /// The operations of what stands at a path: none of a reference.
-fn under_item<'a>(item: &'a ReferenceOr<PathItem>) -> Option<PathItemIter<'a>>
+fn under_item<'a, S: SchemaObject>(
+    item: &'a ReferenceOr<PathItem<S>>,
+) -> Option<PathItemIter<'a, S>>
     ensures { (path : List ℕ) → left_under path result ≡ operations_at path item.now }
 {
     match item {
@@ -61,10 +65,10 @@ fn under_item<'a>(item: &'a ReferenceOr<PathItem>) -> Option<PathItemIter<'a>>
 }
 
 /// The next operation under the path that an iterator stands at.
-fn next_under<'a>(
+fn next_under<'a, S: SchemaObject>(
     path: &'a str,
-    under: &mut Option<PathItemIter<'a>>,
-) -> Option<(&'a str, &'static str, &'a Operation)>
+    under: &mut Option<PathItemIter<'a, S>>,
+) -> Option<(&'a str, &'static str, &'a Operation<S>)>
     ensures { TakesFirst lent_operation (left_under path.now under.old) result (left_under path.now under.new) }
 {
     let (method, operation) = under.as_mut()?.next()?;
@@ -72,11 +76,11 @@ fn next_under<'a>(
 }
 
 /// The next operation under the path that an iterator stands at, or else the first one under the paths behind it.
-fn next_of<'a>(
-    paths: &mut Iter<'a, ReferenceOr<PathItem>>,
+fn next_of<'a, S: SchemaObject>(
+    paths: &mut Iter<'a, ReferenceOr<PathItem<S>>>,
     path: &mut &'a str,
-    under: &mut Option<PathItemIter<'a>>,
-) -> Option<(&'a str, &'static str, &'a Operation)>
+    under: &mut Option<PathItemIter<'a, S>>,
+) -> Option<(&'a str, &'static str, &'a Operation<S>)>
     ensures { TakesFirst lent_operation (join (left_under path.old.now under.old) (operations_under paths.old)) result
         (join (left_under path.new.now under.new) (operations_under paths.new)) }
 {
@@ -90,13 +94,13 @@ fn next_of<'a>(
     }
 }
 
-impl OpenAPI {
+impl<S: SchemaObject> OpenAPI<S> {
     /// All operations of the document: those that `PathItem::iter` gives, path by path in the order of the map. A path
     /// item that is a reference has none. No memory is taken.
-    pub fn operations(&self) -> Operations<'_>
+    pub fn operations(&self) -> Operations<'_, S>
         ensures rest { result ≡ document_operations self.now }
-        ensures forms { placed_forms result ≡ ops (document_form self.now) }
-        ensures runs { ShowsInOrder lent_operation }
+        ensures forms { (placed_forms S.form_of) result ≡ ops (document_form S.form_of self.now) }
+        ensures runs { ShowsInOrder (lent_operation {S = S}) }
     {
         Operations {
             paths: self.paths.iter(),

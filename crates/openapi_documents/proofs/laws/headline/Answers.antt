@@ -12,17 +12,18 @@ use Rattle.openapi_documents.proofs.Documents.{can_be_written, document_sound, i
 use Rattle.openapi_documents.proofs.laws.headline.Goals as goal
 
 pub returns : goal.returns
-returns c =
+returns g c =
+    let schema_form = g.S.FromNode.form_of in
     record {
       refused = λ t.
           let both = faults final_tables document t final_sound document_sound in
           (both.1, (λ h. both.0 h.0 h.1 h.2 h.3));
-      cleaned = λ t x r. (can_be_written t x r, ap (print final_tables document) (sym r.1));
+      cleaned = λ t x r. (can_be_written schema_form t x r, ap (print final_tables document) (sym r.1));
       read_again = λ t h. (
         writes_all final_tables final_sound (form final_tables document t) document document_sound
             (read_proper final_tables final_sound t document document_sound h),
         small final_tables final_sound final_small t document document_sound h,
       );
-      settled = is_settled;
-      first = is_first;
+      settled = is_settled schema_form;
+      first = is_first schema_form;
     }

@@ -5,6 +5,7 @@ use Rattle.openapi_documents.specs.declared.open_api.OpenAPI.{OpenAPI}
 use Rattle.openapi_records.specs.Objects.{tag_rows}
 use Rattle.openapi_records.specs.declared.tag.Tag.{Tag}
 use Rattle.openapi_tables.specs.ByRow.{is_class}
+use Rattle.openapi_tables.specs.Form.{Form}
 use Rattle.openapi_tables.specs.Kind.{any_tree, class, extensions, open_api, tag}
 use Rattle.openapi_tables.specs.Slots.{slot_where, through}
 use Rattle.openapi_tables.specs.Tables.{final_tables, tables_with}
@@ -19,12 +20,12 @@ pub tag_ends : (x : Tag) → through (is_class extensions) (record_slots tag tag
 unfolding final_tables tables_with
 tag_ends x = refl
 
-pub open_api_extensions : (x : OpenAPI) → slot_where (is_class extensions) (record_slots open_api open_api_rows x)
+pub open_api_extensions : {S : Type 0} (schema_form : S → Form) (x : OpenAPI S) → slot_where (is_class extensions) (record_slots open_api (open_api_rows schema_form) x)
     ≡ Some (class extensions any_tree, extensions_form x.extensions)
 unfolding final_tables tables_with
-open_api_extensions x = refl
+open_api_extensions schema_form x = refl
 
-pub open_api_ends : (x : OpenAPI) → through (is_class extensions) (record_slots open_api open_api_rows x)
-    ≡ record_slots open_api open_api_rows x
+pub open_api_ends : {S : Type 0} (schema_form : S → Form) (x : OpenAPI S) → through (is_class extensions) (record_slots open_api (open_api_rows schema_form) x)
+    ≡ record_slots open_api (open_api_rows schema_form) x
 unfolding final_tables tables_with
-open_api_ends x = refl
+open_api_ends schema_form x = refl

@@ -5,6 +5,7 @@ ghost use Rattle.openapi_schema.specs.Present.{additional_there, schema_there};
 use crate::members::whole_kind;
 use crate::schema::{AdditionalProperties, Schema, SchemaKind};
 use crate::write::{additional_to_node, kind_rows, write_schema};
+use openapi_knots::SchemaObject;
 use openapi_node::{Fault, Node};
 use openapi_rows::ToNode;
 use std::alloc::Global;
@@ -15,6 +16,10 @@ impl ToNode for Schema {
     }
 
     ghost there = { schema_there };
+}
+
+impl SchemaObject for Schema {
+    ghost is_schema = { refl };
 }
 
 /// The kind of a schema by itself, with no member that every kind of schema can have.

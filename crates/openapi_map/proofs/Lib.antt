@@ -6,3 +6,4 @@ mod IndexLemmas
 mod IterLemmas
 pub mod LinkLemmas
 mod RemoveLemmas
+mod RetainLemmas

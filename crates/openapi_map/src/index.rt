@@ -1,5 +1,5 @@
 //! The index of a long map: it leads from a hash to the places of the names that have it, and holds no names.
-ghost use Rattle.std.specs.Prelude.{◌≡◌, ◌+◌, ◌<◌, [], ◌++◌, ◌∷◌, ℕ, List, length, position, slice_index, EachIndex};
+ghost use Rattle.std.specs.Prelude.{◌≡◌, ◌+◌, ◌<◌, ◌≤◌, [], ◌++◌, ◌∷◌, ℕ, List, length, position, slice_index, EachIndex};
 ghost use Rattle.std.specs.Prelude.{IfOk, OnOk, OnErr};
 ghost use Rattle.std.specs.List.{IsDistinct, remove};
 ghost use Rattle.std.specs.Str.{bytes_eq};
@@ -35,10 +35,31 @@ impl NameIndex {
             heads: vec![in alloc; 0; buckets]?,
             next: Vec::with_capacity(alloc, buckets)?,
         };
-        for entry in entries {
-            index.link_last(entry.name.as_str());
-        }
+        index.link_all(entries);
         Ok(index)
+    }
+
+    /// Links the names of the entries in an index that has none.
+    fn link_all<V>(&mut self, entries: &Vec<Entry<V>>)
+        requires none { IsIndex [] self.old }
+        requires room { vec_len entries.now ≤ vec_capacity self.old.next }
+        ensures is { IsIndex (names_of entries.now.items) self.new }
+        ensures capacity { vec_capacity self.new.next ≡ vec_capacity self.old.next }
+    {
+        for entry in entries {
+            self.link_last(entry.name.as_str());
+        }
+    }
+
+    /// Links the names of the entries in place of those that it had, and keeps its buckets.
+    pub(crate) fn link_again<V>(&mut self, entries: &Vec<Entry<V>>)
+        requires buckets { 0 < vec_len self.old.heads }
+        requires room { vec_len entries.now ≤ vec_capacity self.old.next }
+        ensures { IsIndex (names_of entries.now.items) self.new }
+    {
+        self.heads.fill(0);
+        self.next.clear();
+        self.link_all(entries);
     }
 
     /// Makes room for one more name. There are as many buckets as names or more, so that few names share one.

@@ -28,6 +28,7 @@ use std::mem;
 mod index;
 mod iter;
 mod lookup;
+mod retain;
 mod traits;
 
 /// A name beside its value.

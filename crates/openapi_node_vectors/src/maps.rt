@@ -292,3 +292,49 @@ fn finds_names_after_others_are_gone(rt: HostRuntime) -> Result<(), Fail> {
     }
     Ok(())
 }
+
+#[test]
+fn keeps_what_passes_in_order(rt: HostRuntime) -> Result<(), Fail> {
+    let alloc = rt.alloc();
+    let mut map = map_of(alloc, &[("b", 1), ("a", 2), ("c", 3), ("d", 4)])?;
+    map.retain(|_name, _value| true);
+    assert_eq!(rt; told(alloc, &map)?.as_str(), "b=1 a=2 c=3 d=4 ");
+    map.retain(|name, value| {
+        *value = value.wrapping_add(10);
+        name != "c"
+    });
+    assert_eq!(rt; told(alloc, &map)?.as_str(), "b=11 a=12 d=14 ");
+    map.retain(|_name, value| *value > 11);
+    assert_eq!(rt; told(alloc, &map)?.as_str(), "a=12 d=14 ");
+    assert_eq!(rt; map.insert(String::from_str(alloc, "b")?, 5)?, None);
+    assert_eq!(rt; told(alloc, &map)?.as_str(), "a=12 d=14 b=5 ");
+    map.retain(|_name, _value| false);
+    assert!(rt; map.is_empty());
+    map.retain(|_name, _value| true);
+    assert!(rt; map.is_empty());
+    Ok(())
+}
+
+#[test]
+fn finds_names_after_others_did_not_pass(rt: HostRuntime) -> Result<(), Fail> {
+    let alloc = rt.alloc();
+    // the even numbers stay, so a map that had an index falls below 17 entries, or keeps more
+    for count in [16, 17, 18, 30, 40, 300] {
+        let mut numbers = numbered(alloc, count)?;
+        numbers.retain(|_name, number| *number % 2 == 0);
+        assert_eq!(rt; numbers.len(), count.div_ceil(2), "of {count}");
+        numbers.insert(String::from_str(alloc, "1")?, 1)?;
+        for number in 2..count {
+            let name = format!(in alloc; "{number}")?;
+            let expected = if number % 2 == 0 { Some(number) } else { None };
+            assert_eq!(rt;
+                numbers.get(name.as_str()).copied(),
+                expected,
+                "{name} of {count}"
+            );
+        }
+        assert_eq!(rt; numbers.first(), Some(("0", &0)));
+        assert_eq!(rt; numbers.last(), Some(("1", &1)));
+    }
+    Ok(())
+}

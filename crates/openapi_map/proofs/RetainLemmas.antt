@@ -7,7 +7,7 @@ use Rattle.std.specs.Map.{keys_of}
 use Rattle.std.specs.Str.{bytes_eq}
 use Rattle.std.specs.Map.Calls.{RetainsPairs}
 use Rattle.openapi_map.specs.Entries.{Entries, entries_of, HasDistinctNames}
-use Rattle.openapi_map.specs.declared.Entry.{Entry}
+use Rattle.openapi_map.specs.declared.Member.{Member}
 use Rattle.openapi_map.proofs.EntryLemmas.{entries_of-push}
 
 -- ---- an element that is moved to the front
@@ -46,17 +46,17 @@ module _ {X : Type 0} where
 
 module _ {F V : Type 0} (T : F → List ℕ → V → Bool → V → F → Type 0) where
   -- the first i entries were asked about, and the first n are those that stay
-  pub record Sifted (f₀ : F) (es₀ : List (Entry V)) (f : F) (es : List (Entry V)) (n i : ℕ) : Type 0 where
+  pub record Sifted (f₀ : F) (es₀ : List (Member V)) (f : F) (es : List (Member V)) (n i : ℕ) : Type 0 where
     pub rest : (left : Entries V) → RetainsPairs T f (entries_of (drop i es)) left
         → RetainsPairs T f₀ (entries_of es₀) (entries_of (take n es) ++ left)
 
-  pub sifted-none : (f : F) (es : List (Entry V)) → Sifted f es f es 0 0
+  pub sifted-none : (f : F) (es : List (Member V)) → Sifted f es f es 0 0
   sifted-none f es = record { rest = λ left r. r }
 
-  module _ {f₀ : F} {es₀ : List (Entry V)} {f : F} {es : List (Entry V)} {n i : ℕ} (s : Sifted f₀ es₀ f es n i)
-      (le : n ≤ i) (within : i < length es) (e : Entry V) (at : e ≡ get_or es i e) (w : V) (f' : F) where
+  module _ {f₀ : F} {es₀ : List (Member V)} {f : F} {es : List (Member V)} {n i : ℕ} (s : Sifted f₀ es₀ f es n i)
+      (le : n ≤ i) (within : i < length es) (e : Member V) (at : e ≡ get_or es i e) (w : V) (f' : F) where
     -- the next entry, with what was left at its value
-    abbrev written : Entry V
+    abbrev written : Member V
     written = record { name = e.name; value = w }
 
     -- what is found of the entries behind it
@@ -99,7 +99,7 @@ module _ {F V : Type 0} (T : F → List ℕ → V → Bool → V → F → Type 
         }
 
   -- and so on to the last
-  pub sifted-all : {f₀ : F} {es₀ : List (Entry V)} {f : F} {es : List (Entry V)} {n i : ℕ} → Sifted f₀ es₀ f es n i
+  pub sifted-all : {f₀ : F} {es₀ : List (Member V)} {f : F} {es : List (Member V)} {n i : ℕ} → Sifted f₀ es₀ f es n i
       → length es ≤ i → RetainsPairs T f₀ (entries_of es₀) (entries_of (take n es))
   sifted-all {f₀ = f₀} {es₀ = es₀} {f = f} {es = es} {n = n} {i = i} s done =
       let none = subst (λ xs. RetainsPairs T f (entries_of xs) []) (sym (drop_all i es done)) refl in

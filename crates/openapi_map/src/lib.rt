@@ -18,6 +18,7 @@ ghost use Rattle.openapi_map.specs.Index.{IsIndexAt};
 ghost use Rattle.openapi_map.specs.Entries.{entries_of, names_of, get, insert_entry, remove_entry, HasDistinctNames};
 ghost use Rattle.openapi_map.specs.Lends.{lends_name, lends_place};
 
+pub use crate::entry::{Entry, OccupiedEntry, VacantEntry};
 use crate::index::NameIndex;
 pub use crate::iter::{IntoIter, Iter, Keys, Values};
 use crate::lookup::{add_name, drop_name, kept_entries, place_in};
@@ -25,6 +26,7 @@ use std::alloc::{AllocError, Global};
 use std::marker::Model;
 use std::mem;
 
+mod entry;
 mod index;
 mod iter;
 mod lookup;
@@ -33,7 +35,7 @@ mod traits;
 
 /// A name beside its value.
 #[derive(Clone, Drop)]
-struct Entry<V> {
+struct Member<V> {
     name: String,
     value: V,
 }
@@ -41,7 +43,7 @@ struct Entry<V> {
 /// What a map keeps once it has an entry.
 #[derive(Clone, Drop)]
 struct Held<V> {
-    entries: Vec<Entry<V>>,
+    entries: Vec<Member<V>>,
     // The places of the names by their hashes, where the entries are many. It is boxed to keep a short map small.
     index: Option<Box<NameIndex>>,
 }
@@ -96,7 +98,7 @@ impl<V> Held<V> {
     {
         self.entries.reserve(1)?;
         add_name(&self.entries, &mut self.index, name.as_str())?;
-        self.entries.push_reserved(Entry { name, value });
+        self.entries.push_reserved(Member { name, value });
         Ok(())
     }
 
@@ -109,7 +111,7 @@ impl<V> Held<V> {
         ensures index { IsIndexAt (names_of self.new.entries.items) self.new.index }
     {
         drop_name(&mut self.index, place);
-        let Entry { name: gone, value } = self.entries.remove(place);
+        let Member { name: gone, value } = self.entries.remove(place);
         drop(gone);
         value
     }

@@ -7,10 +7,10 @@ ghost use Rattle.openapi_map.specs.Held.{kept, IsHeldIndexed};
 ghost use Rattle.openapi_map.specs.Index.{IsIndexAt};
 
 use crate::index::NameIndex;
-use crate::{Entry, Held, OrderedMap};
+use crate::{Held, Member, OrderedMap};
 
 /// Keeps the entries for which `keep` answers true, in their order.
-fn retain_entries<V, F: FnMut(&str, &mut V) -> bool>(entries: &mut Vec<Entry<V>>, mut keep: F)
+fn retain_entries<V, F: FnMut(&str, &mut V) -> bool>(entries: &mut Vec<Member<V>>, mut keep: F)
 where
     V: Drop,
     requires { F.IsAlwaysCallable keep }
@@ -33,7 +33,7 @@ where
 }
 
 /// Makes the index lead to the names of the entries, of which there are no more than it had.
-fn index_again<V>(index: &mut Option<Box<NameIndex>>, entries: &Vec<Entry<V>>)
+fn index_again<V>(index: &mut Option<Box<NameIndex>>, entries: &Vec<Member<V>>)
     requires { IfSome index.old (λ b. (0 < vec_len b.value.heads) × (vec_len entries.now ≤ vec_capacity b.value.next)) }
     ensures { IsIndexAt (names_of entries.now.items) index.new }
 {

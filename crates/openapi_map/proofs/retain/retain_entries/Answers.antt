@@ -1,7 +1,7 @@
 use Rattle.std.proofs.Common.{◌+◌, List, ◌<◌, ◌≤◌, length, string_bytes, refl, sym, ap, subst, ◌∙◌, arith, of_calls}
 use Rattle.std.specs.Map.Calls.{RetainsPairs, CalledAtPair}
 use Rattle.openapi_map.specs.Entries.{entries_of}
-use Rattle.openapi_map.specs.declared.Entry.{Entry}
+use Rattle.openapi_map.specs.declared.Member.{Member}
 use Rattle.openapi_map.proofs.RetainLemmas.{Sifted, sifted-passed, sifted-kept, sifted-all}
 use Rattle.openapi_map.proofs.retain.retain_entries.Goals.{then-keep, else-keep}
 use Rattle.openapi_map.proofs.retain.retain_entries.Goals as goal
@@ -24,7 +24,7 @@ loop-place-preserved g c =
       called = c.keep.ensures;
       leaves = refl;
     } in
-    let Next : List (Entry _) → _ → Type 0 = λ es n. Sifted T c.args.keep c.args.entries.now.items keep es n (at.place + 1) in
+    let Next : List (Member _) → _ → Type 0 = λ es n. Sifted T c.args.keep c.args.entries.now.items keep es n (at.place + 1) in
     elim c.if-keep.branch [
       | then-keep one ↦
           let told = subst (λ b. T at.keep (string_bytes d.name) d.value b w keep) one.if-keep.true asked in

@@ -34,6 +34,10 @@ module _ {V : Type 0} where
   abbrev pub insert_entry : Entries V → List ℕ → V → Entries V
   insert_entry = index_map.insert_entry bytes_eq
 
+  -- the entries after an insert of each of the second list in turn
+  abbrev pub insert_all : Entries V → Entries V → Entries V
+  insert_all = index_map.insert_all bytes_eq
+
   -- the entries without that of a name: the others keep their order, and all stay where the name is absent
   abbrev pub remove_entry : List ℕ → Entries V → Entries V
   remove_entry name es = map.remove_entry (bytes_eq name) es

@@ -26,6 +26,15 @@ fn map_of(alloc: Global, entries: &[(&str, u8)]) -> Result<OrderedMap<u8>, Alloc
     Ok(map)
 }
 
+/// Owned names with the values, in the order in which they stand.
+fn pairs_of(alloc: Global, entries: &[(&str, u8)]) -> Result<Vec<(String, u8)>, AllocError> {
+    let mut pairs = Vec::with_capacity(alloc, entries.len())?;
+    for (name, value) in entries {
+        pairs.push((String::from_str(alloc, *name)?, *value))?;
+    }
+    Ok(pairs)
+}
+
 /// The same entries in a new map. It shows how a caller proves a loop over a map.
 fn copied(alloc: Global, map: &OrderedMap<u8>) -> Result<OrderedMap<u8>, AllocError>
     ensures { IfOk result (λ copy. copy ≡ map.now) }
@@ -432,5 +441,24 @@ fn names_its_entries(rt: HostRuntime) -> Result<(), Fail> {
         let name = format!(in alloc; "{count}")?;
         assert_eq!(rt; numbers.last(), Some((name.as_str(), &2000)));
     }
+    Ok(())
+}
+
+#[test]
+fn collects_pairs(rt: HostRuntime) -> Result<(), Fail> {
+    let alloc = rt.alloc();
+    let pairs = pairs_of(alloc, &[("b", 1), ("a", 2), ("c", 3), ("a", 4)])?;
+    let mut map = pairs.into_iter().collect::<OrderedMap<u8>>(alloc)?;
+    assert_eq!(rt; told(alloc, &map)?.as_str(), "b=1 a=4 c=3 ");
+    map.extend(pairs_of(alloc, &[("d", 5), ("b", 6), ("", 7), ("d", 8)])?)?;
+    assert_eq!(rt; told(alloc, &map)?.as_str(), "b=6 a=4 c=3 d=8 =7 ");
+    map.extend(pairs_of(alloc, &[])?)?;
+    assert_eq!(rt; map.len(), 5);
+    let copy = map.clone()?.into_iter().collect::<OrderedMap<u8>>(alloc)?;
+    assert_eq!(rt; told(alloc, &copy)?.as_str(), "b=6 a=4 c=3 d=8 =7 ");
+    let none = pairs_of(alloc, &[])?
+        .into_iter()
+        .collect::<OrderedMap<u8>>(alloc)?;
+    assert!(rt; none.is_empty());
     Ok(())
 }

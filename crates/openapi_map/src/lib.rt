@@ -16,7 +16,7 @@ ghost use Rattle.std.specs.List.{remove};
 ghost use Rattle.openapi_map.specs.Held.{kept, IsHeldIndexed};
 ghost use Rattle.openapi_map.specs.Index.{IsIndexAt};
 ghost use Rattle.openapi_map.specs.Entries.{entries_of, names_of, get, insert_entry, remove_entry, HasDistinctNames};
-ghost use Rattle.openapi_map.specs.Lends.{lends_name, lends_place};
+ghost use Rattle.openapi_map.specs.Lends.{lends_index, lends_name, lends_place};
 
 pub use crate::entry::{Entry, OccupiedEntry, VacantEntry};
 use crate::index::NameIndex;
@@ -292,6 +292,18 @@ impl<V> OrderedMap<V> {
         match place_in(&self.held, name) {
             Some(place) => Some(self.value_at(place)),
             None => None,
+        }
+    }
+
+    /// The value at a place, counted from 0, which can be written, or `None` past the last. `get_index` has its name.
+    pub fn get_index_mut(&mut self, index: usize) -> Option<&mut V>
+        ensures* writes_back { sem 𝓛 (lends_index V.row self.entry index result) }
+        ensures value { option_copied_mut result ≡ slice_get (values_of self.old) index }
+    {
+        if index < self.len() {
+            Some(self.value_at(index))
+        } else {
+            None
         }
     }
 

@@ -462,3 +462,17 @@ fn collects_pairs(rt: HostRuntime) -> Result<(), Fail> {
     assert!(rt; none.is_empty());
     Ok(())
 }
+
+#[test]
+fn writes_by_place(rt: HostRuntime) -> Result<(), Fail> {
+    let alloc = rt.alloc();
+    let mut map = sample(alloc)?;
+    for place in 0..map.len() {
+        if let Some(value) = map.get_index_mut(place) {
+            *value = value.wrapping_mul(10);
+        }
+    }
+    assert!(rt; map.get_index_mut(3).is_none());
+    assert_eq!(rt; told(alloc, &map)?.as_str(), "b=10 a=40 c=30 ");
+    Ok(())
+}

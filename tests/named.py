@@ -32,10 +32,10 @@ ITEM = re.compile(
 def sources():
     """Yields each source of the repository: its crate, its name, and its text."""
     for crate in sorted(os.listdir(f"{TOP}/crates")):
-        folder = f"{TOP}/crates/{crate}/src"
-        for name in sorted(os.listdir(folder)):
-            with open(f"{folder}/{name}") as it:
-                yield crate, name, it.read()
+        for folder, _, names in sorted(os.walk(f"{TOP}/crates/{crate}/src")):
+            for name in sorted(names):
+                with open(f"{folder}/{name}") as it:
+                    yield crate, name, it.read()
 
 
 def is_empty(text, indent, start):

@@ -5,7 +5,7 @@ use Rattle.std.proofs.lemmas.List.Elements.{same_from_all_zip}
 use Rattle.std.specs.List.{AllZip}
 use Rattle.std.specs.declared.alloc.Global.{Global}
 use Rattle.std.specs.declared.boxed.Box.{Box}
-use Rattle.openapi_map.specs.declared.Entry.{Entry}
+use Rattle.openapi_map.specs.declared.Member.{Member}
 use Rattle.std.proofs.Common.{subst}
 use Rattle.std.specs.List.{IsDistinct}
 use Rattle.std.specs.Str.{bytes_eq}
@@ -17,17 +17,17 @@ use Rattle.openapi_map.specs.declared.index.NameIndex.{NameIndex}
 
 module _ {V : Type 0} (C : V → V → Type 0) where
   -- the second has the first's name, by its bytes, and a clone of its value
-  abbrev pub IsEntryClone : Entry V → Entry V → Type 0
+  abbrev pub IsEntryClone : Member V → Member V → Type 0
   IsEntryClone e f = (string_bytes f.name ≡ string_bytes e.name) × C e.value f.value
 
-  pub entries_of-clone : (es fs : List (Entry V)) → AllZip IsEntryClone es fs
+  pub entries_of-clone : (es fs : List (Member V)) → AllZip IsEntryClone es fs
       → IsCloneOf C (entries_of es) (entries_of fs)
   entries_of-clone [] [] h = tt
   entries_of-clone [] (f ∷ fs) h = absurd h
   entries_of-clone (e ∷ es) [] h = absurd h
   entries_of-clone (e ∷ es) (f ∷ fs) h = (h.0, entries_of-clone es fs h.1)
 
-  pub names_of-clone : (es fs : List (Entry V)) → AllZip IsEntryClone es fs → names_of fs ≡ names_of es
+  pub names_of-clone : (es fs : List (Member V)) → AllZip IsEntryClone es fs → names_of fs ≡ names_of es
   names_of-clone [] [] h = refl
   names_of-clone [] (f ∷ fs) h = absurd h
   names_of-clone (e ∷ es) [] h = absurd h

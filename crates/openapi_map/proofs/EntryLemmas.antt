@@ -13,67 +13,67 @@ use Rattle.indexmap.proofs.MapLemmas.{Found-position, insert_entry-first, insert
 use Rattle.indexmap.proofs.MapLemmas.{absent_from_lookup, absent_before, some_index}
 use Rattle.indexmap.specs.IndexMap.{set_value_at}
 use Rattle.openapi_map.specs.Entries.{Entries, entries_of, names_of, get, insert_entry, HasDistinctNames}
-use Rattle.openapi_map.specs.declared.Entry.{Entry}
+use Rattle.openapi_map.specs.declared.Member.{Member}
 
 -- ---- what the code keeps
 module _ {V : Type 0} where
-  pub length-entries_of : (es : List (Entry V)) → length (entries_of es) ≡ length es
+  pub length-entries_of : (es : List (Member V)) → length (entries_of es) ≡ length es
   length-entries_of [] = refl
   length-entries_of (e ∷ es) = ap suc (length-entries_of es)
 
-  pub length-names_of : (es : List (Entry V)) → length (names_of es) ≡ length es
+  pub length-names_of : (es : List (Member V)) → length (names_of es) ≡ length es
   length-names_of [] = refl
   length-names_of (e ∷ es) = ap suc (length-names_of es)
 
-  pub within-entries : (es : List (Entry V)) (m : Entries V) (i : ℕ) → entries_of es ≡ m → i < length m
+  pub within-entries : (es : List (Member V)) (m : Entries V) (i : ℕ) → entries_of es ≡ m → i < length m
       → i < length es
   within-entries es m i e h = omega (arith, ap length e, length-entries_of es)
 
-  pub entry-entries_of : (es : List (Entry V)) (i : ℕ) (d : Entry V) → i < length es
+  pub entry-entries_of : (es : List (Member V)) (i : ℕ) (d : Member V) → i < length es
       → slice_get (entries_of es) i ≡ Some (string_bytes (get_or es i d).name, (get_or es i d).value)
   entry-entries_of [] i d h = absurd (omega arith)
   entry-entries_of (e ∷ es) zero d h = refl
   entry-entries_of (e ∷ es) (suc i) d h = entry-entries_of es i d (omega arith)
 
-  pub name-get_or : (es : List (Entry V)) (i : ℕ) (d : Entry V) → i < length es
+  pub name-get_or : (es : List (Member V)) (i : ℕ) (d : Member V) → i < length es
       → get_or (names_of es) i [] ≡ string_bytes (get_or es i d).name
   name-get_or [] i d h = absurd (omega arith)
   name-get_or (e ∷ es) zero d h = refl
   name-get_or (e ∷ es) (suc i) d h = name-get_or es i d (omega arith)
 
   -- the names as far as the next
-  pub names-next : (es : List (Entry V)) (i : ℕ) (d : Entry V) → i < length es
+  pub names-next : (es : List (Member V)) (i : ℕ) (d : Member V) → i < length es
       → take i (names_of es) ++ string_bytes (get_or es i d).name ∷ [] ≡ take (i + 1) (names_of es)
   names-next es i d h =
       let names = names_of es in
       ap (λ x. take i names ++ x ∷ []) (sym (name-get_or es i d h))
       ∙ sym (take_more names i [] (omega (arith, h, length-names_of es)))
 
-  pub value-entries_of : (es : List (Entry V)) (i : ℕ) (d : Entry V) → i < length es
+  pub value-entries_of : (es : List (Member V)) (i : ℕ) (d : Member V) → i < length es
       → slice_get (values_of (entries_of es)) i ≡ Some (get_or es i d).value
   value-entries_of [] i d h = absurd (omega arith)
   value-entries_of (e ∷ es) zero d h = refl
   value-entries_of (e ∷ es) (suc i) d h = value-entries_of es i d (omega arith)
 
-  pub entries_of-push : (es : List (Entry V)) (e : Entry V)
+  pub entries_of-push : (es : List (Member V)) (e : Member V)
       → entries_of (es ++ e ∷ []) ≡ entries_of es ++ (string_bytes e.name, e.value) ∷ []
   entries_of-push [] e = refl
   entries_of-push (x ∷ es) e = ap (λ r. (string_bytes x.name, x.value) ∷ r) (entries_of-push es e)
 
-  pub names_of-push : (es : List (Entry V)) (e : Entry V)
+  pub names_of-push : (es : List (Member V)) (e : Member V)
       → names_of (es ++ e ∷ []) ≡ names_of es ++ string_bytes e.name ∷ []
   names_of-push es e =
       ap keys_of (entries_of-push es e)
       ∙ map-append (λ x. x.0) (entries_of es) ((string_bytes e.name, e.value) ∷ [])
 
   -- a value that is put at a place changes no name
-  pub entries_of-set : (es : List (Entry V)) (i : ℕ) (d : Entry V) (v : V)
+  pub entries_of-set : (es : List (Member V)) (i : ℕ) (d : Member V) (v : V)
       → entries_of (set es i (record { name = (get_or es i d).name; value = v })) ≡ set_value_at (entries_of es) i v
   entries_of-set [] i d v = refl
   entries_of-set (e ∷ es) zero d v = refl
   entries_of-set (e ∷ es) (suc i) d v = ap (λ r. (string_bytes e.name, e.value) ∷ r) (entries_of-set es i d v)
 
-  pub names_of-set : (es : List (Entry V)) (i : ℕ) (d : Entry V) (v : V)
+  pub names_of-set : (es : List (Member V)) (i : ℕ) (d : Member V) (v : V)
       → names_of (set es i (record { name = (get_or es i d).name; value = v })) ≡ names_of es
   names_of-set [] i d v = refl
   names_of-set (e ∷ es) zero d v = refl
@@ -93,19 +93,24 @@ position-map {A} f t xs = λ i. cond (nat_lt (places xs i) (lengths xs i)) (Some
     lengths [] = refl
     lengths (y ∷ ys) = ap suc (lengths ys)
 
-pub names_of-map : {V : Type 0} (es : List (Entry V)) → map (λ e. string_bytes e.name) es ≡ names_of es
+pub names_of-map : {V : Type 0} (es : List (Member V)) → map (λ e. string_bytes e.name) es ≡ names_of es
 names_of-map [] = refl
 names_of-map (e ∷ es) = ap (λ r. string_bytes e.name ∷ r) (names_of-map es)
 
+-- what the look for a name answered, at the name's bytes and the map's entries
+pub at_bytes : {V : Type 0} (es : List (Member V)) (m : Entries V) → entries_of es ≡ m → (r : Option ℕ)
+    (n name : List ℕ) → r ≡ position (bytes_eq n) (names_of es) → n ≡ name → r ≡ position (bytes_eq name) (keys_of m)
+at_bytes es m shows r n name found is = found ∙ (λ j. position (bytes_eq (is j)) (keys_of (shows j)))
+
 module _ {V : Type 0} (name : List ℕ) where
   -- a name with a place has the value there
-  pub get-found : (es : List (Entry V)) (i : ℕ) (d : Entry V) → Some i ≡ position (bytes_eq name) (names_of es)
+  pub get-found : (es : List (Member V)) (i : ℕ) (d : Member V) → Some i ≡ position (bytes_eq name) (names_of es)
       → Some (get_or es i d).value ≡ get name (entries_of es)
   get-found es i d p =
       let found = Found-position (bytes_eq name) (entries_of es) i (sym p) in
       sym (found.value ∙ value-entries_of es i d (omega (arith, found.within, length-entries_of es)))
 
-  pub found-within : (es : List (Entry V)) (i : ℕ) → Some i ≡ position (bytes_eq name) (names_of es)
+  pub found-within : (es : List (Member V)) (i : ℕ) → Some i ≡ position (bytes_eq name) (names_of es)
       → i < length es
   found-within es i p =
       omega (arith, (Found-position (bytes_eq name) (entries_of es) i (sym p)).within, length-entries_of es)

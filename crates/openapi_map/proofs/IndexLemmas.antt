@@ -21,7 +21,7 @@ use Rattle.std.specs.declared.boxed.Box.{Box}
 use mathlib.Core.Logic.{inl, inr}
 use Rattle.openapi_map.specs.Entries.{Entries, entries_of, names_of, get, HasDistinctNames}
 use Rattle.openapi_map.specs.Index.{bucket, link_at, moved_link, IsIndex, IsIndexAt}
-use Rattle.openapi_map.specs.declared.Entry.{Entry}
+use Rattle.openapi_map.specs.declared.Member.{Member}
 use Rattle.openapi_map.specs.declared.index.NameIndex.{NameIndex}
 use Rattle.openapi_map.proofs.EntryLemmas.{none-among}
 use Rattle.openapi_map.proofs.LinkLemmas.{link_at-same, link_at-push, link_at-moved, link_at-below, Leads, link_at-Leads}
@@ -33,7 +33,7 @@ unfolding IsDistinct
 distinct-nil = tt
 
 -- a name that the map lacks goes with those of the entries es, of which rs is another writing
-pub distinct-names : {V : Type 0} (name : List ℕ) (es rs : List (Entry V)) (m : Entries V) → rs ≡ es
+pub distinct-names : {V : Type 0} (name : List ℕ) (es rs : List (Member V)) (m : Entries V) → rs ≡ es
     → entries_of es ≡ m → HasDistinctNames (entries_of es) → get name m ≡ None
     → IsDistinct bytes_eq (names_of rs ++ name ∷ [])
 distinct-names name es rs m same shows distinct absent =

@@ -5,4 +5,6 @@ mod HeldLemmas
 mod IndexLemmas
 mod IterLemmas
 pub mod LinkLemmas
+mod PlaceLemmas
 mod RemoveLemmas
+mod RetainLemmas

@@ -8,7 +8,7 @@ use Rattle.std.specs.Str.{bytes_eq}
 use Rattle.indexmap.proofs.CallerLemmas.{keys-shift_remove_entry}
 use Rattle.indexmap.proofs.MapLemmas.{Found-position, remove_entry-first}
 use Rattle.openapi_map.specs.Entries.{Entries, entries_of, names_of, get, remove_entry}
-use Rattle.openapi_map.specs.declared.Entry.{Entry}
+use Rattle.openapi_map.specs.declared.Member.{Member}
 
 -- what all names are like, those that are left are
 left : (P : List ℕ → Type 0) (t : List ℕ → Bool) (ns : List (List ℕ)) → AllByRecursion P ns
@@ -33,20 +33,20 @@ distinct-left t (n ∷ ns) h = by (t n) (distinct-left t ns h.1)
     by false rest = (left (λ x. bytes_eq n x ≡ false) t ns h.0, rest)
 
 module _ {V : Type 0} where
-  entries_of-remove : (es : List (Entry V)) (i : ℕ) → entries_of (remove es i) ≡ remove (entries_of es) i
+  entries_of-remove : (es : List (Member V)) (i : ℕ) → entries_of (remove es i) ≡ remove (entries_of es) i
   entries_of-remove [] zero = refl
   entries_of-remove [] (suc i) = refl
   entries_of-remove (e ∷ es) zero = refl
   entries_of-remove (e ∷ es) (suc i) = ap (λ r. (string_bytes e.name, e.value) ∷ r) (entries_of-remove es i)
 
   -- the name at a place goes with its entry
-  pub names_of-remove : (es : List (Entry V)) (i : ℕ) → names_of (remove es i) ≡ remove (names_of es) i
+  pub names_of-remove : (es : List (Member V)) (i : ℕ) → names_of (remove es i) ≡ remove (names_of es) i
   names_of-remove [] zero = refl
   names_of-remove [] (suc i) = refl
   names_of-remove (e ∷ es) zero = refl
   names_of-remove (e ∷ es) (suc i) = ap (λ r. string_bytes e.name ∷ r) (names_of-remove es i)
 
-  module _ (name : List ℕ) (es : List (Entry V)) (i : ℕ) (found : Some i ≡ position (bytes_eq name) (names_of es)) where
+  module _ (name : List ℕ) (es : List (Member V)) (i : ℕ) (found : Some i ≡ position (bytes_eq name) (names_of es)) where
     -- the entry at the place of a name goes
     pub entries_of-gone : entries_of (remove es i) ≡ remove_entry name (entries_of es)
     entries_of-gone =

@@ -6,7 +6,7 @@ use Rattle.std.specs.Map as map
 use Rattle.std.specs.Str.{bytes_eq}
 use Rattle.std.specs.declared.alloc.Global.{Global}
 use Rattle.indexmap.specs.IndexMap as index_map
-use Rattle.openapi_map.specs.declared.Entry.{Entry}
+use Rattle.openapi_map.specs.declared.Member.{Member}
 
 -- entries in their order, each a name and a value
 abbrev pub Entries : Type 0 → Type 0
@@ -14,12 +14,12 @@ Entries V = List (List ℕ × V)
 
 module _ {V : Type 0} where
   -- what the code keeps, with each name by its bytes
-  abbrev pub entries_of : List (Entry V) → Entries V
+  abbrev pub entries_of : List (Member V) → Entries V
   entries_of [] = []
   entries_of (e ∷ es) = (string_bytes e.name, e.value) ∷ entries_of es
 
   -- the names of what the code keeps
-  abbrev pub names_of : List (Entry V) → List (List ℕ)
+  abbrev pub names_of : List (Member V) → List (List ℕ)
   names_of es = keys_of (entries_of es)
 
   -- an entry whose name is owned, with the name by its bytes
@@ -33,6 +33,10 @@ module _ {V : Type 0} where
   -- the entries after an insert: a name that is there keeps its place and takes the value, and a new name goes last
   abbrev pub insert_entry : Entries V → List ℕ → V → Entries V
   insert_entry = index_map.insert_entry bytes_eq
+
+  -- the entries after an insert of each of the second list in turn
+  abbrev pub insert_all : Entries V → Entries V → Entries V
+  insert_all = index_map.insert_all bytes_eq
 
   -- the entries without that of a name: the others keep their order, and all stay where the name is absent
   abbrev pub remove_entry : List ℕ → Entries V → Entries V

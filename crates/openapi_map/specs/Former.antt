@@ -20,7 +20,7 @@ use denote.Hole.Carrier.{listed}
 use denote.Model.Placed.{held}
 use denote.Param.Nested.{deepest}
 use denote.Param.Weighed.{Weighed, most, none_max, List-puts, w_pair, w_const}
-use Rattle.openapi_map.specs.declared.Entry.{Entry}
+use Rattle.openapi_map.specs.declared.Member.{Member}
 use Rattle.openapi_map.specs.Entries.{Entries, entries_of, names_of}
 use Rattle.openapi_map.specs.Index.{IsIndex, IsIndexAt}
 use Rattle.openapi_map.specs.Held.{kept, IsHeldIndexed}
@@ -38,10 +38,10 @@ on_value h p = (p.0, h p.1)
 -- what the code keeps for an entry
 abbrev pub stored : Former {0}
 stored =
-    via (pair (const (String Global)) this) Entry
+    via (pair (const (String Global)) this) Member
     (λ X e. (e.name, e.value)) (λ X v. record { name = v.0; value = v.1 }) (λ X e. refl) (λ X v. refl)
 
-abbrev pub on_stored : {X Y : Type 0} → (X → Y) → Entry X → Entry Y
+abbrev pub on_stored : {X Y : Type 0} → (X → Y) → Member X → Member Y
 on_stored h e = record { name = e.name; value = h e.value }
 
 -- names weigh nothing
@@ -68,17 +68,17 @@ entries_recoded R R' h e es =
     let code' = (coded× (coded_list coded_ℕ) R'.coded).code in
     sym (code_map code code' (on_value h) (λ x i. gcons ((coded_list coded_ℕ).code x.0) (sym (e x.1) i)) es)
 
-pub entries_of-map : {X Y : Type 0} (h : X → Y) (es : List (Entry X))
+pub entries_of-map : {X Y : Type 0} (h : X → Y) (es : List (Member X))
     → entries_of (map (on_stored h) es) ≡ map (on_value h) (entries_of es)
 entries_of-map h [] = refl
 entries_of-map h (e ∷ es) = ap (λ l. (string_bytes e.name, h e.value) ∷ l) (entries_of-map h es)
 
-pub names_of-map : {X Y : Type 0} (h : X → Y) (es : List (Entry X))
+pub names_of-map : {X Y : Type 0} (h : X → Y) (es : List (Member X))
     → names_of (map (on_stored h) es) ≡ names_of es
 names_of-map h [] = refl
 names_of-map h (e ∷ es) = ap (λ l. string_bytes e.name ∷ l) (names_of-map h es)
 
-pub entries_of-held : (X : Type 0) (es : List (Entry X))
+pub entries_of-held : (X : Type 0) (es : List (Member X))
     → held (list (entry this)) X (entries_of es) ≡ held (list stored) X es
 entries_of-held X [] = refl
 entries_of-held X (e ∷ es) = λ i. (one_more (entries_of-held X es i).0, (e.value, (entries_of-held X es i).1))

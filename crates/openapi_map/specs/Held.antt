@@ -2,14 +2,14 @@
 use Rattle.std.specs.Prelude.{List, [], Option, Some, None}
 use Rattle.std.specs.declared.alloc.Global.{Global}
 use Rattle.std.specs.declared.boxed.Box.{Box}
-use Rattle.openapi_map.specs.declared.Entry.{Entry}
+use Rattle.openapi_map.specs.declared.Member.{Member}
 use Rattle.openapi_map.specs.declared.Held.{Held}
 use Rattle.openapi_map.specs.Entries.{names_of}
 use Rattle.openapi_map.specs.Index.{IsIndexAt}
 
 module _ {V : Type 0} where
   -- the entries, of which there are none where nothing is kept
-  abbrev pub kept : Option (Box (Held V) Global) → List (Entry V)
+  abbrev pub kept : Option (Box (Held V) Global) → List (Member V)
   kept None = []
   kept (Some b) = b.value.entries.items
 

@@ -10,6 +10,10 @@ module _ (V : RattleType) (m : MutBor (Entries V.Denot)) where
   abbrev pub lends_place : ℕ → MutBor V.Denot → Fml
   lends_place i r = Lends (the_row V) V m r (set_value_at m.now i)
 
+  -- the same where r is a reference, and at `None` the map stays as it is
+  abbrev pub lends_index : ℕ → Option (MutBor V.Denot) → Fml
+  lends_index i r = LendsIf (the_row V) V m r (set_value_at m.now i) m.now
+
   -- the map is as after an insert of the last value written through r at the name, and at `None` it stays as it is
   abbrev pub lends_name : List ℕ → Option (MutBor V.Denot) → Fml
   lends_name name r = LendsIf (the_row V) V m r (insert_entry m.now name) m.now

@@ -1,4 +1,5 @@
 pub mod Entries
+pub mod Entry
 pub mod Equality
 pub mod Former
 pub mod Held

@@ -1,5 +1,5 @@
 //! The index of a long map: it leads from a hash to the places of the names that have it, and holds no names.
-ghost use Rattle.std.specs.Prelude.{◌≡◌, ◌+◌, ◌<◌, [], ◌++◌, ◌∷◌, ℕ, List, length, position, slice_index, EachIndex};
+ghost use Rattle.std.specs.Prelude.{◌≡◌, ◌+◌, ◌<◌, ◌≤◌, [], ◌++◌, ◌∷◌, ℕ, List, length, position, slice_index, EachIndex};
 ghost use Rattle.std.specs.Prelude.{IfOk, OnOk, OnErr};
 ghost use Rattle.std.specs.List.{IsDistinct, remove};
 ghost use Rattle.std.specs.Str.{bytes_eq};
@@ -7,7 +7,7 @@ ghost use Rattle.std.specs.Vec.{vec_len, vec_capacity};
 ghost use Rattle.openapi_map.specs.Entries.{names_of};
 ghost use Rattle.openapi_map.specs.Index.{IsIndex, HasRoom, bucket, moved_link};
 
-use crate::Entry;
+use crate::Member;
 use crate::lookup::is_name;
 use std::alloc::AllocError;
 use std::hash::{FoldHasher, Hasher};
@@ -24,7 +24,7 @@ pub(crate) struct NameIndex {
 
 impl NameIndex {
     /// An index of the names of the entries, with twice as many buckets.
-    pub(crate) fn of_names<V>(entries: &Vec<Entry<V>>) -> Result<NameIndex, AllocError>
+    pub(crate) fn of_names<V>(entries: &Vec<Member<V>>) -> Result<NameIndex, AllocError>
         requires { 0 < vec_len entries.now }
         ensures is { IfOk result (IsIndex (names_of entries.now.items)) }
         ensures room { IfOk result HasRoom }
@@ -35,14 +35,35 @@ impl NameIndex {
             heads: vec![in alloc; 0; buckets]?,
             next: Vec::with_capacity(alloc, buckets)?,
         };
-        for entry in entries {
-            index.link_last(entry.name.as_str());
-        }
+        index.link_all(entries);
         Ok(index)
     }
 
+    /// Links the names of the entries in an index that has none.
+    fn link_all<V>(&mut self, entries: &Vec<Member<V>>)
+        requires none { IsIndex [] self.old }
+        requires room { vec_len entries.now ≤ vec_capacity self.old.next }
+        ensures is { IsIndex (names_of entries.now.items) self.new }
+        ensures capacity { vec_capacity self.new.next ≡ vec_capacity self.old.next }
+    {
+        for entry in entries {
+            self.link_last(entry.name.as_str());
+        }
+    }
+
+    /// Links the names of the entries in place of those that it had, and keeps its buckets.
+    pub(crate) fn link_again<V>(&mut self, entries: &Vec<Member<V>>)
+        requires buckets { 0 < vec_len self.old.heads }
+        requires room { vec_len entries.now ≤ vec_capacity self.old.next }
+        ensures { IsIndex (names_of entries.now.items) self.new }
+    {
+        self.heads.fill(0);
+        self.next.clear();
+        self.link_all(entries);
+    }
+
     /// Makes room for one more name. There are as many buckets as names or more, so that few names share one.
-    pub(crate) fn make_room<V>(&mut self, entries: &Vec<Entry<V>>) -> Result<(), AllocError>
+    pub(crate) fn make_room<V>(&mut self, entries: &Vec<Member<V>>) -> Result<(), AllocError>
         requires { IsIndex (names_of entries.now.items) self.old }
         ensures index { IsIndex (names_of entries.now.items) self.new }
         ensures room { OnOk result (HasRoom self.new) }
@@ -69,7 +90,7 @@ impl NameIndex {
     }
 
     /// The place of a name, or `None` where no entry has it.
-    pub(crate) fn place_of<V>(&self, entries: &Vec<Entry<V>>, name: &str) -> Option<usize>
+    pub(crate) fn place_of<V>(&self, entries: &Vec<Member<V>>, name: &str) -> Option<usize>
         requires index { IsIndex (names_of entries.now.items) self.now }
         requires distinct { IsDistinct bytes_eq (names_of entries.now.items) }
         ensures { result ≡ position (bytes_eq name.now) (names_of entries.now.items) }

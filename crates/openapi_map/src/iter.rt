@@ -7,7 +7,7 @@ ghost use Rattle.openapi_map.specs.Entries.{HasDistinctNames, owned_entry};
 ghost use Rattle.openapi_map.specs.Held.{kept};
 
 use crate::lookup::kept_entries;
-use crate::{Entry, Held, OrderedMap};
+use crate::{Held, Member, OrderedMap};
 use std::alloc::Global;
 use std::marker::Model;
 use std::{slice, vec};
@@ -15,7 +15,7 @@ use std::{slice, vec};
 /// The entries of a map in their order, each as `(&str, &V)`: its name and its value.
 #[derive(Drop)]
 pub struct Iter<'a, V> {
-    entries: slice::Iter<'a, Entry<V>>,
+    entries: slice::Iter<'a, Member<V>>,
 }
 
 impl<'a, V> Model for Iter<'a, V> {
@@ -43,7 +43,7 @@ impl<'a, V> Iterator for Iter<'a, V> {
 /// The names of a map in their order, each as a `&str`.
 #[derive(Drop)]
 pub struct Keys<'a, V> {
-    entries: slice::Iter<'a, Entry<V>>,
+    entries: slice::Iter<'a, Member<V>>,
 }
 
 impl<'a, V> Model for Keys<'a, V> {
@@ -72,7 +72,7 @@ impl<'a, V> Iterator for Keys<'a, V> {
 /// The values of a map in their order, each as a `&V`.
 #[derive(Drop)]
 pub struct Values<'a, V> {
-    entries: slice::Iter<'a, Entry<V>>,
+    entries: slice::Iter<'a, Member<V>>,
 }
 
 impl<'a, V> Model for Values<'a, V> {
@@ -102,7 +102,7 @@ impl<'a, V> Iterator for Values<'a, V> {
 /// The entries of a map in their order, each as `(String, V)`: its name and its value, which the map no longer owns.
 #[derive(Drop)]
 pub struct IntoIter<V> {
-    entries: vec::IntoIter<Entry<V>>,
+    entries: vec::IntoIter<Member<V>>,
 }
 
 impl<V> Model for IntoIter<V> {
@@ -122,7 +122,7 @@ impl<V: Drop> Iterator for IntoIter<V> {
     ghost remaining = { λ it. at_most (length it) };
 
     fn next(&mut self) -> Option<(String, V)> {
-        let Entry { name, value } = self.entries.next()?;
+        let Member { name, value } = self.entries.next()?;
         Some((name, value))
     }
 }
@@ -179,7 +179,7 @@ impl<'a, V> IntoIterator for &'a OrderedMap<V> {
 }
 
 /// The entries that a map kept, without their index.
-fn taken_entries<V>(held: Option<Box<Held<V>>>, alloc: Global) -> Vec<Entry<V>>
+fn taken_entries<V>(held: Option<Box<Held<V>>>, alloc: Global) -> Vec<Member<V>>
     ensures { result.items ≡ kept held }
 {
     match held {

@@ -16,8 +16,9 @@ ghost use Rattle.std.specs.List.{remove};
 ghost use Rattle.openapi_map.specs.Held.{kept, IsHeldIndexed};
 ghost use Rattle.openapi_map.specs.Index.{IsIndexAt};
 ghost use Rattle.openapi_map.specs.Entries.{entries_of, names_of, get, insert_entry, remove_entry, HasDistinctNames};
-ghost use Rattle.openapi_map.specs.Lends.{lends_name, lends_place};
+ghost use Rattle.openapi_map.specs.Lends.{lends_index, lends_name, lends_place};
 
+pub use crate::entry::{Entry, OccupiedEntry, VacantEntry};
 use crate::index::NameIndex;
 pub use crate::iter::{IntoIter, Iter, Keys, Values};
 use crate::lookup::{add_name, drop_name, kept_entries, place_in};
@@ -25,14 +26,17 @@ use std::alloc::{AllocError, Global};
 use std::marker::Model;
 use std::mem;
 
+mod collect;
+mod entry;
 mod index;
 mod iter;
 mod lookup;
+mod retain;
 mod traits;
 
 /// A name beside its value.
 #[derive(Clone, Drop)]
-struct Entry<V> {
+struct Member<V> {
     name: String,
     value: V,
 }
@@ -40,7 +44,7 @@ struct Entry<V> {
 /// What a map keeps once it has an entry.
 #[derive(Clone, Drop)]
 struct Held<V> {
-    entries: Vec<Entry<V>>,
+    entries: Vec<Member<V>>,
     // The places of the names by their hashes, where the entries are many. It is boxed to keep a short map small.
     index: Option<Box<NameIndex>>,
 }
@@ -95,7 +99,7 @@ impl<V> Held<V> {
     {
         self.entries.reserve(1)?;
         add_name(&self.entries, &mut self.index, name.as_str())?;
-        self.entries.push_reserved(Entry { name, value });
+        self.entries.push_reserved(Member { name, value });
         Ok(())
     }
 
@@ -108,7 +112,7 @@ impl<V> Held<V> {
         ensures index { IsIndexAt (names_of self.new.entries.items) self.new.index }
     {
         drop_name(&mut self.index, place);
-        let Entry { name: gone, value } = self.entries.remove(place);
+        let Member { name: gone, value } = self.entries.remove(place);
         drop(gone);
         value
     }
@@ -288,6 +292,18 @@ impl<V> OrderedMap<V> {
         match place_in(&self.held, name) {
             Some(place) => Some(self.value_at(place)),
             None => None,
+        }
+    }
+
+    /// The value at a place, counted from 0, which can be written, or `None` past the last. `get_index` has its name.
+    pub fn get_index_mut(&mut self, index: usize) -> Option<&mut V>
+        ensures* writes_back { sem 𝓛 (lends_index V.row self.entry index result) }
+        ensures value { option_copied_mut result ≡ slice_get (values_of self.old) index }
+    {
+        if index < self.len() {
+            Some(self.value_at(index))
+        } else {
+            None
         }
     }
 

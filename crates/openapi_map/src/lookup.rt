@@ -8,14 +8,14 @@ ghost use Rattle.openapi_map.specs.Held.{kept, IsHeldIndexed};
 ghost use Rattle.openapi_map.specs.Index.{IsIndexAt};
 
 use crate::index::NameIndex;
-use crate::{Entry, Held};
+use crate::{Held, Member};
 use std::alloc::AllocError;
 
 /// Up to this many entries a map has no index.
 pub(crate) const UNINDEXED_LIMIT: usize = 16;
 
 /// The entries that a map keeps.
-pub(crate) fn kept_entries<V>(held: &Option<Box<Held<V>>>) -> &[Entry<V>]
+pub(crate) fn kept_entries<V>(held: &Option<Box<Held<V>>>) -> &[Member<V>]
     ensures { result.now ≡ kept held.now }
 {
     match held {
@@ -37,7 +37,11 @@ pub(crate) fn place_in<V>(held: &Option<Box<Held<V>>>, name: &str) -> Option<usi
 }
 
 /// The place of a name, or `None` where no entry has it.
-fn place_of<V>(entries: &Vec<Entry<V>>, index: &Option<Box<NameIndex>>, name: &str) -> Option<usize>
+fn place_of<V>(
+    entries: &Vec<Member<V>>,
+    index: &Option<Box<NameIndex>>,
+    name: &str,
+) -> Option<usize>
     requires index { IsIndexAt (names_of entries.now.items) index.now }
     requires distinct { IsDistinct bytes_eq (names_of entries.now.items) }
     ensures { result ≡ position (bytes_eq name.now) (names_of entries.now.items) }
@@ -49,7 +53,7 @@ fn place_of<V>(entries: &Vec<Entry<V>>, index: &Option<Box<NameIndex>>, name: &s
 }
 
 /// The place of a name, looked for along the entries.
-fn place_along<V>(entries: &Vec<Entry<V>>, name: &str) -> Option<usize>
+fn place_along<V>(entries: &Vec<Member<V>>, name: &str) -> Option<usize>
     ensures { result ≡ position (λ e. bytes_eq name.now (string_bytes e.name)) entries.now.items }
 {
     entries.iter().position(|entry| is_name(&entry.name, name))
@@ -64,7 +68,7 @@ pub(crate) fn is_name(name: &String, other: &str) -> bool
 
 /// Tells the index of a name that is to go last, and makes an index where the entries become too many to do without.
 pub(crate) fn add_name<V>(
-    entries: &Vec<Entry<V>>,
+    entries: &Vec<Member<V>>,
     index: &mut Option<Box<NameIndex>>,
     name: &str,
 ) -> Result<(), AllocError>

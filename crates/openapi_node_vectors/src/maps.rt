@@ -1,9 +1,9 @@
 //! Maps of few and of many names.
-ghost use Rattle.std.specs.Prelude.{◌≡◌, IfOk, is_some, unwrap_or};
+ghost use Rattle.std.specs.Prelude.{◌≡◌, IfOk, OnErr, OnOk, is_some, string_bytes, unwrap_or};
 ghost use Rattle.std.specs.Bool.{OnTrue, OnFalse};
 ghost use Rattle.openapi_map.specs.Entries.{get, insert_entry};
 
-use openapi_map::OrderedMap;
+use openapi_map::{Entry, OrderedMap};
 use std::alloc::{AllocError, Global};
 use std::process::Abort;
 use std::test::Fail;
@@ -24,6 +24,15 @@ fn map_of(alloc: Global, entries: &[(&str, u8)]) -> Result<OrderedMap<u8>, Alloc
         map.insert(String::from_str(alloc, *name)?, *value)?;
     }
     Ok(map)
+}
+
+/// Owned names with the values, in the order in which they stand.
+fn pairs_of(alloc: Global, entries: &[(&str, u8)]) -> Result<Vec<(String, u8)>, AllocError> {
+    let mut pairs = Vec::with_capacity(alloc, entries.len())?;
+    for (name, value) in entries {
+        pairs.push((String::from_str(alloc, *name)?, *value))?;
+    }
+    Ok(pairs)
 }
 
 /// The same entries in a new map. It shows how a caller proves a loop over a map.
@@ -77,6 +86,31 @@ fn overwritten(map: &mut OrderedMap<u8>, name: &str, value: u8) -> bool
             true
         }
         None => false,
+    }
+}
+
+/// Puts a value at a name that the map lacks, and gives the one that is there then. It shows what a caller proves of an
+/// entry.
+fn put_once(map: &mut OrderedMap<u8>, name: String, value: u8) -> Result<u8, AllocError>
+    ensures value { IfOk result (λ v. v ≡ unwrap_or (get (string_bytes name) map.old) value) }
+    ensures entries { IfOk result (λ v. map.new ≡ insert_entry map.old (string_bytes name) v) }
+    ensures err { OnErr result (map.new ≡ map.old) }
+{
+    let there = map.entry(name).or_insert(value)?;
+    Ok(*there)
+}
+
+/// Raises the value at a name by one, from 0 where the map lacks it, and gives the old one.
+fn raised(map: &mut OrderedMap<u8>, name: String) -> Result<Option<u8>, AllocError> {
+    match map.entry(name) {
+        Entry::Occupied(mut entry) => {
+            let next = entry.get().wrapping_add(1);
+            Ok(Some(entry.insert(next)))
+        }
+        Entry::Vacant(entry) => {
+            entry.insert(1)?;
+            Ok(None)
+        }
     }
 }
 
@@ -290,5 +324,155 @@ fn finds_names_after_others_are_gone(rt: HostRuntime) -> Result<(), Fail> {
         assert_eq!(rt; numbers.first(), Some(("3", &3)));
         assert_eq!(rt; numbers.last(), Some(("1", &1)));
     }
+    Ok(())
+}
+
+#[test]
+fn keeps_what_passes_in_order(rt: HostRuntime) -> Result<(), Fail> {
+    let alloc = rt.alloc();
+    let mut map = map_of(alloc, &[("b", 1), ("a", 2), ("c", 3), ("d", 4)])?;
+    map.retain(|_name, _value| true);
+    assert_eq!(rt; told(alloc, &map)?.as_str(), "b=1 a=2 c=3 d=4 ");
+    map.retain(|name, value| {
+        *value = value.wrapping_add(10);
+        name != "c"
+    });
+    assert_eq!(rt; told(alloc, &map)?.as_str(), "b=11 a=12 d=14 ");
+    map.retain(|_name, value| *value > 11);
+    assert_eq!(rt; told(alloc, &map)?.as_str(), "a=12 d=14 ");
+    assert_eq!(rt; map.insert(String::from_str(alloc, "b")?, 5)?, None);
+    assert_eq!(rt; told(alloc, &map)?.as_str(), "a=12 d=14 b=5 ");
+    map.retain(|_name, _value| false);
+    assert!(rt; map.is_empty());
+    map.retain(|_name, _value| true);
+    assert!(rt; map.is_empty());
+    Ok(())
+}
+
+#[test]
+fn finds_names_after_others_did_not_pass(rt: HostRuntime) -> Result<(), Fail> {
+    let alloc = rt.alloc();
+    // the even numbers stay, so a map that had an index falls below 17 entries, or keeps more
+    for count in [16, 17, 18, 30, 40, 300] {
+        let mut numbers = numbered(alloc, count)?;
+        numbers.retain(|_name, number| *number % 2 == 0);
+        assert_eq!(rt; numbers.len(), count.div_ceil(2), "of {count}");
+        numbers.insert(String::from_str(alloc, "1")?, 1)?;
+        for number in 2..count {
+            let name = format!(in alloc; "{number}")?;
+            let expected = if number % 2 == 0 { Some(number) } else { None };
+            assert_eq!(rt;
+                numbers.get(name.as_str()).copied(),
+                expected,
+                "{name} of {count}"
+            );
+        }
+        assert_eq!(rt; numbers.first(), Some(("0", &0)));
+        assert_eq!(rt; numbers.last(), Some(("1", &1)));
+    }
+    Ok(())
+}
+
+#[test]
+fn puts_values_through_entries(rt: HostRuntime) -> Result<(), Fail> {
+    let alloc = rt.alloc();
+    let mut map = sample(alloc)?;
+    assert_eq!(rt; put_once(&mut map, String::from_str(alloc, "a")?, 9)?, 4);
+    assert_eq!(rt; put_once(&mut map, String::from_str(alloc, "d")?, 9)?, 9);
+    assert_eq!(rt; told(alloc, &map)?.as_str(), "b=1 a=4 c=3 d=9 ");
+    assert_eq!(rt; raised(&mut map, String::from_str(alloc, "b")?)?, Some(1));
+    assert_eq!(rt; raised(&mut map, String::from_str(alloc, "e")?)?, None);
+    assert_eq!(rt; told(alloc, &map)?.as_str(), "b=2 a=4 c=3 d=9 e=1 ");
+    let there = map
+        .entry(String::from_str(alloc, "c")?)
+        .or_insert_with(|| 5)?;
+    *there = 6;
+    let made = map
+        .entry(String::from_str(alloc, "f")?)
+        .or_insert_with(|| 7)?;
+    assert_eq!(rt; *made, 7);
+    assert_eq!(rt; told(alloc, &map)?.as_str(), "b=2 a=4 c=6 d=9 e=1 f=7 ");
+    Ok(())
+}
+
+#[test]
+fn counts_through_entries(rt: HostRuntime) -> Result<(), Fail> {
+    let alloc = rt.alloc();
+    let mut counts = OrderedMap::<u8>::new(alloc);
+    for word in ["to", "be", "or", "not", "to", "be"] {
+        counts
+            .entry(String::from_str(alloc, word)?)
+            .and_modify(|count| *count = count.wrapping_add(1))
+            .or_insert(1)?;
+    }
+    assert_eq!(rt; told(alloc, &counts)?.as_str(), "to=2 be=2 or=1 not=1 ");
+    Ok(())
+}
+
+#[test]
+fn names_its_entries(rt: HostRuntime) -> Result<(), Fail> {
+    let alloc = rt.alloc();
+    let mut map = sample(alloc)?;
+    for (name, expected) in [("c", Some(3)), ("d", None), ("", None)] {
+        let entry = map.entry(String::from_str(alloc, name)?);
+        assert_eq!(rt; entry.key(), name);
+        match entry {
+            Entry::Occupied(mut entry) => {
+                assert_eq!(rt; entry.key(), name);
+                assert_eq!(rt; Some(*entry.get_mut()), expected);
+                *entry.get_mut() = 8;
+                assert_eq!(rt; *entry.into_mut(), 8);
+            }
+            Entry::Vacant(entry) => {
+                assert_eq!(rt; entry.key(), name);
+                assert_eq!(rt; expected, None);
+            }
+        }
+    }
+    assert_eq!(rt; told(alloc, &map)?.as_str(), "b=1 a=4 c=8 ");
+    for count in [15, 16, 17, 40] {
+        let mut numbers = numbered(alloc, count)?;
+        let last = count.wrapping_sub(1);
+        *numbers.entry(format!(in alloc; "{last}")?).or_insert(0)? = 1000;
+        *numbers.entry(format!(in alloc; "{count}")?).or_insert(0)? = 2000;
+        assert_eq!(rt; numbers.len(), count.wrapping_add(1));
+        let name = format!(in alloc; "{last}")?;
+        assert_eq!(rt; numbers.get_index(last), Some((name.as_str(), &1000)));
+        let name = format!(in alloc; "{count}")?;
+        assert_eq!(rt; numbers.last(), Some((name.as_str(), &2000)));
+    }
+    Ok(())
+}
+
+#[test]
+fn collects_pairs(rt: HostRuntime) -> Result<(), Fail> {
+    let alloc = rt.alloc();
+    let pairs = pairs_of(alloc, &[("b", 1), ("a", 2), ("c", 3), ("a", 4)])?;
+    let mut map = pairs.into_iter().collect::<OrderedMap<u8>>(alloc)?;
+    assert_eq!(rt; told(alloc, &map)?.as_str(), "b=1 a=4 c=3 ");
+    map.extend(pairs_of(alloc, &[("d", 5), ("b", 6), ("", 7), ("d", 8)])?)?;
+    assert_eq!(rt; told(alloc, &map)?.as_str(), "b=6 a=4 c=3 d=8 =7 ");
+    map.extend(pairs_of(alloc, &[])?)?;
+    assert_eq!(rt; map.len(), 5);
+    let copy = map.clone()?.into_iter().collect::<OrderedMap<u8>>(alloc)?;
+    assert_eq!(rt; told(alloc, &copy)?.as_str(), "b=6 a=4 c=3 d=8 =7 ");
+    let none = pairs_of(alloc, &[])?
+        .into_iter()
+        .collect::<OrderedMap<u8>>(alloc)?;
+    assert!(rt; none.is_empty());
+    Ok(())
+}
+
+#[test]
+fn writes_by_place(rt: HostRuntime) -> Result<(), Fail> {
+    let alloc = rt.alloc();
+    let mut map = sample(alloc)?;
+    for place in 0..map.len() {
+        if let Some(value) = map.get_index_mut(place) {
+            *value = value.wrapping_mul(10);
+        }
+    }
+    assert!(rt; map.get_index_mut(3).is_none());
+    assert_eq!(rt; told(alloc, &map)?.as_str(), "b=10 a=40 c=30 ");
     Ok(())
 }

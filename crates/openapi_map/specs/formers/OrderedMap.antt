@@ -37,7 +37,7 @@ use Rattle.openapi_map.specs.Former.{entries_of-map, names_of-map, entries_of-he
 use Rattle.openapi_map.specs.Former.{Indexed, Indexed-prop}
 use Rattle.openapi_map.specs.declared.OrderedMap.TheInside.{Inside}
 use Rattle.openapi_map.specs.declared.OrderedMap.TheView.{view, invariant}
-use Rattle.openapi_map.specs.contracts.Entry as E
+use Rattle.openapi_map.specs.contracts.Member as E
 use Rattle.openapi_map.specs.contracts.Held as H
 use Rattle.openapi_map.specs.contracts.OrderedMap as C
 use Rattle.openapi_map.specs.contracts.OrderedMap.TheInside as I

@@ -1,21 +1,11 @@
-use Rattle.std.proofs.Common.{◌≡◌, ℕ, List, position, Option, Some, None, string_bytes}
+use Rattle.std.proofs.Common.{Some, None, string_bytes}
 use Rattle.std.proofs.Common.{sym, ap, ◌∙◌}
-use Rattle.std.specs.Map.{keys_of}
 use Rattle.std.specs.Str.{bytes_eq}
 use Rattle.indexmap.proofs.MapLemmas.{Found-position}
 use Rattle.indexmap.specs.IndexMap.{set_value_at}
-use Rattle.openapi_map.specs.Entries.{Entries, entries_of, names_of}
 use Rattle.openapi_map.specs.Held.{kept}
-use Rattle.openapi_map.specs.declared.Entry.{Entry}
-use Rattle.openapi_map.proofs.EntryLemmas.{get-missing, insert-found, insert-missing}
+use Rattle.openapi_map.proofs.EntryLemmas.{at_bytes, get-missing, insert-found, insert-missing}
 use Rattle.openapi_map.proofs.OrderedMap.insert.Goals as goal
-
-module _ {V : Type 0} (es : List (Entry V)) (m : Entries V) (shows : entries_of es ≡ m) where
-  -- what the look for a name answered, at the name's bytes and the map's entries
-  at_bytes : (r : Option ℕ) (n name : List ℕ) → r ≡ position (bytes_eq n) (names_of es) → n ≡ name
-      → r ≡ position (bytes_eq name) (keys_of m)
-  at_bytes r n name found is =
-      found ∙ (λ j. position (bytes_eq (is j)) (keys_of (shows j)))
 
 pub value_at-requires : goal.value_at-requires
 value_at-requires g c =

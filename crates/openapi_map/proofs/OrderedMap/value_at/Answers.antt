@@ -6,7 +6,7 @@ use Rattle.indexmap.specs.IndexMap.{set_value_at}
 use Rattle.openapi_map.specs.Entries.{entries_of, names_of}
 use Rattle.openapi_map.specs.Held.{kept, IsHeldIndexed}
 use Rattle.openapi_map.specs.Index.{IsIndexAt}
-use Rattle.openapi_map.specs.declared.Entry.{Entry}
+use Rattle.openapi_map.specs.declared.Member.{Member}
 use Rattle.openapi_map.proofs.EntryLemmas.{within-entries, entries_of-set, names_of-set, value-entries_of}
 use Rattle.openapi_map.proofs.OrderedMap.value_at.Goals as goal
 
@@ -24,7 +24,7 @@ invariant_of-self-lent g c w =
     let es = held.entries.items in
     let i = c.args.place in
     let d = c.index_mut-entry.result.now in
-    let put : _ → Entry _ = λ x. record { name = x.name; value = w } in
+    let put : _ → Member _ = λ x. record { name = x.name; value = w } in
     let there = get_or es i d in
     let same : names_of (set es i (put d)) ≡ names_of es =
     ap (λ x. names_of (set es i (put x))) {y = there} c.index_mut-entry.ensures.value ∙ names_of-set es i d w in
@@ -44,7 +44,7 @@ returns g c =
     let i = c.args.place in
     let d = c.index_mut-entry.result.now in
     let there = get_or es i d in
-    let put : _ → _ → Entry _ = λ x w. record { name = x.name; value = w } in
+    let put : _ → _ → Member _ = λ x w. record { name = x.name; value = w } in
     let within = within-entries es c.args.self.now i shows c.requires in (
       (
         refl,

@@ -1,41 +1,24 @@
-use Rattle.std.proofs.Common.{◌<◌, ◌≤◌, ◌*◌, ◌++◌, ◌∷◌, [], length, take, get_or, string_bytes}
-use Rattle.std.proofs.Common.{ap, subst, ◌∙◌, arith}
-use Rattle.std.proofs.lemmas.List.{take_all}
-use Rattle.openapi_map.specs.Entries.{names_of}
-use Rattle.openapi_map.specs.Index.{IsIndex}
-use Rattle.openapi_map.proofs.EntryLemmas.{length-names_of, names-next}
+use Rattle.std.proofs.Common.{◌*◌, arith}
+use Rattle.openapi_map.proofs.EntryLemmas.{length-names_of}
 use Rattle.openapi_map.proofs.IndexLemmas.{IsIndex-none}
 use Rattle.openapi_map.proofs.index.NameIndex.of_names.Goals as goal
 
-pub loop-entry-init : goal.loop-entry-init
-loop-entry-init g c =
+pub link_all-requires-clause-none : goal.link_all-requires-clause-none
+link_all-requires-clause-none g c =
     let heads = c.in_ok-vec.field-0 in
     let next = c.in_ok-with_capacity.field-0 in
-    record {
-      is = IsIndex-none heads next (2 * c.len-buckets.result) (c.in_ok-vec.ensures.items_if_clones_equal (λ y e. e))
-          c.in_ok-vec.ensures.len (omega (arith, c.requires, c.len-buckets.ensures)) c.in_ok-with_capacity.ensures.len;
-      room = omega (arith, c.in_ok-with_capacity.ensures.exact, c.len-buckets.ensures);
-    }
+    IsIndex-none heads next (2 * c.len-buckets.result) (c.in_ok-vec.ensures.items_if_clones_equal (λ y e. e))
+    c.in_ok-vec.ensures.len (omega (arith, c.requires, c.len-buckets.ensures)) c.in_ok-with_capacity.ensures.len
 
-pub loop-entry-preserved : goal.loop-entry-preserved
-loop-entry-preserved g c =
-    let es = c.args.entries.now.items in
-    let i = c.loop-entry.entry-index in
-    let e = c.entry-item.result in
-    let items = c.deref-entry-items.ensures.value in
-    let within : i < length es = omega (arith, c.loop-entry-test.true, ap length items) in
-    let name = c.as_str.ensures.value ∙ ap (λ x. string_bytes x.name) (c.entry-item.is ∙ ap (λ xs. get_or xs i e) items) in
-    let longer = ap (λ x. take i (names_of es) ++ x ∷ []) name ∙ names-next es i e within in
-    record {
-      is = subst (λ ns. IsIndex ns c.link_last.new.self) longer
-          (c.link_last.ensures.index (take i (names_of es)) c.loop-entry.invariant.is);
-      room = c.link_last.ensures.capacity ∙ c.loop-entry.invariant.room;
-    }
-
-pub returns-clause-is : goal.returns-clause-is
-returns-clause-is g c =
-    let es = c.args.entries.now.items in
-    let i = c.loop-entry.entry-index in
-    let past : length (names_of es) ≤ i =
-    omega (arith, c.loop-entry-test.false, ap length c.deref-entry-items.ensures.value, length-names_of es) in
-    subst (λ ns. IsIndex ns c.loop-entry.index) (take_all i (names_of es) past) c.loop-entry.invariant.is
+pub returns-clause-room : goal.returns-clause-room
+returns-clause-room g c =
+    omega (
+      arith,
+      c.requires,
+      c.link_all.ensures.is.len,
+      c.link_all.ensures.capacity,
+      length-names_of c.args.entries.now.items,
+      c.in_ok-with_capacity.ensures.exact,
+      c.len-buckets.ensures,
+      c.args.entries.now.ok.0,
+    )

@@ -1,5 +1,5 @@
 //! The Discriminator Object.
-ghost use Rattle.std.proofs.Common.{lit≤, refl};
+ghost use Rattle.std.proofs.Common.{refl};
 ghost use Rattle.std.specs.Prelude.{◌≡◌, ◌+◌, ◌≤◌, ◌*◌, true, false, [], string_bytes};
 ghost use Rattle.openapi_tables.specs.Kind.{by, discriminator};
 ghost use Rattle.openapi_tables.proofs.SlotWriting.{final_apart};
@@ -86,8 +86,6 @@ impl FromNode for Discriminator {
     ) -> Result<Discriminator, Fault> {
         read_record(alloc, view, steps)
     }
-
-    ghost few = { lit≤ tt };
 
     ghost well_made = { refl };
 }

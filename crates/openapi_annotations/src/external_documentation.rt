@@ -1,5 +1,5 @@
 //! The External Documentation Object.
-ghost use Rattle.std.proofs.Common.{lit≤, refl};
+ghost use Rattle.std.proofs.Common.{refl};
 ghost use Rattle.std.specs.Prelude.{◌≡◌, ◌+◌, ◌≤◌, ◌*◌, true, false, [], None, string_bytes};
 ghost use Rattle.openapi_tables.specs.Kind.{by, external_documentation};
 ghost use Rattle.openapi_tables.proofs.SlotWriting.{final_apart};
@@ -87,8 +87,6 @@ impl FromNode for ExternalDocumentation {
     ) -> Result<ExternalDocumentation, Fault> {
         read_record(alloc, view, steps)
     }
-
-    ghost few = { lit≤ tt };
 
     ghost well_made = { refl };
 }

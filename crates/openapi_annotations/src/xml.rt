@@ -1,5 +1,5 @@
 //! The XML Object.
-ghost use Rattle.std.proofs.Common.{lit≤, refl};
+ghost use Rattle.std.proofs.Common.{refl};
 ghost use Rattle.std.specs.Prelude.{◌≡◌, ◌+◌, ◌≤◌, ◌*◌, true, false, [], None};
 ghost use Rattle.openapi_tables.specs.Kind.{by, xml_object};
 ghost use Rattle.openapi_tables.proofs.SlotWriting.{final_apart};
@@ -101,8 +101,6 @@ impl FromNode for Xml {
     fn from_view(alloc: Global, view: &View<'_>, steps: &mut Steps) -> Result<Xml, Fault> {
         read_record(alloc, view, steps)
     }
-
-    ghost few = { lit≤ tt };
 
     ghost well_made = { refl };
 }

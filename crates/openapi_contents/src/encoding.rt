@@ -1,5 +1,5 @@
 //! The Encoding Object.
-ghost use Rattle.std.proofs.Common.{lit≤, refl};
+ghost use Rattle.std.proofs.Common.{refl};
 ghost use Rattle.std.specs.Prelude.{◌≡◌, ◌+◌, ◌≤◌, ◌*◌, [], None, false};
 ghost use Rattle.openapi_tables.specs.Kind.{by, encoding};
 ghost use Rattle.openapi_tables.proofs.SlotWriting.{final_apart};
@@ -73,8 +73,6 @@ impl FromNode for Encoding {
     fn from_view(alloc: Global, view: &View<'_>, steps: &mut Steps) -> Result<Encoding, Fault> {
         read_encoding(alloc, view, steps)
     }
-
-    ghost few = { lit≤ tt };
 
     ghost well_made = { refl };
 }

@@ -1,5 +1,5 @@
 //! How a parameter or a header is described: by a schema or by its content.
-ghost use Rattle.std.proofs.Common.{lit≤, refl};
+ghost use Rattle.std.proofs.Common.{refl};
 ghost use Rattle.std.specs.Prelude.{◌≡◌, ◌+◌, ◌≤◌, ◌*◌};
 ghost use Rattle.openapi_tables.specs.Kind.{by, schema_or_content};
 ghost use Rattle.openapi_tables.proofs.SlotWriting.{final_apart};
@@ -87,8 +87,6 @@ impl FromNode for ParameterSchemaOrContent {
     ) -> Result<ParameterSchemaOrContent, Fault> {
         read_record(alloc, view, steps)
     }
-
-    ghost few = { lit≤ tt };
 
     ghost well_made = { refl };
 }

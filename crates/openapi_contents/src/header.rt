@@ -1,5 +1,5 @@
 //! The Header Object.
-ghost use Rattle.std.proofs.Common.{lit≤, refl};
+ghost use Rattle.std.proofs.Common.{refl};
 ghost use Rattle.std.specs.Prelude.{◌≡◌, ◌+◌, ◌≤◌, ◌*◌};
 ghost use Rattle.openapi_node.specs.Tree.{size_of};
 ghost use Rattle.openapi_tables.specs.Kind.{by, header, ref_to};
@@ -60,8 +60,6 @@ impl FromNode for Header {
         read_header(alloc, view, steps)
     }
 
-    ghost few = { lit≤ tt };
-
     ghost well_made = { refl };
 }
 
@@ -74,8 +72,6 @@ impl ToNode for Header {
 }
 
 impl Referable for Header {
-    ghost direct = { refl };
-
     ghost spares_ref = { header_spares };
 }
 

@@ -1,5 +1,5 @@
 //! The Media Type Object, and contents by their media types.
-ghost use Rattle.std.proofs.Common.{lit≤, refl};
+ghost use Rattle.std.proofs.Common.{refl};
 ghost use Rattle.std.specs.Prelude.{◌≡◌, ◌+◌, ◌≤◌, ◌*◌, [], None};
 ghost use Rattle.openapi_node.specs.Tree.{size_of};
 ghost use Rattle.openapi_tables.specs.Kind.{by, media_type};
@@ -76,8 +76,6 @@ impl FromNode for MediaType {
     fn from_view(alloc: Global, view: &View<'_>, steps: &mut Steps) -> Result<MediaType, Fault> {
         read_media_type(alloc, view, steps)
     }
-
-    ghost few = { lit≤ tt };
 
     ghost well_made = { refl };
 }

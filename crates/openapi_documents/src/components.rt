@@ -1,5 +1,5 @@
 //! The Components Object.
-ghost use Rattle.std.proofs.Common.{lit≤, refl};
+ghost use Rattle.std.proofs.Common.{refl};
 ghost use Rattle.std.specs.Prelude.{◌≡◌, ◌+◌, ◌≤◌, ◌*◌, []};
 ghost use Rattle.openapi_node.specs.Tree.{members_of};
 ghost use Rattle.openapi_tables.specs.ByRow.{rows_weight};
@@ -200,8 +200,6 @@ impl FromNode for Components {
     fn from_view(alloc: Global, view: &View<'_>, steps: &mut Steps) -> Result<Components, Fault> {
         read_record(alloc, view, steps)
     }
-
-    ghost few = { lit≤ tt };
 
     ghost well_made = { refl };
 }

@@ -1,5 +1,5 @@
 //! The OpenAPI Object.
-ghost use Rattle.std.proofs.Common.{lit≤, refl};
+ghost use Rattle.std.proofs.Common.{refl};
 ghost use Rattle.std.specs.Prelude.{◌≡◌, ◌+◌, ◌≤◌, ◌*◌, [], None, string_bytes};
 ghost use Rattle.openapi_node.specs.Tree.{members_of};
 ghost use Rattle.openapi_tables.specs.ByRow.{rows_weight};
@@ -167,8 +167,6 @@ impl FromNode for OpenAPI {
     fn from_view(alloc: Global, view: &View<'_>, steps: &mut Steps) -> Result<OpenAPI, Fault> {
         read_record(alloc, view, steps)
     }
-
-    ghost few = { lit≤ tt };
 
     ghost well_made = { refl };
 }

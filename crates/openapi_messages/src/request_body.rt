@@ -1,5 +1,5 @@
 //! The Request Body Object.
-ghost use Rattle.std.proofs.Common.{lit≤, refl};
+ghost use Rattle.std.proofs.Common.{refl};
 ghost use Rattle.std.specs.Prelude.{◌≡◌, ◌+◌, ◌≤◌, ◌*◌, true, false, [], None};
 ghost use Rattle.openapi_node.specs.Tree.{size_of};
 ghost use Rattle.openapi_tables.specs.Kind.{by, ref_to, request_body};
@@ -96,8 +96,6 @@ impl FromNode for RequestBody {
         read_record(alloc, view, steps)
     }
 
-    ghost few = { lit≤ tt };
-
     ghost well_made = { refl };
 }
 
@@ -110,8 +108,6 @@ impl ToNode for RequestBody {
 }
 
 impl Referable for RequestBody {
-    ghost direct = { refl };
-
     ghost spares_ref = { request_body_spares };
 }
 

@@ -1,5 +1,5 @@
 //! The Response Object.
-ghost use Rattle.std.proofs.Common.{lit≤, refl};
+ghost use Rattle.std.proofs.Common.{refl};
 ghost use Rattle.std.specs.Prelude.{◌≡◌, ◌+◌, ◌≤◌, ◌*◌, true, false, [], string_bytes};
 ghost use Rattle.openapi_node.specs.Tree.{size_of};
 ghost use Rattle.openapi_tables.specs.Kind.{by, ref_to, response};
@@ -103,8 +103,6 @@ impl FromNode for Response {
         read_record(alloc, view, steps)
     }
 
-    ghost few = { lit≤ tt };
-
     ghost well_made = { refl };
 }
 
@@ -117,8 +115,6 @@ impl ToNode for Response {
 }
 
 impl Referable for Response {
-    ghost direct = { refl };
-
     ghost spares_ref = { response_spares };
 }
 

@@ -1,5 +1,5 @@
 //! The Responses Object.
-ghost use Rattle.std.proofs.Common.{lit≤, refl};
+ghost use Rattle.std.proofs.Common.{refl};
 ghost use Rattle.std.specs.Prelude.{◌≡◌, ◌+◌, ◌≤◌, ◌*◌, true, false, [], None};
 ghost use Rattle.openapi_tables.specs.Kind.{by, responses};
 ghost use Rattle.openapi_tables.proofs.SlotWriting.{final_apart};
@@ -89,8 +89,6 @@ impl FromNode for Responses {
     fn from_view(alloc: Global, view: &View<'_>, steps: &mut Steps) -> Result<Responses, Fault> {
         read_record(alloc, view, steps)
     }
-
-    ghost few = { lit≤ tt };
 
     ghost well_made = { refl };
 }

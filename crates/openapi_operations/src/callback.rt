@@ -1,5 +1,5 @@
 //! The Callback Object.
-ghost use Rattle.std.proofs.Common.{lit≤, refl};
+ghost use Rattle.std.proofs.Common.{refl};
 ghost use Rattle.std.specs.Prelude.{◌≡◌, ◌+◌, ◌≤◌, ◌*◌, []};
 ghost use Rattle.openapi_node.specs.Tree.{size_of};
 ghost use Rattle.openapi_tables.specs.Kind.{by, callback_object};
@@ -65,8 +65,6 @@ impl FromNode for Callback {
         read_callback(alloc, view, steps)
     }
 
-    ghost few = { lit≤ tt };
-
     ghost well_made = { refl };
 }
 
@@ -80,8 +78,6 @@ impl ToNode for Callback {
 }
 
 impl Referable for Callback {
-    ghost direct = { refl };
-
     ghost spares_ref = { callback_spares };
 }
 

@@ -1,5 +1,5 @@
 //! The Operation Object.
-ghost use Rattle.std.proofs.Common.{lit≤, refl};
+ghost use Rattle.std.proofs.Common.{refl};
 ghost use Rattle.std.specs.Prelude.{◌≡◌, ◌+◌, ◌≤◌, ◌*◌, [], None, false};
 ghost use Rattle.openapi_tables.specs.Kind.{by, operation};
 ghost use Rattle.openapi_tables.proofs.SlotWriting.{final_apart};
@@ -110,8 +110,6 @@ impl FromNode for Operation {
     fn from_view(alloc: Global, view: &View<'_>, steps: &mut Steps) -> Result<Operation, Fault> {
         read_operation(alloc, view, steps)
     }
-
-    ghost few = { lit≤ tt };
 
     ghost well_made = { refl };
 }

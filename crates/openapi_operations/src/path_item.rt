@@ -1,5 +1,5 @@
 //! The Path Item Object.
-ghost use Rattle.std.proofs.Common.{lit≤, refl};
+ghost use Rattle.std.proofs.Common.{refl};
 ghost use Rattle.std.specs.Prelude.{◌≡◌, ◌+◌, ◌≤◌, ◌*◌, [], None};
 ghost use Rattle.openapi_node.specs.Tree.{size_of};
 ghost use Rattle.openapi_tables.specs.Kind.{by, path_item, ref_to};
@@ -107,8 +107,6 @@ impl FromNode for PathItem {
         read_path_item(alloc, view, steps)
     }
 
-    ghost few = { lit≤ tt };
-
     ghost well_made = { refl };
 }
 
@@ -121,8 +119,6 @@ impl ToNode for PathItem {
 }
 
 impl Referable for PathItem {
-    ghost direct = { refl };
-
     ghost spares_ref = { path_item_spares };
 }
 

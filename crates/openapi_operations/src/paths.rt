@@ -1,5 +1,5 @@
 //! The Paths Object.
-ghost use Rattle.std.proofs.Common.{lit≤, refl};
+ghost use Rattle.std.proofs.Common.{refl};
 ghost use Rattle.std.specs.Prelude.{◌≡◌, ◌+◌, ◌≤◌, ◌*◌, ◌<◌, ◌^◌, ℕ, List, [], length, true};
 ghost use Rattle.std.specs.Map.Iter.{ShowsInOrder, ShowsValuesInOrder, deref_pair};
 ghost use Rattle.openapi_map.specs.Entries.{HasDistinctNames, owned_entry};
@@ -131,8 +131,6 @@ impl FromNode for Paths {
     fn from_view(alloc: Global, view: &View<'_>, steps: &mut Steps) -> Result<Paths, Fault> {
         read_record(alloc, view, steps)
     }
-
-    ghost few = { lit≤ tt };
 
     ghost well_made = { refl };
 }

@@ -1,5 +1,5 @@
 //! The Parameter Object.
-ghost use Rattle.std.proofs.Common.{lit≤, refl};
+ghost use Rattle.std.proofs.Common.{refl};
 ghost use Rattle.std.specs.Prelude.{◌≡◌, ◌+◌, ◌≤◌, ◌*◌, codes};
 ghost use Rattle.openapi_node.specs.Tree.{size_of};
 ghost use Rattle.openapi_tables.specs.Kind.{ref_to};
@@ -113,8 +113,6 @@ impl FromNode for Parameter {
         }
     }
 
-    ghost few = { lit≤ tt };
-
     ghost well_made = { parameter_sound };
 }
 
@@ -131,8 +129,6 @@ impl ToNode for Parameter {
 }
 
 impl Referable for Parameter {
-    ghost direct = { refl };
-
     ghost spares_ref = { parameter_spares };
 }
 

@@ -1,5 +1,5 @@
 //! What parameters of all places have.
-ghost use Rattle.std.proofs.Common.{lit≤, refl};
+ghost use Rattle.std.proofs.Common.{refl};
 ghost use Rattle.std.specs.Prelude.{◌≡◌, ◌+◌, ◌≤◌, ◌*◌};
 ghost use Rattle.openapi_tables.specs.Kind.{by, parameter_data};
 ghost use Rattle.openapi_tables.proofs.SlotWriting.{final_apart};
@@ -112,8 +112,6 @@ impl FromNode for ParameterData {
     ) -> Result<ParameterData, Fault> {
         read_record(alloc, view, steps)
     }
-
-    ghost few = { lit≤ tt };
 
     ghost well_made = { refl };
 }

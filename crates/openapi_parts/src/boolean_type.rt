@@ -1,5 +1,5 @@
 //! Schemas of flags.
-ghost use Rattle.std.proofs.Common.{lit≤, refl};
+ghost use Rattle.std.proofs.Common.{refl};
 ghost use Rattle.std.specs.Prelude.{◌≡◌, []};
 ghost use Rattle.openapi_tables.specs.Kind.{by, boolean_type};
 ghost use Rattle.openapi_tables.proofs.SlotWriting.{final_apart};
@@ -69,8 +69,6 @@ impl FromNode for BooleanType {
     fn from_view(alloc: Global, view: &View<'_>, steps: &mut Steps) -> Result<BooleanType, Fault> {
         read_record(alloc, view, steps)
     }
-
-    ghost few = { lit≤ tt };
 
     ghost well_made = { refl };
 }

@@ -1,5 +1,5 @@
 //! Schemas of numbers.
-ghost use Rattle.std.proofs.Common.{lit≤, refl};
+ghost use Rattle.std.proofs.Common.{refl};
 ghost use Rattle.std.specs.Prelude.{◌≡◌, false, [], None};
 ghost use Rattle.openapi_tables.specs.Kind.{by, number_type};
 ghost use Rattle.openapi_tables.proofs.SlotWriting.{final_apart};
@@ -120,8 +120,6 @@ impl FromNode for NumberType {
     fn from_view(alloc: Global, view: &View<'_>, steps: &mut Steps) -> Result<NumberType, Fault> {
         read_record(alloc, view, steps)
     }
-
-    ghost few = { lit≤ tt };
 
     ghost well_made = { refl };
 }

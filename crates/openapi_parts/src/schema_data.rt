@@ -1,5 +1,5 @@
 //! What every kind of schema can say.
-ghost use Rattle.std.proofs.Common.{lit≤, refl};
+ghost use Rattle.std.proofs.Common.{refl};
 ghost use Rattle.std.specs.Prelude.{◌≡◌, ◌+◌, ◌≤◌, ◌*◌, true, false, [], None};
 ghost use Rattle.openapi_tables.specs.Kind.{by, schema_data};
 ghost use Rattle.openapi_tables.proofs.SlotWriting.{final_apart};
@@ -138,8 +138,6 @@ impl FromNode for SchemaData {
     fn from_view(alloc: Global, view: &View<'_>, steps: &mut Steps) -> Result<SchemaData, Fault> {
         read_record(alloc, view, steps)
     }
-
-    ghost few = { lit≤ tt };
 
     ghost well_made = { refl };
 }

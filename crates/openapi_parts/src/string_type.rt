@@ -1,5 +1,5 @@
 //! Schemas of texts.
-ghost use Rattle.std.proofs.Common.{lit≤, refl};
+ghost use Rattle.std.proofs.Common.{refl};
 ghost use Rattle.std.specs.Prelude.{◌≡◌, [], None};
 ghost use Rattle.openapi_tables.specs.Kind.{by, string_type};
 ghost use Rattle.openapi_tables.proofs.SlotWriting.{final_apart};
@@ -96,8 +96,6 @@ impl FromNode for StringType {
     fn from_view(alloc: Global, view: &View<'_>, steps: &mut Steps) -> Result<StringType, Fault> {
         read_record(alloc, view, steps)
     }
-
-    ghost few = { lit≤ tt };
 
     ghost well_made = { refl };
 }

@@ -1,5 +1,5 @@
 //! The Contact Object.
-ghost use Rattle.std.proofs.Common.{lit≤, refl};
+ghost use Rattle.std.proofs.Common.{refl};
 ghost use Rattle.std.specs.Prelude.{◌≡◌, ◌+◌, ◌≤◌, ◌*◌, true, false, [], None};
 ghost use Rattle.openapi_tables.specs.Kind.{by, contact};
 ghost use Rattle.openapi_tables.proofs.SlotWriting.{final_apart};
@@ -88,8 +88,6 @@ impl FromNode for Contact {
     fn from_view(alloc: Global, view: &View<'_>, steps: &mut Steps) -> Result<Contact, Fault> {
         read_record(alloc, view, steps)
     }
-
-    ghost few = { lit≤ tt };
 
     ghost well_made = { refl };
 }

@@ -1,5 +1,5 @@
 //! The Example Object.
-ghost use Rattle.std.proofs.Common.{lit≤, refl};
+ghost use Rattle.std.proofs.Common.{refl};
 ghost use Rattle.std.specs.Prelude.{◌≡◌, ◌+◌, ◌≤◌, ◌*◌, true, false, [], None};
 ghost use Rattle.openapi_node.specs.Tree.{size_of};
 ghost use Rattle.openapi_tables.specs.Kind.{by, example, ref_to};
@@ -101,8 +101,6 @@ impl FromNode for Example {
         read_record(alloc, view, steps)
     }
 
-    ghost few = { lit≤ tt };
-
     ghost well_made = { refl };
 }
 
@@ -115,8 +113,6 @@ impl ToNode for Example {
 }
 
 impl Referable for Example {
-    ghost direct = { refl };
-
     ghost spares_ref = { example_spares };
 }
 

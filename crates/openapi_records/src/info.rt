@@ -1,5 +1,5 @@
 //! The Info Object.
-ghost use Rattle.std.proofs.Common.{lit≤, refl};
+ghost use Rattle.std.proofs.Common.{refl};
 ghost use Rattle.std.specs.Prelude.{◌≡◌, ◌+◌, ◌≤◌, ◌*◌, true, false, [], None, string_bytes};
 ghost use Rattle.openapi_tables.specs.Kind.{by, info};
 ghost use Rattle.openapi_tables.proofs.SlotWriting.{final_apart};
@@ -108,8 +108,6 @@ impl FromNode for Info {
     fn from_view(alloc: Global, view: &View<'_>, steps: &mut Steps) -> Result<Info, Fault> {
         read_record(alloc, view, steps)
     }
-
-    ghost few = { lit≤ tt };
 
     ghost well_made = { refl };
 }

@@ -1,5 +1,5 @@
 //! The Link Object.
-ghost use Rattle.std.proofs.Common.{lit≤, refl};
+ghost use Rattle.std.proofs.Common.{refl};
 ghost use Rattle.std.specs.Prelude.{◌≡◌, ◌+◌, ◌≤◌, ◌*◌, true, false};
 ghost use Rattle.openapi_node.specs.Tree.{size_of};
 ghost use Rattle.openapi_tables.specs.Kind.{by, link, ref_to};
@@ -88,8 +88,6 @@ impl FromNode for Link {
         read_record(alloc, view, steps)
     }
 
-    ghost few = { lit≤ tt };
-
     ghost well_made = { refl };
 }
 
@@ -102,8 +100,6 @@ impl ToNode for Link {
 }
 
 impl Referable for Link {
-    ghost direct = { refl };
-
     ghost spares_ref = { link_spares };
 }
 

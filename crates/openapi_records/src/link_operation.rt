@@ -1,5 +1,5 @@
 //! The operation of the Link Object.
-ghost use Rattle.std.proofs.Common.{lit≤, refl};
+ghost use Rattle.std.proofs.Common.{refl};
 ghost use Rattle.std.specs.Prelude.{◌≡◌, ◌+◌, ◌≤◌, ◌*◌, true, false, Some, OnOk, IfErr, codes};
 ghost use Rattle.openapi_node.specs.Tree.{members_of};
 ghost use Rattle.openapi_tables.specs.ByRow.{row_where, is_named, row_weight, rows_asked};
@@ -115,8 +115,6 @@ impl FromNode for LinkOperation {
     ) -> Result<LinkOperation, Fault> {
         read_record(alloc, view, steps)
     }
-
-    ghost few = { lit≤ tt };
 
     ghost well_made = { refl };
 }

@@ -1,5 +1,5 @@
 //! The Server Object.
-ghost use Rattle.std.proofs.Common.{lit≤, refl};
+ghost use Rattle.std.proofs.Common.{refl};
 ghost use Rattle.std.specs.Prelude.{◌≡◌, ◌+◌, ◌≤◌, ◌*◌, true, false, [], None, string_bytes};
 ghost use Rattle.openapi_tables.specs.Kind.{by, server};
 ghost use Rattle.openapi_tables.proofs.SlotWriting.{final_apart};
@@ -90,8 +90,6 @@ impl FromNode for Server {
     fn from_view(alloc: Global, view: &View<'_>, steps: &mut Steps) -> Result<Server, Fault> {
         read_record(alloc, view, steps)
     }
-
-    ghost few = { lit≤ tt };
 
     ghost well_made = { refl };
 }

@@ -1,5 +1,5 @@
 //! The Server Variable Object.
-ghost use Rattle.std.proofs.Common.{lit≤, refl};
+ghost use Rattle.std.proofs.Common.{refl};
 ghost use Rattle.std.specs.Prelude.{◌≡◌, ◌+◌, ◌≤◌, ◌*◌, true, false, [], None, string_bytes};
 ghost use Rattle.openapi_tables.specs.Kind.{by, server_variable};
 ghost use Rattle.openapi_tables.proofs.SlotWriting.{final_apart};
@@ -92,8 +92,6 @@ impl FromNode for ServerVariable {
     ) -> Result<ServerVariable, Fault> {
         read_record(alloc, view, steps)
     }
-
-    ghost few = { lit≤ tt };
 
     ghost well_made = { refl };
 }

@@ -90,8 +90,6 @@ impl FromNode for Tag {
         read_record(alloc, view, steps)
     }
 
-    ghost few = { lit≤ tt };
-
     ghost well_made = { refl };
 }
 

@@ -14,3 +14,4 @@ pub mod Tagging
 pub mod Spared
 pub mod OrNull
 pub mod Present
+pub mod Looks

@@ -19,8 +19,6 @@ impl<T: FromNode + Drop> FromNode for Box<T> {
         }
     }
 
-    ghost few = { T.few };
-
     ghost well_made = { T.well_made };
 }
 
@@ -34,7 +32,5 @@ impl<T: ToNode + Drop> ToNode for Box<T> {
 }
 
 impl<T: Referable + Drop> Referable for Box<T> {
-    ghost direct = { T.direct };
-
     ghost spares_ref = { T.spares_ref };
 }

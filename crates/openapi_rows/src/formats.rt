@@ -1,5 +1,5 @@
 //! Formats: texts that may be a known word.
-ghost use Rattle.std.proofs.Common.{lit≤, refl};
+ghost use Rattle.std.proofs.Common.{refl};
 ghost use Rattle.std.specs.Prelude.{◌≡◌, ◌+◌, ◌≤◌, ◌*◌, true, false};
 ghost use Rattle.openapi_tables.specs.Kind.{format};
 ghost use Rattle.openapi_values.specs.VariantOr.{variant_form, variant_or_empty_form};
@@ -29,8 +29,6 @@ impl<T: Word + 'static> FromNode for VariantOrUnknown<T> {
             _ => Err(Fault::new(alloc, Cause::WrongKind(Expected::Text))),
         }
     }
-
-    ghost few = { lit≤ tt };
 
     ghost well_made = { refl };
 }
@@ -64,8 +62,6 @@ impl<T: Word + 'static> FromNode for VariantOrUnknownOrEmpty<T> {
             _ => Err(Fault::new(alloc, Cause::WrongKind(Expected::TextOrNull))),
         }
     }
-
-    ghost few = { lit≤ tt };
 
     ghost well_made = { refl };
 }

@@ -37,9 +37,6 @@ pub trait FromNode: Sized {
         Self::from_view(alloc, &view, steps)
     }
 
-    /// The looks before the reading are few.
-    ghost few: { looks kind ≤ 2 };
-
     /// The kind is well made.
     ghost well_made: { sound final_tables kind ≡ true };
 }

@@ -1,5 +1,5 @@
 //! Lists.
-ghost use Rattle.std.proofs.Common.{lit≤, refl};
+ghost use Rattle.std.proofs.Common.{refl};
 ghost use Rattle.std.specs.Prelude.{◌≡◌, ◌+◌, ◌≤◌, ◌*◌, true, false};
 ghost use Rattle.openapi_node.specs.Tree.{list, items_of, items_size};
 ghost use Rattle.openapi_tables.specs.Kind.{list_of};
@@ -62,8 +62,6 @@ impl<T: FromNode + Drop> FromNode for Vec<T> {
             _ => Err(Fault::new(alloc, Cause::WrongKind(Expected::List))),
         }
     }
-
-    ghost few = { lit≤ tt };
 
     ghost well_made = { T.well_made };
 }

@@ -1,5 +1,5 @@
 //! Maps by names.
-ghost use Rattle.std.proofs.Common.{lit≤, refl};
+ghost use Rattle.std.proofs.Common.{refl};
 ghost use Rattle.std.specs.Prelude.{◌≡◌, ◌+◌, ◌≤◌, ◌*◌, true, false};
 ghost use Rattle.openapi_tables.specs.Kind.{map_of};
 ghost use Rattle.openapi_rows.specs.Forms.{map_form};
@@ -40,8 +40,6 @@ impl<T: FromNode + Drop> FromNode for OrderedMap<T> {
             _ => Err(Fault::new(alloc, Cause::WrongKind(Expected::Object))),
         }
     }
-
-    ghost few = { lit≤ tt };
 
     ghost well_made = { T.well_made };
 }

@@ -83,8 +83,6 @@ impl<T: Nullable> FromNode for Option<T> {
         }
     }
 
-    ghost few = { T.few };
-
     ghost well_made = { and_from _ _ T.may_be_null T.well_made };
 }
 

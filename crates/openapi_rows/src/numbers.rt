@@ -1,5 +1,5 @@
 //! Whole numbers, within the limits of the types that hold them.
-ghost use Rattle.std.proofs.Common.{lit≤, refl};
+ghost use Rattle.std.proofs.Common.{refl};
 ghost use Rattle.std.specs.Prelude.{◌≡◌, ◌+◌, ◌≤◌, ◌*◌, true, false};
 ghost use Rattle.openapi_tables.specs.Kind.{number, unlimited, sizes, signed};
 ghost use Rattle.openapi_rows.specs.Forms.{number_form, size_form};
@@ -20,8 +20,6 @@ impl FromNode for Whole {
             _ => Err(Fault::new(alloc, Cause::WrongKind(Expected::Whole))),
         }
     }
-
-    ghost few = { lit≤ tt };
 
     ghost well_made = { refl };
 }
@@ -49,8 +47,6 @@ impl FromNode for usize {
         }
     }
 
-    ghost few = { lit≤ tt };
-
     ghost well_made = { refl };
 }
 
@@ -76,8 +72,6 @@ impl FromNode for i64 {
             _ => Err(Fault::new(alloc, Cause::WrongKind(Expected::Whole))),
         }
     }
-
-    ghost few = { lit≤ tt };
 
     ghost well_made = { refl };
 }

@@ -1,5 +1,5 @@
 //! References, and the items in their place.
-ghost use Rattle.std.proofs.Common.{lit≤, refl, sym, subst};
+ghost use Rattle.std.proofs.Common.{refl};
 ghost use Rattle.std.proofs.lemmas.Bool.{and_from};
 ghost use Rattle.std.specs.Prelude.{◌≡◌, ◌+◌, ◌≤◌, ◌*◌, false, option_map, string_bytes, IfErr, IfOk};
 ghost use Rattle.openapi_node.specs.Fault.{IsMemory};
@@ -24,10 +24,6 @@ pub trait Referable: FromNode {
     ghost use Rattle.std.specs.Prelude.{◌≡◌, true};
     ghost use Rattle.openapi_tables.specs.Sound.{under_ref};
     ghost use Rattle.openapi_tables.specs.Tables.{final_tables};
-    ghost use Rattle.openapi_rows.specs.Gives.{looks};
-
-    /// No look is taken before the one at the object itself.
-    ghost direct: { looks Self.kind ≡ 0 };
 
     /// An object that holds no text under `$ref` is written as one that holds none.
     ghost spares_ref: { under_ref final_tables Self.kind ≡ true };
@@ -103,8 +99,6 @@ impl<T: Referable> FromNode for ReferenceOr<T> {
             Err(fault) => Err(fault),
         }
     }
-
-    ghost few = { subst (λ n. n + 1 ≤ 2) (sym T.direct) (lit≤ tt) };
 
     ghost well_made = { and_from _ _ T.spares_ref T.well_made };
 }

@@ -1,5 +1,5 @@
 //! Texts, flags and trees.
-ghost use Rattle.std.proofs.Common.{lit≤, refl};
+ghost use Rattle.std.proofs.Common.{refl};
 ghost use Rattle.std.specs.Prelude.{◌≡◌, ◌+◌, ◌≤◌, ◌*◌, true, false};
 ghost use Rattle.openapi_tables.specs.Kind.{any_flag, any_text, any_tree};
 ghost use Rattle.openapi_tables.specs.Form.{leaf};
@@ -24,8 +24,6 @@ impl FromNode for String {
             _ => Err(Fault::new(alloc, Cause::WrongKind(Expected::Text))),
         }
     }
-
-    ghost few = { lit≤ tt };
 
     ghost well_made = { refl };
 }
@@ -53,8 +51,6 @@ impl FromNode for bool {
         }
     }
 
-    ghost few = { lit≤ tt };
-
     ghost well_made = { refl };
 }
 
@@ -74,8 +70,6 @@ impl FromNode for Node {
     fn from_view(alloc: Global, view: &View<'_>, steps: &mut Steps) -> Result<Node, Fault> {
         copy_shown(alloc, view, steps)
     }
-
-    ghost few = { lit≤ tt };
 
     ghost well_made = { refl };
 }

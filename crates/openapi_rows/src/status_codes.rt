@@ -1,5 +1,5 @@
 //! Status codes, as they stand by themselves.
-ghost use Rattle.std.proofs.Common.{lit≤, refl};
+ghost use Rattle.std.proofs.Common.{refl};
 ghost use Rattle.std.specs.Prelude.{◌≡◌, ◌+◌, ◌≤◌, ◌*◌, true, false};
 ghost use Rattle.openapi_tables.specs.Kind.{status_code};
 ghost use Rattle.openapi_values.specs.StatusCode.{status_code_form};
@@ -29,8 +29,6 @@ impl FromNode for StatusCode {
             _ => Err(Fault::new(alloc, Cause::WrongKind(Expected::TextOrWhole))),
         }
     }
-
-    ghost few = { lit≤ tt };
 
     ghost well_made = { refl };
 }

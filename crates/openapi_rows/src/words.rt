@@ -1,6 +1,6 @@
 //! The words of fixed sets: formats, the styles of parameters and headers, and the parts of a request that hold an API
 //! key.
-ghost use Rattle.std.proofs.Common.{lit≤, refl};
+ghost use Rattle.std.proofs.Common.{refl};
 ghost use Rattle.std.specs.Prelude.{◌≡◌, ◌+◌, ◌≤◌, ◌*◌, true, false, IfOk, IfErr};
 ghost use Rattle.openapi_node.specs.Fault.{IsMemory};
 ghost use Rattle.openapi_node.specs.Tree as tree;
@@ -63,8 +63,6 @@ impl FromNode for PathStyle {
         read_word(alloc, view)
     }
 
-    ghost few = { lit≤ tt };
-
     ghost well_made = { refl };
 }
 
@@ -84,8 +82,6 @@ impl FromNode for QueryStyle {
     fn from_view(alloc: Global, view: &View<'_>, _steps: &mut Steps) -> Result<QueryStyle, Fault> {
         read_word(alloc, view)
     }
-
-    ghost few = { lit≤ tt };
 
     ghost well_made = { refl };
 }
@@ -107,8 +103,6 @@ impl FromNode for CookieStyle {
         read_word(alloc, view)
     }
 
-    ghost few = { lit≤ tt };
-
     ghost well_made = { refl };
 }
 
@@ -128,8 +122,6 @@ impl FromNode for HeaderStyle {
     fn from_view(alloc: Global, view: &View<'_>, _steps: &mut Steps) -> Result<HeaderStyle, Fault> {
         read_word(alloc, view)
     }
-
-    ghost few = { lit≤ tt };
 
     ghost well_made = { refl };
 }
@@ -154,8 +146,6 @@ impl FromNode for APIKeyLocation {
     ) -> Result<APIKeyLocation, Fault> {
         read_word(alloc, view)
     }
-
-    ghost few = { lit≤ tt };
 
     ghost well_made = { refl };
 }
@@ -182,8 +172,6 @@ impl FromNode for NumberFormat {
         read_word(alloc, view)
     }
 
-    ghost few = { lit≤ tt };
-
     ghost well_made = { refl };
 }
 
@@ -209,8 +197,6 @@ impl FromNode for IntegerFormat {
         read_word(alloc, view)
     }
 
-    ghost few = { lit≤ tt };
-
     ghost well_made = { refl };
 }
 
@@ -235,8 +221,6 @@ impl FromNode for StringFormat {
     ) -> Result<StringFormat, Fault> {
         read_word(alloc, view)
     }
-
-    ghost few = { lit≤ tt };
 
     ghost well_made = { refl };
 }

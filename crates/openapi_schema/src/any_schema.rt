@@ -1,5 +1,5 @@
 //! Schemas of no sort in particular.
-ghost use Rattle.std.proofs.Common.{lit≤, refl};
+ghost use Rattle.std.proofs.Common.{refl};
 ghost use Rattle.std.specs.Prelude.{◌≡◌, ◌+◌, ◌≤◌, ◌*◌, [], None};
 ghost use Rattle.openapi_tables.specs.Kind.{any_schema, by};
 ghost use Rattle.openapi_tables.proofs.SlotWriting.{final_apart};
@@ -168,8 +168,6 @@ impl FromNode for AnySchema {
     fn from_view(alloc: Global, view: &View<'_>, steps: &mut Steps) -> Result<AnySchema, Fault> {
         read_record(alloc, view, steps)
     }
-
-    ghost few = { lit≤ tt };
 
     ghost well_made = { refl };
 }

@@ -1,5 +1,5 @@
 //! The kinds of schemas of objects and arrays.
-ghost use Rattle.std.proofs.Common.{lit≤, refl};
+ghost use Rattle.std.proofs.Common.{refl};
 ghost use Rattle.std.specs.Prelude.{◌≡◌, ◌+◌, ◌≤◌, ◌*◌, [], None};
 ghost use Rattle.openapi_tables.specs.Kind.{array_type, by, object_type};
 ghost use Rattle.openapi_tables.proofs.SlotWriting.{final_apart};
@@ -116,8 +116,6 @@ impl FromNode for ObjectType {
         read_record(alloc, view, steps)
     }
 
-    ghost few = { lit≤ tt };
-
     ghost well_made = { refl };
 }
 
@@ -172,8 +170,6 @@ impl FromNode for ArrayType {
     fn from_view(alloc: Global, view: &View<'_>, steps: &mut Steps) -> Result<ArrayType, Fault> {
         read_record(alloc, view, steps)
     }
-
-    ghost few = { lit≤ tt };
 
     ghost well_made = { refl };
 }

@@ -1,5 +1,5 @@
 //! The types of this crate that hold schemas, read from trees.
-ghost use Rattle.std.proofs.Common.{lit≤, refl};
+ghost use Rattle.std.proofs.Common.{refl};
 ghost use Rattle.std.specs.Prelude.{◌≡◌, ◌+◌, ◌*◌, ◌≤◌, true};
 ghost use Rattle.openapi_node.specs.Tree.{size_of};
 ghost use Rattle.openapi_tables.specs.Kind as kinds;
@@ -46,14 +46,10 @@ impl FromNode for Schema {
         }
     }
 
-    ghost few = { lit≤ tt };
-
     ghost well_made = { refl };
 }
 
 impl Referable for Schema {
-    ghost direct = { refl };
-
     ghost spares_ref = { refl };
 }
 
@@ -70,8 +66,6 @@ impl FromNode for SchemaKind {
         }
     }
 
-    ghost few = { lit≤ tt };
-
     ghost well_made = { refl };
 }
 
@@ -87,8 +81,6 @@ impl FromNode for AdditionalProperties {
     ) -> Result<AdditionalProperties, Fault> {
         read_additional_in(alloc, view, steps)
     }
-
-    ghost few = { lit≤ tt };
 
     ghost well_made = { refl };
 }

@@ -1,5 +1,5 @@
 //! The type of a schema by itself, told by its `type`.
-ghost use Rattle.std.proofs.Common.{lit≤, refl};
+ghost use Rattle.std.proofs.Common.{refl};
 ghost use Rattle.std.specs.Prelude.{◌≡◌, ◌+◌, ◌≤◌, ◌*◌, IfOk};
 ghost use Rattle.openapi_node.specs.Tree.{members_of};
 ghost use Rattle.openapi_tables.specs.ByRow.{rows_weight};
@@ -74,8 +74,6 @@ impl FromNode for SchemaType {
             Err(fault) => Err(fault),
         }
     }
-
-    ghost few = { lit≤ tt };
 
     ghost well_made = { schema_type_sound };
 }

@@ -1,5 +1,5 @@
 //! The OAuth Flow Object: the flow by an authorization code.
-ghost use Rattle.std.proofs.Common.{lit≤, refl};
+ghost use Rattle.std.proofs.Common.{refl};
 ghost use Rattle.std.specs.Prelude.{◌≡◌, ◌+◌, ◌≤◌, ◌*◌, true, false};
 ghost use Rattle.openapi_tables.specs.Kind.{by, authorization_code_flow};
 ghost use Rattle.openapi_tables.proofs.SlotWriting.{final_apart};
@@ -85,8 +85,6 @@ impl FromNode for AuthorizationCodeOAuth2Flow {
     ) -> Result<AuthorizationCodeOAuth2Flow, Fault> {
         read_record(alloc, view, steps)
     }
-
-    ghost few = { lit≤ tt };
 
     ghost well_made = { refl };
 }

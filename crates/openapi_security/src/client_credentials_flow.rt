@@ -1,5 +1,5 @@
 //! The OAuth Flow Object: the flow by the credentials of the client.
-ghost use Rattle.std.proofs.Common.{lit≤, refl};
+ghost use Rattle.std.proofs.Common.{refl};
 ghost use Rattle.std.specs.Prelude.{◌≡◌, ◌+◌, ◌≤◌, ◌*◌, true, false};
 ghost use Rattle.openapi_tables.specs.Kind.{by, client_credentials_flow};
 ghost use Rattle.openapi_tables.proofs.SlotWriting.{final_apart};
@@ -75,8 +75,6 @@ impl FromNode for ClientCredentialsOAuth2Flow {
     ) -> Result<ClientCredentialsOAuth2Flow, Fault> {
         read_record(alloc, view, steps)
     }
-
-    ghost few = { lit≤ tt };
 
     ghost well_made = { refl };
 }

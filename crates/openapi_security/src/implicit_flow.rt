@@ -1,5 +1,5 @@
 //! The OAuth Flow Object: the implicit flow.
-ghost use Rattle.std.proofs.Common.{lit≤, refl};
+ghost use Rattle.std.proofs.Common.{refl};
 ghost use Rattle.std.specs.Prelude.{◌≡◌, ◌+◌, ◌≤◌, ◌*◌, true, false};
 ghost use Rattle.openapi_tables.specs.Kind.{by, implicit_flow};
 ghost use Rattle.openapi_tables.proofs.SlotWriting.{final_apart};
@@ -81,8 +81,6 @@ impl FromNode for ImplicitOAuth2Flow {
     ) -> Result<ImplicitOAuth2Flow, Fault> {
         read_record(alloc, view, steps)
     }
-
-    ghost few = { lit≤ tt };
 
     ghost well_made = { refl };
 }

@@ -1,5 +1,5 @@
 //! The OAuth Flows Object.
-ghost use Rattle.std.proofs.Common.{lit≤, refl};
+ghost use Rattle.std.proofs.Common.{refl};
 ghost use Rattle.std.specs.Prelude.{◌≡◌, ◌+◌, ◌≤◌, ◌*◌, true, false, [], None};
 ghost use Rattle.openapi_tables.specs.Kind.{by, oauth2_flows};
 ghost use Rattle.openapi_tables.proofs.SlotWriting.{final_apart};
@@ -110,8 +110,6 @@ impl FromNode for OAuth2Flows {
     fn from_view(alloc: Global, view: &View<'_>, steps: &mut Steps) -> Result<OAuth2Flows, Fault> {
         read_record(alloc, view, steps)
     }
-
-    ghost few = { lit≤ tt };
 
     ghost well_made = { refl };
 }

@@ -1,5 +1,5 @@
 //! The OAuth Flow Object: the flow by the password of the owner.
-ghost use Rattle.std.proofs.Common.{lit≤, refl};
+ghost use Rattle.std.proofs.Common.{refl};
 ghost use Rattle.std.specs.Prelude.{◌≡◌, ◌+◌, ◌≤◌, ◌*◌, true, false};
 ghost use Rattle.openapi_tables.specs.Kind.{by, password_flow};
 ghost use Rattle.openapi_tables.proofs.SlotWriting.{final_apart};
@@ -75,8 +75,6 @@ impl FromNode for PasswordOAuth2Flow {
     ) -> Result<PasswordOAuth2Flow, Fault> {
         read_record(alloc, view, steps)
     }
-
-    ghost few = { lit≤ tt };
 
     ghost well_made = { refl };
 }

@@ -1,5 +1,5 @@
 //! The Security Scheme Object.
-ghost use Rattle.std.proofs.Common.{lit≤, refl};
+ghost use Rattle.std.proofs.Common.{refl};
 ghost use Rattle.std.specs.Prelude.{◌≡◌, ◌+◌, ◌≤◌, ◌*◌, true, false, [], codes, IfOk, OnOk, IfErr};
 ghost use Rattle.openapi_node.specs.Tree.{members_of, size_of};
 ghost use Rattle.openapi_node.specs.View.{shown};
@@ -263,8 +263,6 @@ impl FromNode for SecurityScheme {
         }
     }
 
-    ghost few = { lit≤ tt };
-
     ghost well_made = { security_scheme_sound };
 }
 
@@ -349,8 +347,6 @@ impl ToNode for SecurityScheme {
 }
 
 impl Referable for SecurityScheme {
-    ghost direct = { refl };
-
     ghost spares_ref = { security_scheme_spares };
 }
 

@@ -3,6 +3,7 @@ use Rattle.openapi_node.specs.Tree.{members_of}
 use Rattle.openapi_node.specs.View.{shown}
 use Rattle.openapi_tables.specs.Kind.{any_tree, optional}
 use Rattle.openapi_rows.specs.Gives.{GivesMember}
+use Rattle.openapi_rows.proofs.Looks.{few_looks}
 use Rattle.openapi_rows.proofs.Present.{at_member}
 use Rattle.openapi_rows.proofs.RowReading.{weight_of_name}
 use Rattle.openapi_rows.proofs.rows.present.Goals as goal
@@ -36,6 +37,6 @@ returns-in-Some-clause-count g c =
       c.in-Some.ensures.counted,
       c.in-Some.ensures.weighs,
       c.from_view.ensures.count,
-      g.met.T.FromNode.few,
+      few_looks g.T.FromNode.kind g.met.T.FromNode.well_made,
       weight_of_name c.args.name.now optional optional g.T.FromNode.kind any_tree (members_of c.args.members.now),
     )

@@ -17,7 +17,7 @@ use openapi_node::{Fault, Node, OrderedMap, Steps, View};
 use openapi_operations::Paths;
 use openapi_records::{Info, Server, Tag};
 use openapi_rows::{
-    FromNode, Object, Record, ToNode, extensions, optional, or_implied, put_extensions,
+    FromNode, IntoNode, Object, Record, ToNode, extensions, optional, or_implied, put_extensions,
     put_implied, put_optional, put_required, read_record, required, write_record,
 };
 use openapi_security::SecurityRequirement;
@@ -178,3 +178,6 @@ impl ToNode for OpenAPI {
 
     ghost there = { λ x. refl };
 }
+
+/// A document is written and then let go of: nothing of it is moved.
+impl IntoNode for OpenAPI {}

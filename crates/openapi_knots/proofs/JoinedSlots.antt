@@ -3,8 +3,21 @@ use Rattle.std.proofs.Common.{◌≡◌, ℕ, zero, suc, Bool, true, false, ◌&
 use Rattle.std.proofs.Common.{Some, slice_get, refl, sym, ap, ◌∙◌, subst}
 use Rattle.std.proofs.lemmas.Bool.{and_parts}
 use Rattle.openapi_map.specs.Entries.{Entries}
+use Rattle.openapi_node.specs.Fault.{place_of}
 use Rattle.openapi_node.specs.Place.{Place}
 use Rattle.openapi_node.specs.Tree.{Tree}
+use Rattle.openapi_node.specs.declared.fault.Cause.{Cause}
+use Rattle.openapi_node.specs.declared.fault.Cause.TheVariants.{
+  Missing,
+  MissingEither,
+  WrongKind,
+  NotAllowed,
+  UnknownVariant,
+  NameNotWritable,
+  NotWhole,
+  Memory,
+}
+use Rattle.openapi_node.specs.declared.fault.Fault.{Fault}
 use Rattle.openapi_tables.specs.Lists.{join, every}
 use Rattle.openapi_tables.specs.Kind.{Row, takes}
 use Rattle.openapi_tables.specs.Sound.{apart}
@@ -15,6 +28,7 @@ use Rattle.openapi_tables.proofs.ByRowLaws.{among_left, among_right}
 use Rattle.openapi_tables.proofs.RowLaws.{apart_back}
 use Rattle.openapi_tables.proofs.SlotLists.{all_taken-append, all_taken-first, get_none, or_true}
 use Rattle.openapi_tables.proofs.SlotLists.{slots_lost-join, slots_print-join, untied-join}
+use Rattle.openapi_rows.specs.Gives.{Loses, LosesBy}
 use Rattle.openapi_knots.specs.Writing.{AreNew}
 
 -- what the second of two lists of slots takes both take
@@ -56,6 +70,20 @@ pub loses_second : (xs ys : List Slot) (q : Place) → Among q (slots_lost final
 loses_second xs ys q h =
     subst (λ ps. Among q ps) (sym (slots_lost-join final_tables xs ys))
     (among_right q (slots_lost final_tables xs) (slots_lost final_tables ys) h)
+
+-- a refusal of a part is one of the whole
+pub loses_wider : (f : Fault) (ps qs : List Place) → ((q : Place) → Among q ps → Among q qs) → Loses f ps → Loses f qs
+loses_wider f ps qs wider h = go f.cause h
+  where
+    go : (c : Cause) → LosesBy c (place_of f) ps → LosesBy c (place_of f) qs
+    go (Missing n) h = h
+    go (MissingEither n m) h = h
+    go (WrongKind w) h = h
+    go NotAllowed h = h
+    go UnknownVariant h = h
+    go NameNotWritable h = wider (place_of f) h
+    go NotWhole h = h
+    go Memory h = h
 
 -- a row that is apart from slots takes no name that they take
 untaken : (w : Row) (ys : List Slot) (n : List ℕ) → every (λ (y : Slot). apart w y.0) ys ≡ true → taken ys n ≡ true

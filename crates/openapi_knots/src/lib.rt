@@ -1,7 +1,7 @@
 #![tactic(auto)]
-//! The tools of a circle: of types that hold one another, whose readers and writers call each other. The functions of a
-//! circle have no type parameters. These stand outside it, and serve every circle: members that are put row by row, by
-//! what was written of their values, values that are put into boxes, and objects and maps that are read entry by entry.
+//! The tools of a circle: of types that hold one another, whose readers and writers call each other. These stand outside
+//! it, and serve every circle: members that are put row by row, by what was written of their values, values that are put
+//! into boxes, and objects and maps that are read entry by entry.
 mod boxes;
 mod members;
 mod objects;

@@ -16,7 +16,7 @@ use Rattle.openapi_rows.specs.Forms.{record_slots}
 use Rattle.openapi_rows.specs.Gives.{Loses}
 use Rattle.openapi_knots.specs.Writing.{AreNew, RowsWritten}
 use Rattle.openapi_knots.proofs.JoinedSlots.{loses_first, loses_second, new_behind, written_behind}
-use Rattle.openapi_schema.proofs.WholeSchemas.{loses_wider}
+use Rattle.openapi_knots.proofs.JoinedSlots.{loses_wider}
 use Rattle.openapi_parameters.specs.Parameters.{data_of_parameter, parameter_data_rows, parameter_slots}
 use Rattle.openapi_parameters.specs.Parameters.{parameter_word, shared_slots}
 use Rattle.openapi_parameters.specs.declared.parameter.Parameter.{Parameter}

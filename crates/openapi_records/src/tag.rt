@@ -1,15 +1,21 @@
 //! The Tag Object.
-ghost use Rattle.std.proofs.Common.{lit≤, refl};
-ghost use Rattle.std.specs.Prelude.{◌≡◌, ◌+◌, ◌≤◌, ◌*◌, true, false, [], None, string_bytes};
+ghost use Rattle.std.proofs.Common.{refl};
+ghost use Rattle.std.specs.Prelude.{◌≡◌, ◌+◌, ◌≤◌, ◌*◌, true, false, [], None, string_bytes, OnOk, IfErr};
+ghost use Rattle.openapi_tables.specs.ByRow.{is_class};
+ghost use Rattle.openapi_tables.specs.Kind as kinds;
 ghost use Rattle.openapi_tables.specs.Kind.{by, tag};
+ghost use Rattle.openapi_tables.specs.Slots.{before, slots_lost, IsWritten};
+ghost use Rattle.openapi_tables.specs.Tables.{final_tables};
 ghost use Rattle.openapi_tables.proofs.SlotWriting.{final_apart};
 ghost use Rattle.openapi_rows.specs.Forms.{record_form, record_slots};
+ghost use Rattle.openapi_rows.specs.Gives.{Loses};
 ghost use Rattle.openapi_records.specs.Objects.{tag_rows};
 
+use crate::moved::move_extensions;
 use openapi_annotations::ExternalDocumentation;
 use openapi_node::{Fault, Node, OrderedMap, Steps, View};
 use openapi_rows::{
-    FromNode, Object, Record, ToNode, extensions, optional, put_extensions, put_optional,
+    FromNode, IntoNode, Object, Record, ToNode, extensions, optional, put_extensions, put_optional,
     put_required, read_record, required, write_record,
 };
 use std::alloc::Global;
@@ -44,6 +50,28 @@ impl Tag {
     }
 }
 
+#[tactic(auto, unfolding(openapi_tables::specs::Tables::final_tables, openapi_tables::specs::Tables::tables_with))]
+impl Tag {
+    /// Writes the rows but for the extensions into an object that has no members yet.
+    fn put_named(&self, alloc: Global, out: &mut OrderedMap<Node>) -> Result<(), Fault>
+        requires { IsWritten final_tables [] out.old }
+        ensures ok { OnOk result (IsWritten final_tables
+            (before (is_class kinds.extensions) (record_slots tag tag_rows self.now)) out.new) }
+        ensures err { IfErr result (λ f. Loses f (slots_lost final_tables (record_slots tag tag_rows self.now))) }
+    {
+        put_required(alloc, self, out, "name", &self.name)?;
+        put_optional(alloc, self, out, "description", &self.description)?;
+        put_optional(alloc, self, out, "externalDocs", &self.external_docs)
+    }
+
+    /// The extensions, taken out of the tag.
+    fn into_extensions(self) -> OrderedMap<Node>
+        ensures { result ≡ self.extensions }
+    {
+        self.extensions
+    }
+}
+
 impl Object for Tag {
     ghost object = { by tag };
 
@@ -70,9 +98,7 @@ impl Record for Tag {
     }
 
     fn put_rows(&self, alloc: Global, out: &mut OrderedMap<Node>) -> Result<(), Fault> {
-        put_required(alloc, self, out, "name", &self.name)?;
-        put_optional(alloc, self, out, "description", &self.description)?;
-        put_optional(alloc, self, out, "externalDocs", &self.external_docs)?;
+        self.put_named(alloc, out)?;
         put_extensions(alloc, self, out, &self.extensions)
     }
 
@@ -99,4 +125,18 @@ impl ToNode for Tag {
     }
 
     ghost there = { λ x. refl };
+}
+
+/// The extensions of a tag are moved.
+impl IntoNode for Tag {
+    fn into_node(self, alloc: Global) -> Result<Node, Fault> {
+        let mut out = OrderedMap::new(alloc);
+        match self.put_named(alloc, &mut out) {
+            Ok(()) => match move_extensions(alloc, &mut out, self.into_extensions()) {
+                Ok(()) => Ok(Node::object(out)),
+                Err(fault) => Err(fault),
+            },
+            Err(fault) => Err(fault),
+        }
+    }
 }

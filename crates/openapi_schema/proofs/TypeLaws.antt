@@ -56,7 +56,7 @@ use Rattle.openapi_schema.specs.declared.schema.AdditionalProperties.TheFolds.{f
 use Rattle.openapi_schema.specs.declared.schema.AdditionalProperties.TheOpen.{SchemaType-F}
 use Rattle.openapi_schema.specs.declared.schema.SchemaType.{SchemaType, out-SchemaType}
 use Rattle.openapi_schema.proofs.TaggedRows.{rows_new, tag_new, tagged_rows}
-use Rattle.openapi_schema.proofs.WholeSchemas.{loses_wider}
+use Rattle.openapi_knots.proofs.JoinedSlots.{loses_wider}
 use Rattle.openapi_schema.proofs.WrittenForms.{untagged_loses}
 
 -- a sort is that of a type, and its slots are those of the tag and of its table

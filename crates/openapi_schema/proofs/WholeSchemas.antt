@@ -2,20 +2,8 @@
 use Rattle.std.proofs.Common.{◌≡◌, ℕ, true, List, [], ◌++◌, Option, refl, sym, ap, ◌∙◌, subst}
 use Rattle.std.proofs.lemmas.Bool.{and_parts}
 use Rattle.openapi_map.specs.Entries.{Entries}
-use Rattle.openapi_node.specs.Fault.{place_of}
 use Rattle.openapi_node.specs.Place.{Place}
 use Rattle.openapi_node.specs.Tree.{Tree, object, members_of}
-use Rattle.openapi_node.specs.declared.fault.Cause.{Cause}
-use Rattle.openapi_node.specs.declared.fault.Cause.TheVariants.{
-  Missing,
-  MissingEither,
-  WrongKind,
-  NotAllowed,
-  UnknownVariant,
-  NameNotWritable,
-  NotWhole,
-  Memory,
-}
 use Rattle.openapi_node.specs.declared.fault.Fault.{Fault}
 use Rattle.openapi_tables.specs.Lists.{join, every}
 use Rattle.openapi_tables.specs.Tree.{members_of as of_list}
@@ -33,29 +21,15 @@ use Rattle.openapi_tables.proofs.ObjectBack.{schema_sound}
 use Rattle.openapi_tables.proofs.SlotLists.{members_untied, slots_apart-rows, slots_lost-rows, slots_print-rows}
 use Rattle.openapi_tables.proofs.WellMade.{final_sound}
 use Rattle.openapi_rows.specs.Forms.{record_slots}
-use Rattle.openapi_rows.specs.Gives.{Loses, LosesBy}
+use Rattle.openapi_rows.specs.Gives.{Loses}
 use Rattle.openapi_schema.specs.SchemaForms.{schema_data_rows, schema_form, schema_kind_rows}
 use Rattle.openapi_knots.specs.Writing.{AreNew}
 use Rattle.openapi_schema.specs.Writing.{kind_slots, tag_members, tag_slots, untagged}
 use Rattle.openapi_schema.specs.declared.schema.Schema.{Schema, out-Schema}
 use Rattle.openapi_parts.specs.declared.schema_data.SchemaData.{SchemaData}
-use Rattle.openapi_knots.proofs.JoinedSlots.{loses_first, written_behind}
+use Rattle.openapi_knots.proofs.JoinedSlots.{loses_first, loses_wider, written_behind}
 use Rattle.openapi_schema.proofs.TaggedRows.{rows_new, tag_new, tagged_rows}
 use Rattle.openapi_schema.proofs.OpenedForms.{schema_form-out}
-
--- a refusal of a part is one of the whole
-pub loses_wider : (f : Fault) (ps qs : List Place) → ((q : Place) → Among q ps → Among q qs) → Loses f ps → Loses f qs
-loses_wider f ps qs wider h = go f.cause h
-  where
-    go : (c : Cause) → LosesBy c (place_of f) ps → LosesBy c (place_of f) qs
-    go (Missing n) h = h
-    go (MissingEither n m) h = h
-    go (WrongKind w) h = h
-    go NotAllowed h = h
-    go UnknownVariant h = h
-    go NameNotWritable h = wider (place_of f) h
-    go NotWhole h = h
-    go Memory h = h
 
 -- an object by its sort is written as the slots of its rows, and loses what they lose
 pub schema_print : (c : Choice) (fs : List Form) → print final_tables a_schema (fields c (forms_of fs))

@@ -26,9 +26,9 @@ use Rattle.openapi_knots.specs.Writing.{AreNew}
 use Rattle.openapi_schema.specs.Writing.{kind_slots, tag_members, tag_slots, untagged, untagged_from}
 use Rattle.openapi_schema.specs.declared.schema.Schema.{Schema}
 use Rattle.openapi_schema.specs.declared.schema.SchemaKind.{SchemaKind}
-use Rattle.openapi_knots.proofs.JoinedSlots.{loses_second}
+use Rattle.openapi_knots.proofs.JoinedSlots.{loses_second, loses_wider}
 use Rattle.openapi_schema.proofs.TaggedRows.{rows_new, tag_new, tagged_rows}
-use Rattle.openapi_schema.proofs.WholeSchemas.{first, second, its_lost, kind_lost, kind_print, loses_wider}
+use Rattle.openapi_schema.proofs.WholeSchemas.{first, second, its_lost, kind_lost, kind_print}
 
 -- what slots lose without a `type` they lose with it
 row_loses : (w : Row) (s : Slot) (ss : List Slot) (q : Place) → s.0 ≡ w

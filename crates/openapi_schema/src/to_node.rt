@@ -6,7 +6,7 @@ use crate::members::whole_kind;
 use crate::schema::{AdditionalProperties, Schema, SchemaKind};
 use crate::write::{additional_to_node, kind_rows, write_schema};
 use openapi_node::{Fault, Node};
-use openapi_rows::ToNode;
+use openapi_rows::{IntoNode, ToNode};
 use std::alloc::Global;
 
 impl ToNode for Schema {
@@ -16,6 +16,9 @@ impl ToNode for Schema {
 
     ghost there = { schema_there };
 }
+
+/// A schema is written and then let go of: nothing of it is moved.
+impl IntoNode for Schema {}
 
 /// The kind of a schema by itself, with no member that every kind of schema can have.
 impl ToNode for SchemaKind {

@@ -1,6 +1,6 @@
 use Rattle.openapi_tables.specs.Kind as kinds
-use Rattle.openapi_owned.proofs.Moving.{all_new}
-use Rattle.openapi_owned.proofs.moved.move_extensions.Goals as goal
+use Rattle.openapi_records.proofs.Moving.{all_new}
+use Rattle.openapi_records.proofs.moved.move_extensions.Goals as goal
 
 pub append-requires : goal.append-requires
 append-requires c =

@@ -4,7 +4,7 @@ use Rattle.openapi_tables.specs.Form.{leaf}
 use Rattle.openapi_tables.specs.Kind as kinds
 use Rattle.openapi_tables.specs.Lists.{every}
 use Rattle.openapi_rows.proofs.Written.{next_named, name_loses}
-use Rattle.openapi_owned.proofs.moved.check_names.Goals as goal
+use Rattle.openapi_records.proofs.moved.check_names.Goals as goal
 
 pub returns-then-not-contains-clause-err : goal.returns-then-not-contains-clause-err
 returns-then-not-contains-clause-err c =

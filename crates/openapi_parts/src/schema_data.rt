@@ -9,7 +9,7 @@ ghost use Rattle.openapi_parts.specs.PartForms.{schema_data_rows};
 use openapi_annotations::{Discriminator, ExternalDocumentation, Xml};
 use openapi_node::{Fault, Node, OrderedMap, Steps, View};
 use openapi_rows::{
-    FromNode, Object, Record, ToNode, extensions, optional, or_implied, put_extensions,
+    FromNode, Object, Record, ToNode, extensions, join, optional, or_implied, put_extensions,
     put_implied, put_optional, read_record, write_record,
 };
 use std::alloc::Global;
@@ -94,19 +94,38 @@ impl Record for SchemaData {
         members: &OrderedMap<Node>,
         steps: &mut Steps,
     ) -> Result<SchemaData, Fault> {
+        let nullable = or_implied::<Self, _>(alloc, members, "nullable", steps)?;
+        let read_only = or_implied::<Self, _>(alloc, members, "readOnly", steps)?;
+        let write_only = or_implied::<Self, _>(alloc, members, "writeOnly", steps)?;
+        let deprecated = or_implied::<Self, _>(alloc, members, "deprecated", steps)?;
+        let docs = optional::<Self, _>(alloc, members, "externalDocs", steps);
+        let shown = join(docs, optional::<Self, _>(alloc, members, "example", steps));
+        let title = optional::<Self, _>(alloc, members, "title", steps);
+        let texts = join(
+            title,
+            optional::<Self, _>(alloc, members, "description", steps),
+        );
+        let told = optional::<Self, _>(alloc, members, "discriminator", steps);
+        let assumed = join(told, optional::<Self, _>(alloc, members, "default", steps));
+        let xml = optional::<Self, _>(alloc, members, "xml", steps);
+        let rest = join(xml, extensions::<Self>(alloc, members, steps));
+        let (
+            ((external_docs, example), (title, description)),
+            ((discriminator, default), (xml, extensions)),
+        ) = join(join(shown, texts), join(assumed, rest))?;
         Ok(SchemaData {
-            nullable: or_implied::<Self, _>(alloc, members, "nullable", steps)?,
-            read_only: or_implied::<Self, _>(alloc, members, "readOnly", steps)?,
-            write_only: or_implied::<Self, _>(alloc, members, "writeOnly", steps)?,
-            deprecated: or_implied::<Self, _>(alloc, members, "deprecated", steps)?,
-            external_docs: optional::<Self, _>(alloc, members, "externalDocs", steps)?,
-            example: optional::<Self, _>(alloc, members, "example", steps)?,
-            title: optional::<Self, _>(alloc, members, "title", steps)?,
-            description: optional::<Self, _>(alloc, members, "description", steps)?,
-            discriminator: optional::<Self, _>(alloc, members, "discriminator", steps)?,
-            default: optional::<Self, _>(alloc, members, "default", steps)?,
-            xml: optional::<Self, _>(alloc, members, "xml", steps)?,
-            extensions: extensions::<Self>(alloc, members, steps)?,
+            nullable,
+            read_only,
+            write_only,
+            deprecated,
+            external_docs,
+            example,
+            title,
+            description,
+            discriminator,
+            default,
+            xml,
+            extensions,
         })
     }
 

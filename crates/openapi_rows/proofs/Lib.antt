@@ -15,3 +15,4 @@ pub mod Spared
 pub mod OrNull
 pub mod Present
 pub mod Looks
+pub mod Joining

@@ -4,3 +4,4 @@ pub mod Entries
 pub mod References
 pub mod Presence
 pub mod Decided
+pub mod Joined

@@ -12,7 +12,7 @@ use crate::implicit_flow::ImplicitOAuth2Flow;
 use crate::password_flow::PasswordOAuth2Flow;
 use openapi_node::{Fault, Node, OrderedMap, Steps, View};
 use openapi_rows::{
-    FromNode, Object, Record, ToNode, extensions, optional, put_extensions, put_optional,
+    FromNode, Object, Record, ToNode, extensions, join, optional, put_extensions, put_optional,
     read_record, write_record,
 };
 use std::alloc::Global;
@@ -68,12 +68,21 @@ impl Record for OAuth2Flows {
         members: &OrderedMap<Node>,
         steps: &mut Steps,
     ) -> Result<OAuth2Flows, Fault> {
+        let implicit = optional::<Self, _>(alloc, members, "implicit", steps);
+        let password = optional::<Self, _>(alloc, members, "password", steps);
+        let client = optional::<Self, _>(alloc, members, "clientCredentials", steps);
+        let code = optional::<Self, _>(alloc, members, "authorizationCode", steps);
+        let flows = join(join(implicit, password), join(client, code));
+        let (((implicit, password), (client_credentials, authorization_code)), extensions) = join(
+            flows,
+            extensions::<Self>(alloc, members, steps),
+        )?;
         Ok(OAuth2Flows {
-            implicit: optional::<Self, _>(alloc, members, "implicit", steps)?,
-            password: optional::<Self, _>(alloc, members, "password", steps)?,
-            client_credentials: optional::<Self, _>(alloc, members, "clientCredentials", steps)?,
-            authorization_code: optional::<Self, _>(alloc, members, "authorizationCode", steps)?,
-            extensions: extensions::<Self>(alloc, members, steps)?,
+            implicit,
+            password,
+            client_credentials,
+            authorization_code,
+            extensions,
         })
     }
 

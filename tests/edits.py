@@ -274,10 +274,33 @@ def record(kit, refused):
     os.replace(f"{VERDICTS}.new", VERDICTS)
 
 
+def pairs_of(lines):
+    """Returns the texts that an edit replaces, each with what takes its place."""
+    pairs = [it for it in lines if it.startswith(("old: ", "new:"))]
+    return [(old.removeprefix("old: "), new.removeprefix("new:").removeprefix(" ")) for old, new in zip(pairs[::2], pairs[1::2])]
+
+
+def stands(edit, files):
+    """Returns whether each text that the edit replaces stands once in its file, when those before it are replaced."""
+    with open(edit, encoding="utf-8") as it:
+        parts = re.split(r"(?m)^file: ", it.read())[1:]
+    for part in parts:
+        file, *lines = part.split("\n")
+        text = files.get(file.strip(), "")
+        for old, new in pairs_of(lines):
+            if text.count(old) != 1:
+                return False
+            text = text.replace(old, new)
+    return bool(parts)
+
+
 def due_of(crate, found):
-    """Returns the edits of the crate, and those that are to be tried, since these verdicts are not on the text that stands."""
-    hashes = Sources(crate).hashes()
-    return [*hashes], [it for it in hashes if found.get(it) != hashes[it]]
+    """Returns the edits of the crate, and those that are to be tried, since these verdicts are not on the text that stands, or
+    since the edit itself does not fit it any more."""
+    sources = Sources(crate)
+    hashes = sources.hashes()
+    fit = {name_of(it): stands(it, sources.files) for it in edits_of(crate)}
+    return [*hashes], [it for it in hashes if found.get(it) != hashes[it] or not fit[it]]
 
 
 def compare():
@@ -348,9 +371,7 @@ def function_of(edit, sources):
     text = sources.files.get(file, "")
     if not file.startswith("src/") or sum(it.startswith("file: ") for it in lines) > 1:
         return None
-    pairs = [it for it in lines if it.startswith(("old: ", "new:"))]
-    for old, new in zip(pairs[::2], pairs[1::2]):
-        old, new = old.removeprefix("old: "), new.removeprefix("new:").removeprefix(" ")
+    for old, new in pairs_of(lines):
         if text.count(old) != 1:
             return None
         found.add(sources.function_at(file, text[: text.index(old)].count("\n") + 1))

@@ -9,7 +9,7 @@ use crate::sorts::{operations, sort};
 use crate::table::{expected_of, full_object, other_objects};
 use crate::taken::taken;
 use crate::types::of_type;
-use openapi_checks::trees::tree;
+use openapi_test_support::trees::tree;
 use openapiv3::{Fault, Node, Settle, Steps, ToNode, json_from_node, node_from_json};
 use std::test::Fail;
 

@@ -4,7 +4,7 @@ use crate::marks::{Moment, mark};
 use crate::samples::Sample;
 use crate::told::{Told, told_by_growth};
 use crate::{nodes, typed};
-use openapi_checks::trees::tree;
+use openapi_test_support::trees::tree;
 use openapiv3::{Node, OpenAPI, Operation, OrderedMap, ReferenceOr, Responses, Schema, Tag};
 use std::alloc::Global;
 use std::test::Fail;

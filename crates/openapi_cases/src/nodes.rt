@@ -2,7 +2,7 @@
 
 use crate::marks::{Moment, mark};
 use crate::told::{Told, told_by, told_by_growth, told_by_value};
-use openapi_checks::trees::tree;
+use openapi_test_support::trees::tree;
 use openapiv3::{JsonFault, Node, Steps};
 use serde_json::Value;
 use std::alloc::AllocError;

@@ -3,7 +3,7 @@
 use crate::marks::{Moment, mark};
 use crate::samples::Sample;
 use crate::told::{Told, told_by, told_by_fault, told_by_value};
-use openapi_checks::trees::{fault_text, tree};
+use openapi_test_support::trees::{fault_text, tree};
 use openapiv3::{Fault, FromNode, IntoNode, Node, Settle, Steps, ToNode};
 use std::test::Fail;
 

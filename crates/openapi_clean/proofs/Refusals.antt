@@ -15,7 +15,7 @@ use Rattle.openapi_node.specs.declared.fault.Cause.TheVariants.{
 use Rattle.openapi_tables.specs.Kind.{Kind}
 use Rattle.openapi_tables.specs.Tables.{final_tables}
 use Rattle.openapi_tables.specs.Conforms.{conforms}
-use Rattle.openapi_rows.specs.Gives.{RefusesBy}
+use Rattle.openapi_fields.specs.Returned.{RefusesBy}
 
 pub not_conforming : (k : Kind) (t : Tree) (c : Cause) → c ≢ Memory → RefusesBy c k t
     → conforms final_tables k t ≡ false

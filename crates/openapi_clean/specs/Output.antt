@@ -16,8 +16,8 @@ use Rattle.openapi_tables.specs.Read.{form}
 use Rattle.openapi_tables.specs.Tables.{final_tables}
 use Rattle.openapi_tables.specs.Conforms.{conforms}
 use Rattle.openapi_tables.specs.Print.{clean}
-use Rattle.openapi_rows.specs.Gives.{Fails}
-use Rattle.openapi_settle.specs.Settled.{settled}
+use Rattle.openapi_fields.specs.Returned.{Fails}
+use Rattle.openapi_fields.specs.Settled.{settled}
 use Rattle.openapi_clean.specs.Commands.{kind_of}
 use Rattle.openapi_clean.specs.declared.command.Command.{Command}
 use Rattle.openapi_clean.specs.declared.command.Command.TheVariants.{Tag, Schema, Document, Settle, Operations}

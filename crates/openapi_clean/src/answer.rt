@@ -5,7 +5,7 @@ ghost use Rattle.std.specs.Prelude.{◌≡◌, ◌≢◌, ◌⊎◌, ◌++◌, �
 ghost use Rattle.openapi_clean.specs.Commands.{kind_of};
 ghost use Rattle.openapi_clean.specs.Output.{IsAnswer, IsJsonOf, IsLineOf, IsNoJson, IsRefusalOf, HoldsFraction};
 ghost use Rattle.openapi_clean.specs.Output.{Explains, line_of, lines_of, operation_line};
-ghost use Rattle.openapi_settle.specs.Settled.{settled};
+ghost use Rattle.openapi_fields.specs.Settled.{settled};
 ghost use Rattle.openapi_tables.specs.Conforms.{conforms};
 ghost use Rattle.openapi_tables.specs.Kind.{by, open_api};
 ghost use Rattle.openapi_tables.specs.Operations.{ops};
@@ -16,12 +16,11 @@ ghost use Rattle.openapi_tables.specs.Tables.{final_tables};
 use crate::command::Command;
 use crate::fault::RunFault;
 use openapi_documents::OpenAPI;
+use openapi_fields::{FromNode, IntoNode, Settle, ToNode};
 use openapi_json::{json_from_node, node_from_json};
+use openapi_metadata::Tag;
 use openapi_node::{Cause, Fault, Node, Steps};
-use openapi_records::Tag;
-use openapi_rows::{FromNode, IntoNode, ToNode};
 use openapi_schema::Schema;
-use openapi_settle::Settle;
 use std::alloc::Global;
 
 /// The text that answers the bytes.

@@ -9,7 +9,7 @@ use Rattle.openapi_tables.specs.Print.{print, clean}
 use Rattle.openapi_tables.specs.Stays.{stays}
 use Rattle.openapi_tables.specs.Tables.{final_tables}
 use Rattle.openapi_tables.specs.Unwritable.{unwritable}
-use Rattle.openapi_rows.specs.Gives.{Reads}
+use Rattle.openapi_fields.specs.Returned.{Reads}
 use Rattle.openapi_documents.specs.Documents.{document_form}
 use Rattle.openapi_documents.specs.declared.open_api.OpenAPI.{OpenAPI}
 

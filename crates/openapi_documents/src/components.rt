@@ -1,26 +1,21 @@
 //! The Components Object.
-ghost use Rattle.std.proofs.Common.{refl};
 ghost use Rattle.std.specs.Prelude.{◌≡◌, ◌+◌, ◌≤◌, ◌*◌, []};
 ghost use Rattle.openapi_node.specs.Tree.{members_of};
 ghost use Rattle.openapi_tables.specs.ByRow.{rows_weight};
 ghost use Rattle.openapi_tables.specs.Kind as kinds;
 ghost use Rattle.openapi_tables.specs.Kind.{by};
-ghost use Rattle.openapi_tables.proofs.SlotWriting.{final_apart};
-ghost use Rattle.openapi_rows.specs.Forms.{record_form, record_slots};
-ghost use Rattle.openapi_knots.specs.Reading.{GivesPart};
+ghost use Rattle.openapi_fields.specs.Returned.{RisesBy};
+ghost use Rattle.openapi_fields.specs.Reading.{PartReadAs};
 ghost use Rattle.openapi_documents.specs.Documents.{components_rows};
 ghost use Rattle.openapi_documents.specs.Parts.{first_forms, first_rows, last_forms, last_rows};
 
-use openapi_contents::Header;
-use openapi_messages::{RequestBody, Response};
-use openapi_node::{Fault, Node, OrderedMap, Steps, View};
+use openapi_fields::{Object, Record, extensions, or_implied, put_extensions, put_implied};
+use openapi_media_types::Header;
+use openapi_metadata::{Example, Link};
+use openapi_node::{Fault, Node, OrderedMap, Steps};
 use openapi_operations::Callback;
 use openapi_parameters::Parameter;
-use openapi_records::{Example, Link};
-use openapi_rows::{
-    FromNode, Object, Record, ToNode, extensions, or_implied, put_extensions, put_implied,
-    read_record, write_record,
-};
+use openapi_responses::{RequestBody, Response};
 use openapi_schema::Schema;
 use openapi_security::SecurityScheme;
 use openapi_values::ReferenceOr;
@@ -108,9 +103,8 @@ fn read_first(
     members: &OrderedMap<Node>,
     steps: &mut Steps,
 ) -> Result<FirstComponents, Fault>
-    ensures reads { GivesPart first_forms result (by kinds.components) first_rows (members_of members.now) }
-    ensures rises { steps.old ≤ steps.new }
-    ensures count { steps.new ≤ steps.old + 3 * rows_weight first_rows (members_of members.now) }
+    ensures reads { PartReadAs first_forms result (by kinds.components) first_rows (members_of members.now) }
+    ensures count { RisesBy steps.old steps.new (3 * rows_weight first_rows (members_of members.now)) }
 {
     Ok(FirstComponents {
         schemas: or_implied::<Components, _>(alloc, members, "schemas", steps)?,
@@ -128,9 +122,8 @@ fn read_last(
     members: &OrderedMap<Node>,
     steps: &mut Steps,
 ) -> Result<LastComponents, Fault>
-    ensures reads { GivesPart last_forms result (by kinds.components) last_rows (members_of members.now) }
-    ensures rises { steps.old ≤ steps.new }
-    ensures count { steps.new ≤ steps.old + 3 * rows_weight last_rows (members_of members.now) }
+    ensures reads { PartReadAs last_forms result (by kinds.components) last_rows (members_of members.now) }
+    ensures count { RisesBy steps.old steps.new (3 * rows_weight last_rows (members_of members.now)) }
 {
     Ok(LastComponents {
         headers: or_implied::<Components, _>(alloc, members, "headers", steps)?,
@@ -142,22 +135,18 @@ fn read_last(
 }
 
 impl Object for Components {
-    ghost object = { by kinds.components };
+    ghost table = { kinds.components };
 
-    ghost slots_of = { record_slots kinds.components components_rows };
-
-    ghost apart = { λ x. final_apart kinds.components (components_rows x) };
+    ghost rows_of = { components_rows };
 }
 
 #[tactic(auto, unfolding(openapi_tables::specs::Tables::final_tables, openapi_tables::specs::Tables::tables_with))]
 impl Record for Components {
-    ghost rows_of = { components_rows };
-
     fn from_members(
         alloc: Global,
         members: &OrderedMap<Node>,
         steps: &mut Steps,
-    ) -> Result<Components, Fault> {
+    ) -> Result<Self, Fault> {
         let first = read_first(alloc, members, steps)?;
         let last = read_last(alloc, members, steps)?;
         Ok(Components {
@@ -186,28 +175,4 @@ impl Record for Components {
         put_implied(alloc, self, out, "callbacks", &self.callbacks)?;
         put_extensions(alloc, self, out, &self.extensions)
     }
-
-    ghost by_table = { refl };
-
-    ghost by_rows = { λ x. refl };
-}
-
-impl FromNode for Components {
-    ghost kind = { by kinds.components };
-
-    ghost form_of = { record_form components_rows };
-
-    fn from_view(alloc: Global, view: &View<'_>, steps: &mut Steps) -> Result<Components, Fault> {
-        read_record(alloc, view, steps)
-    }
-
-    ghost well_made = { refl };
-}
-
-impl ToNode for Components {
-    fn to_node(&self, alloc: Global) -> Result<Node, Fault> {
-        write_record(alloc, self)
-    }
-
-    ghost there = { λ x. refl };
 }

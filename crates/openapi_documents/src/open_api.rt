@@ -1,25 +1,23 @@
 //! The OpenAPI Object.
-ghost use Rattle.std.proofs.Common.{refl};
 ghost use Rattle.std.specs.Prelude.{◌≡◌, ◌+◌, ◌≤◌, ◌*◌, [], None, string_bytes};
 ghost use Rattle.openapi_node.specs.Tree.{members_of};
 ghost use Rattle.openapi_tables.specs.ByRow.{rows_weight};
 ghost use Rattle.openapi_tables.specs.Kind as kinds;
 ghost use Rattle.openapi_tables.specs.Kind.{by};
-ghost use Rattle.openapi_tables.proofs.SlotWriting.{final_apart};
-ghost use Rattle.openapi_rows.specs.Forms.{record_form, record_slots};
-ghost use Rattle.openapi_knots.specs.Reading.{GivesPart};
+ghost use Rattle.openapi_fields.specs.Returned.{RisesBy};
+ghost use Rattle.openapi_fields.specs.Reading.{PartReadAs};
 ghost use Rattle.openapi_documents.specs.Documents.{open_api_rows};
 ghost use Rattle.openapi_documents.specs.Parts.{facts_forms, facts_rows};
 
 use crate::components::Components;
-use openapi_annotations::ExternalDocumentation;
-use openapi_node::{Fault, Node, OrderedMap, Steps, View};
-use openapi_operations::Paths;
-use openapi_records::{Info, Server, Tag};
-use openapi_rows::{
-    FromNode, IntoNode, Object, Record, ToNode, extensions, optional, or_implied, put_extensions,
-    put_implied, put_optional, put_required, read_record, required, write_record,
+use openapi_fields::{
+    IntoNode, Object, Record, extensions, optional, or_implied, put_extensions, put_implied,
+    put_optional, put_required, required,
 };
+use openapi_metadata::{Info, Server, Tag};
+use openapi_node::{Fault, Node, OrderedMap, Steps};
+use openapi_operations::Paths;
+use openapi_schema_annotations::ExternalDocumentation;
 use openapi_security::SecurityRequirement;
 use std::alloc::Global;
 
@@ -94,9 +92,8 @@ struct Facts {
 /// Reads what a document says of itself and of its servers and tags.
 #[tactic(auto, unfolding(openapi_tables::specs::Tables::final_tables, openapi_tables::specs::Tables::tables_with))]
 fn read_facts(alloc: Global, members: &OrderedMap<Node>, steps: &mut Steps) -> Result<Facts, Fault>
-    ensures reads { GivesPart facts_forms result (by kinds.open_api) facts_rows (members_of members.now) }
-    ensures rises { steps.old ≤ steps.new }
-    ensures count { steps.new ≤ steps.old + 3 * rows_weight facts_rows (members_of members.now) }
+    ensures reads { PartReadAs facts_forms result (by kinds.open_api) facts_rows (members_of members.now) }
+    ensures count { RisesBy steps.old steps.new (3 * rows_weight facts_rows (members_of members.now)) }
 {
     Ok(Facts {
         openapi: required::<OpenAPI, _>(alloc, members, "openapi", steps)?,
@@ -108,22 +105,18 @@ fn read_facts(alloc: Global, members: &OrderedMap<Node>, steps: &mut Steps) -> R
 }
 
 impl Object for OpenAPI {
-    ghost object = { by kinds.open_api };
+    ghost table = { kinds.open_api };
 
-    ghost slots_of = { record_slots kinds.open_api open_api_rows };
-
-    ghost apart = { λ x. final_apart kinds.open_api (open_api_rows x) };
+    ghost rows_of = { open_api_rows };
 }
 
 #[tactic(auto, unfolding(openapi_tables::specs::Tables::final_tables, openapi_tables::specs::Tables::tables_with))]
 impl Record for OpenAPI {
-    ghost rows_of = { open_api_rows };
-
     fn from_members(
         alloc: Global,
         members: &OrderedMap<Node>,
         steps: &mut Steps,
-    ) -> Result<OpenAPI, Fault> {
+    ) -> Result<Self, Fault> {
         let facts = read_facts(alloc, members, steps)?;
         let security = optional::<Self, _>(alloc, members, "security", steps)?;
         let extensions = extensions::<Self>(alloc, members, steps)?;
@@ -153,30 +146,6 @@ impl Record for OpenAPI {
         put_optional(alloc, self, out, "externalDocs", &self.external_docs)?;
         put_extensions(alloc, self, out, &self.extensions)
     }
-
-    ghost by_table = { refl };
-
-    ghost by_rows = { λ x. refl };
-}
-
-impl FromNode for OpenAPI {
-    ghost kind = { by kinds.open_api };
-
-    ghost form_of = { record_form open_api_rows };
-
-    fn from_view(alloc: Global, view: &View<'_>, steps: &mut Steps) -> Result<OpenAPI, Fault> {
-        read_record(alloc, view, steps)
-    }
-
-    ghost well_made = { refl };
-}
-
-impl ToNode for OpenAPI {
-    fn to_node(&self, alloc: Global) -> Result<Node, Fault> {
-        write_record(alloc, self)
-    }
-
-    ghost there = { λ x. refl };
 }
 
 /// A document is written and then let go of: nothing of it is moved.

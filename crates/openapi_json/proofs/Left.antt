@@ -4,22 +4,13 @@ use Rattle.std.proofs.lemmas.List.{drop_more}
 use Rattle.std.proofs.lemmas.Option.{get_or_from_slice_get, slice_get_within}
 use Rattle.json.specs.Token.{Token}
 use Rattle.openapi_map.specs.Entries.{Entries}
-use Rattle.openapi_node.specs.Json.{data_of, items_data}
-use Rattle.openapi_node.specs.Tree.{Tree, items_of}
-use Rattle.openapi_json.specs.Writing.{data_tokens, items_data_tokens, members_data_tokens, standing}
+use Rattle.openapi_node.specs.Json.{data_of}
+use Rattle.openapi_node.specs.Tree.{Tree}
+use Rattle.openapi_json.specs.Writing.{data_tokens, members_data_tokens, standing}
 
 pub left_after : {A : Type 0} (xs : List A) (i : ℕ) (x : A) → slice_get xs i ≡ Some x → drop i xs ≡ x ∷ drop (i + 1) xs
 left_after xs i x at =
     drop_more xs i x (slice_get_within xs i x at) ∙ ap (λ y. y ∷ drop (i + 1) xs) (get_or_from_slice_get xs i x x at)
-
--- the next value was written
-pub item_next : (old new whole : List Token) (ts : List Tree) (t : Tree) (rest : List Tree) → ts ≡ t ∷ rest
-    → new ≡ old ++ data_tokens (data_of t) → old ++ items_data_tokens (items_data (items_of ts)) ≡ whole
-    → new ++ items_data_tokens (items_data (items_of rest)) ≡ whole
-item_next old new whole ts t rest is put so_far =
-    ap (λ l. l ++ items_data_tokens (items_data (items_of rest))) put
-    ∙ append_assoc old (data_tokens (data_of t)) (items_data_tokens (items_data (items_of rest)))
-    ∙ ap (λ l. old ++ items_data_tokens (items_data (items_of l))) (sym is) ∙ so_far
 
 -- the next member was written
 pub member_next : (old named new whole : List Token) (es : Entries Tree) (e : List ℕ × Tree) (rest : Entries Tree)

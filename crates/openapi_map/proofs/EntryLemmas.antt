@@ -153,8 +153,3 @@ module _ {V : Type 0} (es : Entries V) (i : ℕ) (e : List ℕ × V) where
   -- and goes last
   pub push-next : slice_get es i ≡ Some e → take i es ++ e ∷ [] ≡ take (i + 1) es
   push-next at = sym (take_more es i e (slice_get_within es i e at) ∙ ap (λ x. take i es ++ x ∷ []) (here at))
-
-  pub insert_entry-next : HasDistinctNames es → slice_get es i ≡ Some e
-      → insert_entry (take i es) e.0 e.1 ≡ take (i + 1) es
-  insert_entry-next distinct at =
-      sym (insert-missing e.0 (take i es) e.1 (absent-next distinct at)) ∙ push-next at

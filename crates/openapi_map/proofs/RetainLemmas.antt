@@ -50,9 +50,6 @@ module _ {F V : Type 0} (T : F → List ℕ → V → Bool → V → F → Type 
     pub rest : (left : Entries V) → RetainsPairs T f (entries_of (drop i es)) left
         → RetainsPairs T f₀ (entries_of es₀) (entries_of (take n es) ++ left)
 
-  pub sifted-none : (f : F) (es : List (Member V)) → Sifted f es f es 0 0
-  sifted-none f es = record { rest = λ left r. r }
-
   module _ {f₀ : F} {es₀ : List (Member V)} {f : F} {es : List (Member V)} {n i : ℕ} (s : Sifted f₀ es₀ f es n i)
       (le : n ≤ i) (within : i < length es) (e : Member V) (at : e ≡ get_or es i e) (w : V) (f' : F) where
     -- the next entry, with what was left at its value

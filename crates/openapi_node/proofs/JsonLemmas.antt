@@ -17,8 +17,7 @@ use Rattle.serde_json.specs.Find.{get_member, as_integer}
 use Rattle.serde_json.specs.Written.{has_float, items_have_float, members_have_float}
 use Rattle.serde_json.specs.View.{view, items_view, members_view}
 use Rattle.serde_json.specs.View.{items_of as view_items_of}
-use Rattle.serde_json.proofs.Views.{Entry, get_item_within, members_view-insert_entry}
-use Rattle.std.specs.BTreeMap.{insert_entry}
+use Rattle.serde_json.proofs.Views.{Entry, get_item_within}
 use Rattle.serde_json.specs.declared.value.Value.{Value}
 use Rattle.openapi_node.specs.Fault.{IsMemory, GoesUp, place_of, step_of}
 use Rattle.openapi_node.specs.declared.fault.Cause.TheVariants.{NotWhole}
@@ -162,10 +161,3 @@ pub push_made : {A B C : Type 0} (f : A → C) (g : B → C) (xs : List A) (x : 
     → map f xs ≡ map g ys → f x ≡ g y → map f (xs ++ x ∷ []) ≡ map g (ys ++ y ∷ [])
 push_made f g xs x ys y made here =
     map-push f xs x ∙ (λ i. made i ++ here i ∷ []) ∙ sym (map-push g ys y)
-
--- the map has one more member, where one more is put
-pub member_written : (es : List Entry) (e : Entry) (ms : List (List ℕ × Tree)) (m : List ℕ × Tree)
-    → members_view es ≡ members_data (members_of ms) json.no_members → string_bytes e.0 ≡ m.0 → view e.1 ≡ data_of m.1
-    → members_view (insert_entry string_cmp es e.0 e.1) ≡ members_data (members_of (ms ++ m ∷ [])) json.no_members
-member_written es e ms m written name here = members_view-insert_entry es e.0 e.1
-    ∙ (λ i. put (name i) (here i) (written i)) ∙ sym (members_data-push ms m.0 m.1 json.no_members)

@@ -16,10 +16,6 @@ use openapi_map::OrderedMap;
 use serde_json::{Map, Value};
 use std::alloc::{AllocError, Global};
 
-/// Up to this many members are put into a map one by one. More of them are sorted first, and the map is made of all at
-/// once, which spares the walk from its root for each.
-const PUT_LIMIT: usize = 8;
-
 impl Node {
     /// The same value for `serde_json`, which keeps the members of an object in the order of their names. Each value
     /// in the node is looked at once, and on a refusal at most once.
@@ -116,16 +112,7 @@ fn write_members(
     ensures rises { steps.old ≤ steps.new }
     ensures bound { steps.new ≤ steps.old + members_size (members_of members.now) }
 {
-    if members.len() > PUT_LIMIT {
-        return map_of(alloc, write_pairs(alloc, members, steps)?);
-    }
-    let mut values = Map::new(alloc);
-    for i in 0..members.len() {
-        let (name, member) = members.entry_at(i);
-        let name = String::from_str(alloc, name)?;
-        drop(values.insert(name, write_node(alloc, member, steps)?)?);
-    }
-    Ok(values)
+    map_of(alloc, write_pairs(alloc, members, steps)?)
 }
 
 #[cycle(write)]
@@ -190,14 +177,7 @@ fn turn_members(
     ensures rises { steps.old ≤ steps.new }
     ensures bound { steps.new ≤ steps.old + members_size (members_of members) }
 {
-    if members.len() > PUT_LIMIT {
-        return map_of(alloc, turn_pairs(alloc, members, steps)?);
-    }
-    let mut values = Map::new(alloc);
-    for (name, member) in members {
-        drop(values.insert(name, turn_node(alloc, member, steps)?)?);
-    }
-    Ok(values)
+    map_of(alloc, turn_pairs(alloc, members, steps)?)
 }
 
 #[cycle(turn)]

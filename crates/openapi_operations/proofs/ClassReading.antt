@@ -10,9 +10,9 @@ use Rattle.openapi_tables.specs.Conforms.{conforms}
 use Rattle.openapi_tables.specs.Form.{Form}
 use Rattle.openapi_tables.specs.Read.{form}
 use Rattle.openapi_tables.specs.Slots.{pairs_of}
-use Rattle.openapi_rows.specs.Entries.{GivesEntries, chosen}
-use Rattle.openapi_rows.proofs.Chosen.{entry_fails, next_holds, next_new, next_same, next_skipped}
-use Rattle.openapi_knots.specs.Reading.{PutRead}
+use Rattle.openapi_fields.specs.Entries.{EntriesReadAs, chosen}
+use Rattle.openapi_fields.proofs.Chosen.{entry_fails, next_holds, next_new, next_same, next_skipped}
+use Rattle.openapi_fields.specs.Reading.{PutRead}
 
 -- some of the entries whose names pass a test were read
 pub record AreTaken {X : Type 0} (p : List ℕ → Bool) (view : X → Form) (k : Kind) (es : Entries Tree) (vs : Entries X)
@@ -27,7 +27,7 @@ module _ {X : Type 0} (p : List ℕ → Bool) (view : X → Form) (k : Kind) whe
 
   -- all of them
   pub all_taken : (es : Entries Tree) (vs : Entries X) → AreTaken p view k es vs
-      → GivesEntries view (Ok vs) k (chosen p es)
+      → EntriesReadAs view (Ok vs) k (chosen p es)
   all_taken es vs h = (h.holds, h.same)
 
   -- the next of them
@@ -55,5 +55,5 @@ module _ {X : Type 0} (p : List ℕ → Bool) (view : X → Form) (k : Kind) whe
           }
 
       pub one_refused : (f : Fault) (new : Entries X) → PutRead view k u n (Err f) old new
-          → GivesEntries view (Err f) k (chosen p es)
+          → EntriesReadAs view (Err f) k (chosen p es)
       one_refused f new q = ⊎_elim (λ m. inl m) (λ h. inr (entry_fails p es i n u k f at yes h)) q

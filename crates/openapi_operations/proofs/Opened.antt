@@ -11,7 +11,7 @@ use Rattle.openapi_tables.specs.Slots.{pairs_of}
 use Rattle.openapi_values.specs.Reference.{reference_form}
 use Rattle.openapi_values.specs.declared.reference.ReferenceOr.{ReferenceOr}
 use Rattle.openapi_values.specs.declared.reference.ReferenceOr.TheVariants as r
-use Rattle.openapi_rows.specs.Forms.{
+use Rattle.openapi_fields.specs.Forms.{
   text_form,
   flag_form,
   optional_form,
@@ -20,11 +20,11 @@ use Rattle.openapi_rows.specs.Forms.{
   extensions_form,
   record_form,
 }
-use Rattle.openapi_rows.specs.Gives.{Gives, GivesRows}
-use Rattle.openapi_knots.proofs.EntryReading.{table_read}
+use Rattle.openapi_fields.specs.Returned.{ReadAs, RowsReadAs}
+use Rattle.openapi_fields.proofs.EntryReading.{table_read}
 use Rattle.openapi_security.specs.Schemes.{security_requirement_form}
-use Rattle.openapi_contents.specs.ContentForms.{of_rows}
-use Rattle.openapi_messages.specs.Messages.{responses_rows}
+use Rattle.openapi_media_types.specs.ContentForms.{of_rows}
+use Rattle.openapi_responses.specs.Messages.{responses_rows}
 use Rattle.openapi_operations.specs.Fields.{callback_fields, operation_fields, path_item_fields}
 use Rattle.openapi_operations.specs.OperationForms.{
   body_ref_form,
@@ -199,21 +199,11 @@ path_item_fields-roll d =
     ∙ path_item_step-level d
 
 -- each as an object
-pub callback_given : (r : Result Callback Fault) (ms : Members) (t : Tree) → t ≡ object ms
-    → GivesRows callback_fields r (by callback_object) ms → Gives callback_form r (by callback_object) t
-callback_given r ms t e h =
-    let same : callback_fields ≡ callback_rows = λ i x. sym (callback_rows-out x) i in
-    subst (λ rows. Gives (record_form rows) r (by callback_object) t) same
-    (table_read callback_fields callback_object r ms t e h)
+pub callback_same : callback_fields ≡ callback_rows
+callback_same i x = sym (callback_rows-out x) i
 
-pub operation_given : (r : Result Operation Fault) (ms : Members) (t : Tree) → t ≡ object ms
-    → GivesRows operation_fields r (by operation) ms → Gives operation_form r (by operation) t
-operation_given r ms t e h =
-    let same : operation_fields ≡ operation_rows = λ i x. sym (operation_rows-out x) i in
-    subst (λ rows. Gives (record_form rows) r (by operation) t) same (table_read operation_fields operation r ms t e h)
+pub operation_same : operation_fields ≡ operation_rows
+operation_same i x = sym (operation_rows-out x) i
 
-pub path_item_given : (r : Result PathItem Fault) (ms : Members) (t : Tree) → t ≡ object ms
-    → GivesRows path_item_fields r (by path_item) ms → Gives path_item_form r (by path_item) t
-path_item_given r ms t e h =
-    let same : path_item_fields ≡ path_item_rows = λ i x. sym (path_item_rows-out x) i in
-    subst (λ rows. Gives (record_form rows) r (by path_item) t) same (table_read path_item_fields path_item r ms t e h)
+pub path_item_same : path_item_fields ≡ path_item_rows
+path_item_same i x = sym (path_item_rows-out x) i

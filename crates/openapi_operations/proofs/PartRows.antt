@@ -7,9 +7,9 @@ use Rattle.openapi_tables.specs.Form.{Form}
 use Rattle.openapi_tables.specs.Kind.{any_tree, by, class, extensions, listed, map_of, operation, path_item, row}
 use Rattle.openapi_tables.specs.Rows.{optional_row}
 use Rattle.openapi_tables.specs.Tables.{callback_ref, final_tables, tables_with}
-use Rattle.openapi_rows.specs.Forms.{optional_form}
-use Rattle.openapi_rows.specs.Gives.{GivesRow}
-use Rattle.openapi_knots.specs.Reading.{GivesPart}
+use Rattle.openapi_fields.specs.Forms.{optional_form}
+use Rattle.openapi_fields.specs.Returned.{RowReadAs}
+use Rattle.openapi_fields.specs.Reading.{PartReadAs}
 use Rattle.openapi_operations.specs.OperationForms.{operation_form}
 use Rattle.openapi_operations.specs.declared.operation.Operation.{Operation}
 use Rattle.openapi_operations.specs.Parts.{
@@ -44,8 +44,8 @@ pub methods_read : (r : Result (Unit {0}) Fault) (last : Option Operation) (ms :
     → RowGives final_tables (optional_row "options" (by operation)) ms e
     → RowGives final_tables (optional_row "head" (by operation)) ms f
     → RowGives final_tables (optional_row "patch" (by operation)) ms g
-    → GivesRow (λ done. optional_form operation_form last) r (by path_item) (optional_row "trace" (by operation)) ms
-    → GivesPart (λ done. a ∷ b ∷ c ∷ d ∷ e ∷ f ∷ g ∷ optional_form operation_form last ∷ []) r (by path_item)
+    → RowReadAs (λ done. optional_form operation_form last) r (by path_item) (optional_row "trace" (by operation)) ms
+    → PartReadAs (λ done. a ∷ b ∷ c ∷ d ∷ e ∷ f ∷ g ∷ optional_form operation_form last ∷ []) r (by path_item)
     method_rows ms
 methods_read (Ok done) last ms h1 h2 h3 h4 h5 h6 h7 h8 = (h1, (h2, (h3, (h4, (h5, (h6, (h7, (h8, tt))))))))
 methods_read (Err fault) last ms h1 h2 h3 h4 h5 h6 h7 h8 = h8

@@ -9,7 +9,7 @@ use Rattle.openapi_tables.specs.Form.{Form, fields, forms_of}
 use Rattle.openapi_tables.specs.Lists.{each, join}
 use Rattle.openapi_tables.specs.Members.{plain}
 use Rattle.openapi_tables.specs.Operations.{methods, present_ops, those_there}
-use Rattle.openapi_rows.specs.Forms.{optional_form}
+use Rattle.openapi_fields.specs.Forms.{optional_form}
 use Rattle.openapi_operations.specs.OperationForms.{operation_form, path_item_form}
 use Rattle.openapi_operations.specs.Present.{forms_under, lent, operations_in, present_operations, those_held}
 use Rattle.openapi_operations.specs.declared.operation.Operation.{Operation}

@@ -4,7 +4,7 @@ use Rattle.openapi_tables.specs.Kind.{callback_object, operation, path_item}
 use Rattle.openapi_tables.specs.Form.{Form}
 use Rattle.openapi_tables.specs.Slots.{Slot}
 use Rattle.openapi_values.specs.Reference.{reference_form}
-use Rattle.openapi_rows.specs.Forms.{
+use Rattle.openapi_fields.specs.Forms.{
   text_form,
   flag_form,
   optional_form,
@@ -15,7 +15,7 @@ use Rattle.openapi_rows.specs.Forms.{
   record_slots,
 }
 use Rattle.openapi_security.specs.Schemes.{security_requirement_form}
-use Rattle.openapi_messages.specs.Messages.{responses_rows}
+use Rattle.openapi_responses.specs.Messages.{responses_rows}
 use Rattle.openapi_operations.specs.OperationForms.{
   body_ref_form,
   callback_form,

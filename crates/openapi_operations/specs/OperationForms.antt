@@ -3,7 +3,7 @@ use Rattle.std.specs.Prelude.{List, [], ◌∷◌}
 use Rattle.openapi_tables.specs.Form.{Form}
 use Rattle.openapi_values.specs.Reference.{reference_form}
 use Rattle.openapi_values.specs.declared.reference.ReferenceOr.{ReferenceOr}
-use Rattle.openapi_rows.specs.Forms.{
+use Rattle.openapi_fields.specs.Forms.{
   text_form,
   flag_form,
   optional_form,
@@ -12,16 +12,16 @@ use Rattle.openapi_rows.specs.Forms.{
   extensions_form,
   record_form,
 }
-use Rattle.openapi_annotations.specs.Objects.{external_documentation_rows}
-use Rattle.openapi_annotations.specs.declared.external_documentation.ExternalDocumentation.{ExternalDocumentation}
-use Rattle.openapi_records.specs.Objects.{server_rows}
-use Rattle.openapi_records.specs.declared.server.Server.{Server}
+use Rattle.openapi_schema_annotations.specs.Objects.{external_documentation_rows}
+use Rattle.openapi_schema_annotations.specs.declared.external_documentation.ExternalDocumentation.{ExternalDocumentation}
+use Rattle.openapi_metadata.specs.Objects.{server_rows}
+use Rattle.openapi_metadata.specs.declared.server.Server.{Server}
 use Rattle.openapi_security.specs.Schemes.{security_requirement_form}
-use Rattle.openapi_contents.specs.ContentForms.{of_rows}
+use Rattle.openapi_media_types.specs.ContentForms.{of_rows}
 use Rattle.openapi_parameters.specs.Parameters.{parameter_form}
 use Rattle.openapi_parameters.specs.declared.parameter.Parameter.{Parameter}
-use Rattle.openapi_messages.specs.Messages.{request_body_rows, responses_rows}
-use Rattle.openapi_messages.specs.declared.request_body.RequestBody.{RequestBody}
+use Rattle.openapi_responses.specs.Messages.{request_body_rows, responses_rows}
+use Rattle.openapi_responses.specs.declared.request_body.RequestBody.{RequestBody}
 use Rattle.openapi_operations.specs.declared.callback.Callback.{Callback}
 use Rattle.openapi_operations.specs.declared.operation.Operation.{Operation}
 use Rattle.openapi_operations.specs.declared.path_item.PathItem.{PathItem}

@@ -9,9 +9,9 @@ use Rattle.openapi_tables.specs.Rows.{extension_rows, flag_row, list_row, option
 use Rattle.openapi_tables.specs.Tables.{parameter, security_requirement}
 use Rattle.openapi_values.specs.Reference.{reference_form}
 use Rattle.openapi_values.specs.declared.reference.ReferenceOr.{ReferenceOr}
-use Rattle.openapi_rows.specs.Forms.{text_form, flag_form, optional_form, list_form, map_form, extensions_form, record_form}
+use Rattle.openapi_fields.specs.Forms.{text_form, flag_form, optional_form, list_form, map_form, extensions_form, record_form}
 use Rattle.openapi_security.specs.Schemes.{security_requirement_form}
-use Rattle.openapi_messages.specs.Messages.{responses_rows}
+use Rattle.openapi_responses.specs.Messages.{responses_rows}
 use Rattle.openapi_operations.specs.OperationForms.{
   body_ref_form,
   callback_form,

@@ -4,10 +4,8 @@ ghost use Rattle.std.specs.Prelude.{◌≡◌, ◌+◌, ◌≤◌, ◌*◌, []};
 ghost use Rattle.openapi_node.specs.Tree.{size_of};
 ghost use Rattle.openapi_tables.specs.Kind.{by, callback_object};
 ghost use Rattle.openapi_tables.specs.Tables.{callback_ref};
-ghost use Rattle.openapi_tables.proofs.SlotWriting.{final_apart};
 ghost use Rattle.openapi_values.specs.Reference.{reference_form};
-ghost use Rattle.openapi_rows.specs.Forms.{record_slots};
-ghost use Rattle.openapi_rows.specs.Gives.{Gives, Refuses, WrittenAs};
+ghost use Rattle.openapi_fields.specs.Returned.{ReadAs, Refuses, WrittenAs};
 ghost use Rattle.openapi_operations.specs.Fields.{callback_fields};
 ghost use Rattle.openapi_operations.specs.OperationForms.{callback_form};
 ghost use Rattle.openapi_operations.specs.Spared.{callback_spares};
@@ -15,8 +13,8 @@ ghost use Rattle.openapi_operations.specs.Spared.{callback_spares};
 use crate::path_item::PathItem;
 use crate::read::read_callback;
 use crate::write::write_callback;
+use openapi_fields::{FromNode, Object, Referable, ToNode};
 use openapi_node::{Fault, Node, OrderedMap, Steps, View};
-use openapi_rows::{FromNode, Object, Referable, ToNode};
 use openapi_values::ReferenceOr;
 use std::alloc::Global;
 
@@ -49,11 +47,9 @@ impl Callback {
 }
 
 impl Object for Callback {
-    ghost object = { by callback_object };
+    ghost table = { callback_object };
 
-    ghost slots_of = { record_slots callback_object callback_fields };
-
-    ghost apart = { λ x. final_apart callback_object (callback_fields x) };
+    ghost rows_of = { callback_fields };
 }
 
 impl FromNode for Callback {
@@ -88,7 +84,7 @@ pub fn callback_ref_from_node(
     node: &Node,
     steps: &mut Steps,
 ) -> Result<ReferenceOr<Callback>, Fault>
-    ensures reads { Gives (reference_form callback_form) result callback_ref node.now }
+    ensures reads { ReadAs (reference_form callback_form) result callback_ref node.now }
     ensures refuses { Refuses result callback_ref node.now }
     ensures rises { steps.old + 1 ≤ steps.new }
     ensures count { steps.new ≤ steps.old + 3 * size_of node.now }

@@ -1,21 +1,19 @@
 //! The Operation Object.
 ghost use Rattle.std.proofs.Common.{refl};
-ghost use Rattle.std.specs.Prelude.{◌≡◌, ◌+◌, ◌≤◌, ◌*◌, [], None, false};
+ghost use Rattle.std.specs.Prelude.{◌≡◌, [], None, false};
 ghost use Rattle.openapi_tables.specs.Kind.{by, operation};
-ghost use Rattle.openapi_tables.proofs.SlotWriting.{final_apart};
-ghost use Rattle.openapi_rows.specs.Forms.{record_slots};
 ghost use Rattle.openapi_operations.specs.Fields.{operation_fields};
 ghost use Rattle.openapi_operations.specs.OperationForms.{operation_form};
 
 use crate::callback::Callback;
 use crate::read::read_operation;
 use crate::write::write_operation;
-use openapi_annotations::ExternalDocumentation;
-use openapi_messages::{RequestBody, Responses};
+use openapi_fields::{FromNode, Object, ToNode};
+use openapi_metadata::Server;
 use openapi_node::{Fault, Node, OrderedMap, Steps, View};
 use openapi_parameters::Parameter;
-use openapi_records::Server;
-use openapi_rows::{FromNode, Object, ToNode};
+use openapi_responses::{RequestBody, Responses};
+use openapi_schema_annotations::ExternalDocumentation;
 use openapi_security::SecurityRequirement;
 use openapi_values::ReferenceOr;
 use std::alloc::Global;
@@ -95,11 +93,9 @@ impl Operation {
 }
 
 impl Object for Operation {
-    ghost object = { by operation };
+    ghost table = { operation };
 
-    ghost slots_of = { record_slots operation operation_fields };
-
-    ghost apart = { λ x. final_apart operation (operation_fields x) };
+    ghost rows_of = { operation_fields };
 }
 
 impl FromNode for Operation {

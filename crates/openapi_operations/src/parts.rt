@@ -5,8 +5,8 @@ ghost use Rattle.openapi_tables.specs.ByRow.{AreRows, is_named, rows_weight};
 ghost use Rattle.openapi_tables.specs.Kind as kinds;
 ghost use Rattle.openapi_tables.specs.Slots.{before, through, slots_lost, IsWritten};
 ghost use Rattle.openapi_tables.specs.Tables.{final_tables};
-ghost use Rattle.openapi_rows.specs.Gives.{GivesRows, Loses};
-ghost use Rattle.openapi_knots.specs.Reading.{GivesPart};
+ghost use Rattle.openapi_fields.specs.Returned.{RowsReadAs, NotWritable, RisesBy};
+ghost use Rattle.openapi_fields.specs.Reading.{PartReadAs};
 ghost use Rattle.openapi_operations.specs.Fields.{operation_fields, operation_slots, path_item_fields};
 ghost use Rattle.openapi_operations.specs.Parts.{beside_forms, beside_rows, message_forms, message_rows};
 ghost use Rattle.openapi_operations.specs.Parts.{method_forms, method_rows, operation_joined, path_item_joined};
@@ -16,15 +16,15 @@ use crate::callback::Callback;
 use crate::methods::Methods;
 use crate::operation::Operation;
 use crate::path_item::PathItem;
-use openapi_annotations::ExternalDocumentation;
-use openapi_messages::{RequestBody, Responses};
-use openapi_node::{Fault, Node, OrderedMap, Steps};
-use openapi_parameters::Parameter;
-use openapi_records::Server;
-use openapi_rows::{
+use openapi_fields::{
     extensions, optional, or_implied, put_extensions, put_implied, put_optional, put_required,
     required,
 };
+use openapi_metadata::Server;
+use openapi_node::{Fault, Node, OrderedMap, Steps};
+use openapi_parameters::Parameter;
+use openapi_responses::{RequestBody, Responses};
+use openapi_schema_annotations::ExternalDocumentation;
 use openapi_security::SecurityRequirement;
 use openapi_values::ReferenceOr;
 use std::alloc::Global;
@@ -72,9 +72,8 @@ pub(crate) fn read_texts(
     members: &OrderedMap<Node>,
     steps: &mut Steps,
 ) -> Result<OperationTexts, Fault>
-    ensures reads { GivesPart text_forms result (kinds.by kinds.operation) text_rows (members_of members.now) }
-    ensures rises { steps.old ≤ steps.new }
-    ensures count { steps.new ≤ steps.old + 3 * rows_weight text_rows (members_of members.now) }
+    ensures reads { PartReadAs text_forms result (kinds.by kinds.operation) text_rows (members_of members.now) }
+    ensures count { RisesBy steps.old steps.new (3 * rows_weight text_rows (members_of members.now)) }
 {
     Ok(OperationTexts {
         deprecated: or_implied::<Operation, _>(alloc, members, "deprecated", steps)?,
@@ -92,9 +91,8 @@ pub(crate) fn read_settings(
     members: &OrderedMap<Node>,
     steps: &mut Steps,
 ) -> Result<OperationSettings, Fault>
-    ensures reads { GivesPart setting_forms result (kinds.by kinds.operation) setting_rows (members_of members.now) }
-    ensures rises { steps.old ≤ steps.new }
-    ensures count { steps.new ≤ steps.old + 3 * rows_weight setting_rows (members_of members.now) }
+    ensures reads { PartReadAs setting_forms result (kinds.by kinds.operation) setting_rows (members_of members.now) }
+    ensures count { RisesBy steps.old steps.new (3 * rows_weight setting_rows (members_of members.now)) }
 {
     Ok(OperationSettings {
         security: optional::<Operation, _>(alloc, members, "security", steps)?,
@@ -110,9 +108,8 @@ pub(crate) fn read_messages(
     members: &OrderedMap<Node>,
     steps: &mut Steps,
 ) -> Result<OperationMessages, Fault>
-    ensures reads { GivesPart message_forms result (kinds.by kinds.operation) message_rows (members_of members.now) }
-    ensures rises { steps.old ≤ steps.new }
-    ensures count { steps.new ≤ steps.old + 3 * rows_weight message_rows (members_of members.now) }
+    ensures reads { PartReadAs message_forms result (kinds.by kinds.operation) message_rows (members_of members.now) }
+    ensures count { RisesBy steps.old steps.new (3 * rows_weight message_rows (members_of members.now)) }
 {
     Ok(OperationMessages {
         parameters: or_implied::<Operation, _>(alloc, members, "parameters", steps)?,
@@ -128,9 +125,8 @@ pub(crate) fn read_beside(
     members: &OrderedMap<Node>,
     steps: &mut Steps,
 ) -> Result<PathItemValues, Fault>
-    ensures reads { GivesPart beside_forms result (kinds.by kinds.path_item) beside_rows (members_of members.now) }
-    ensures rises { steps.old ≤ steps.new }
-    ensures count { steps.new ≤ steps.old + 3 * rows_weight beside_rows (members_of members.now) }
+    ensures reads { PartReadAs beside_forms result (kinds.by kinds.path_item) beside_rows (members_of members.now) }
+    ensures count { RisesBy steps.old steps.new (3 * rows_weight beside_rows (members_of members.now)) }
 {
     Ok(PathItemValues {
         summary: optional::<PathItem, _>(alloc, members, "summary", steps)?,
@@ -150,9 +146,8 @@ pub(crate) fn path_item_with(
     steps: &mut Steps,
 ) -> Result<PathItem, Fault>
     requires { AreRows final_tables method_rows (method_forms methods) (members_of members.now) }
-    ensures reads { GivesRows path_item_fields result (kinds.by kinds.path_item) (members_of members.now) }
-    ensures rises { steps.old ≤ steps.new }
-    ensures count { steps.new ≤ steps.old + 3 * rows_weight beside_rows (members_of members.now) }
+    ensures reads { RowsReadAs path_item_fields result (kinds.by kinds.path_item) (members_of members.now) }
+    ensures count { RisesBy steps.old steps.new (3 * rows_weight beside_rows (members_of members.now)) }
 {
     match read_beside(alloc, members, steps) {
         Ok(beside) => Ok(joined_path_item(beside, methods)),
@@ -221,7 +216,7 @@ pub(crate) fn put_before_callbacks(
     requires { IsWritten final_tables [] out.old }
     ensures ok { OnOk result (IsWritten final_tables (before (is_named (codes "callbacks"))
         (operation_slots operation.now)) out.new) }
-    ensures err { IfErr result (λ f. Loses f (slots_lost final_tables (operation_slots operation.now))) }
+    ensures err { IfErr result (λ f. NotWritable f (slots_lost final_tables (operation_slots operation.now))) }
 {
     put_implied(alloc, operation, out, "tags", &operation.tags)?;
     put_optional(alloc, operation, out, "summary", &operation.summary)?;
@@ -260,7 +255,7 @@ pub(crate) fn put_behind_callbacks(
 ) -> Result<(), Fault>
     requires { IsWritten final_tables (through (is_named (codes "callbacks")) (operation_slots operation.now)) out.old }
     ensures ok { OnOk result (IsWritten final_tables (operation_slots operation.now) out.new) }
-    ensures err { IfErr result (λ f. Loses f (slots_lost final_tables (operation_slots operation.now))) }
+    ensures err { IfErr result (λ f. NotWritable f (slots_lost final_tables (operation_slots operation.now))) }
 {
     put_implied(alloc, operation, out, "deprecated", &operation.deprecated)?;
     put_optional(alloc, operation, out, "security", &operation.security)?;

@@ -3,21 +3,19 @@ ghost use Rattle.std.proofs.Common.{refl};
 ghost use Rattle.std.specs.Prelude.{◌≡◌, ◌+◌, ◌≤◌, ◌*◌, [], None};
 ghost use Rattle.openapi_node.specs.Tree.{size_of};
 ghost use Rattle.openapi_tables.specs.Kind.{by, path_item, ref_to};
-ghost use Rattle.openapi_tables.proofs.SlotWriting.{final_apart};
 ghost use Rattle.openapi_values.specs.Reference.{reference_form};
-ghost use Rattle.openapi_rows.specs.Forms.{record_slots};
-ghost use Rattle.openapi_rows.specs.Gives.{Gives, Refuses, WrittenAs};
-ghost use Rattle.openapi_rows.proofs.Spared.{path_item_spares};
+ghost use Rattle.openapi_fields.specs.Returned.{ReadAs, Refuses, WrittenAs};
+ghost use Rattle.openapi_fields.proofs.Spared.{path_item_spares};
 ghost use Rattle.openapi_operations.specs.Fields.{path_item_fields};
 ghost use Rattle.openapi_operations.specs.OperationForms.{path_item_form};
 
 use crate::operation::Operation;
 use crate::read::read_path_item;
 use crate::write::write_path_item;
+use openapi_fields::{FromNode, Object, Referable, ToNode};
+use openapi_metadata::Server;
 use openapi_node::{Fault, Node, OrderedMap, Steps, View};
 use openapi_parameters::Parameter;
-use openapi_records::Server;
-use openapi_rows::{FromNode, Object, Referable, ToNode};
 use openapi_values::ReferenceOr;
 use std::alloc::Global;
 
@@ -91,11 +89,9 @@ impl PathItem {
 }
 
 impl Object for PathItem {
-    ghost object = { by path_item };
+    ghost table = { path_item };
 
-    ghost slots_of = { record_slots path_item path_item_fields };
-
-    ghost apart = { λ x. final_apart path_item (path_item_fields x) };
+    ghost rows_of = { path_item_fields };
 }
 
 impl FromNode for PathItem {
@@ -129,7 +125,7 @@ pub fn path_item_ref_from_node(
     node: &Node,
     steps: &mut Steps,
 ) -> Result<ReferenceOr<PathItem>, Fault>
-    ensures reads { Gives (reference_form path_item_form) result (ref_to (by path_item)) node.now }
+    ensures reads { ReadAs (reference_form path_item_form) result (ref_to (by path_item)) node.now }
     ensures refuses { Refuses result (ref_to (by path_item)) node.now }
     ensures rises { steps.old + 1 ≤ steps.new }
     ensures count { steps.new ≤ steps.old + 3 * size_of node.now }

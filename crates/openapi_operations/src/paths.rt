@@ -1,21 +1,18 @@
 //! The Paths Object.
 ghost use Rattle.std.proofs.Common.{refl};
-ghost use Rattle.std.specs.Prelude.{◌≡◌, ◌+◌, ◌≤◌, ◌*◌, ◌<◌, ◌^◌, ℕ, List, [], length, true};
+ghost use Rattle.std.specs.Prelude.{◌≡◌, ◌<◌, ◌^◌, ℕ, List, [], length};
 ghost use Rattle.std.specs.Map.Iter.{ShowsInOrder, ShowsValuesInOrder, deref_pair};
 ghost use Rattle.openapi_map.specs.Entries.{HasDistinctNames, owned_entry};
 ghost use Rattle.openapi_tables.specs.Kind as kinds;
-ghost use Rattle.openapi_tables.specs.Kind.{by, paths};
-ghost use Rattle.openapi_tables.proofs.SlotWriting.{final_apart};
-ghost use Rattle.openapi_rows.specs.Forms.{record_form, record_slots};
+ghost use Rattle.openapi_tables.specs.Kind.{paths};
 ghost use Rattle.openapi_operations.specs.Fields.{paths_rows};
 
 use crate::path_item::PathItem;
-use openapi_map::{IntoIter, Iter};
-use openapi_node::{Fault, Node, OrderedMap, Steps, View};
-use openapi_rows::{
-    ClassNames, FromNode, Names, Object, Record, ToNode, class_entries, extensions, put_class,
-    put_extensions, read_record, write_record,
+use openapi_fields::{
+    ClassNames, Names, Object, Record, class_entries, extensions, put_class, put_extensions,
 };
+use openapi_map::{IntoIter, Iter};
+use openapi_node::{Fault, Node, OrderedMap, Steps};
 use openapi_values::ReferenceOr;
 use std::alloc::Global;
 
@@ -90,23 +87,20 @@ impl IntoIterator for Paths {
     }
 }
 
+/// It is refused where it is written also at a name among `paths` that does not begin with `/`, which would not be read again.
 impl Object for Paths {
-    ghost object = { by paths };
+    ghost table = { paths };
 
-    ghost slots_of = { record_slots paths paths_rows };
-
-    ghost apart = { λ x. final_apart paths (paths_rows x) };
+    ghost rows_of = { paths_rows };
 }
 
 #[tactic(auto, unfolding(openapi_tables::specs::Tables::final_tables, openapi_tables::specs::Tables::tables_with))]
 impl Record for Paths {
-    ghost rows_of = { paths_rows };
-
     fn from_members(
         alloc: Global,
         members: &OrderedMap<Node>,
         steps: &mut Steps,
-    ) -> Result<Paths, Fault> {
+    ) -> Result<Self, Fault> {
         Ok(Paths {
             paths: class_entries::<Self, PathNames, _>(alloc, members, steps)?,
             extensions: extensions::<Self>(alloc, members, steps)?,
@@ -117,29 +111,4 @@ impl Record for Paths {
         put_class::<Self, PathNames, _>(alloc, self, out, &self.paths)?;
         put_extensions(alloc, self, out, &self.extensions)
     }
-
-    ghost by_table = { refl };
-
-    ghost by_rows = { λ x. refl };
-}
-
-impl FromNode for Paths {
-    ghost kind = { by paths };
-
-    ghost form_of = { record_form paths_rows };
-
-    fn from_view(alloc: Global, view: &View<'_>, steps: &mut Steps) -> Result<Paths, Fault> {
-        read_record(alloc, view, steps)
-    }
-
-    ghost well_made = { refl };
-}
-
-/// Refused also at a name among `paths` that does not begin with `/`, which would not be read again.
-impl ToNode for Paths {
-    fn to_node(&self, alloc: Global) -> Result<Node, Fault> {
-        write_record(alloc, self)
-    }
-
-    ghost there = { λ x. refl };
 }

@@ -1,4 +1,4 @@
-//! How operations, path items and callbacks are read. The functions call each other in a circle: a path item has
+//! How operations, path items and callbacks are read. The functions are mutually recursive: a path item has
 //! operations, an operation may have callbacks, and these have path items. Each gets a smaller part of the tree in the
 //! end. A value is looked at once, and handed down as the view of that look.
 ghost use Rattle.std.specs.Prelude.{◌≡◌, ◌+◌, ◌*◌, ◌≤◌, None, Some, codes};
@@ -7,10 +7,10 @@ ghost use Rattle.openapi_node.specs.View.{shown};
 ghost use Rattle.openapi_tables.specs.ByRow.{is_named, row_where, row_weight, rows_asked, rows_weight};
 ghost use Rattle.openapi_tables.specs.Kind as kinds;
 ghost use Rattle.openapi_tables.specs.Tables.{callback_ref, final_tables};
-ghost use Rattle.openapi_rows.specs.Forms.{map_form, optional_form};
-ghost use Rattle.openapi_rows.specs.Gives.{Gives, GivesRow, GivesRows};
+ghost use Rattle.openapi_fields.specs.Forms.{map_form, optional_form};
+ghost use Rattle.openapi_fields.specs.Returned.{ReadAs, RowReadAs, RowsReadAs, RisesBelow, RisesBy};
 ghost use Rattle.openapi_values.specs.Reference.{reference_form};
-ghost use Rattle.openapi_knots.specs.Reading.{GivesPart};
+ghost use Rattle.openapi_fields.specs.Reading.{PartReadAs};
 ghost use Rattle.openapi_operations.specs.Fields.{callback_fields, operation_fields, path_item_fields};
 ghost use Rattle.openapi_operations.specs.OperationForms.{callback_form, operation_form, path_item_form};
 ghost use Rattle.openapi_operations.specs.Parts.{method_forms, method_rows};
@@ -20,11 +20,11 @@ use crate::methods::Methods;
 use crate::operation::Operation;
 use crate::parts::{joined_operation, path_item_with, read_messages, read_settings, read_texts};
 use crate::path_item::PathItem;
-use openapi_knots::{members_shown, put_read};
-use openapi_node::{Fault, Node, OrderedMap, Steps, View, find_member};
-use openapi_rows::{
-    Extensions, Names, as_member, at_name, extensions, present_view, read_reference,
+use openapi_fields::{
+    Extensions, Names, as_item, as_member, at_name, extensions, members_at, members_shown,
+    present_view, put_read, read_reference,
 };
+use openapi_node::{Fault, Node, OrderedMap, Steps, View};
 use openapi_values::ReferenceOr;
 use std::alloc::Global;
 
@@ -35,9 +35,8 @@ pub(crate) fn read_path_item(
     view: &View<'_>,
     steps: &mut Steps,
 ) -> Result<PathItem, Fault>
-    ensures reads { Gives path_item_form result (kinds.by kinds.path_item) (shown view.now) }
-    ensures rises { steps.old ≤ steps.new }
-    ensures count { steps.new + 3 ≤ steps.old + 3 * size_of (shown view.now) }
+    ensures reads { ReadAs path_item_form result (kinds.by kinds.path_item) (shown view.now) }
+    ensures count { RisesBelow steps.old steps.new (3 * size_of (shown view.now)) }
 {
     match members_shown(alloc, view) {
         Ok(members) => path_item_of(alloc, members, steps),
@@ -53,10 +52,9 @@ fn path_item_of(
     members: &OrderedMap<Node>,
     steps: &mut Steps,
 ) -> Result<PathItem, Fault>
-    ensures reads { GivesRows path_item_fields result (kinds.by kinds.path_item) (members_of members.now) }
-    ensures rises { steps.old ≤ steps.new }
-    ensures count { steps.new ≤ steps.old + 3 * rows_weight (rows_asked final_tables (kinds.by kinds.path_item))
-        (members_of members.now) }
+    ensures reads { RowsReadAs path_item_fields result (kinds.by kinds.path_item) (members_of members.now) }
+    ensures count { RisesBy steps.old steps.new
+        (3 * rows_weight (rows_asked final_tables (kinds.by kinds.path_item)) (members_of members.now)) }
 {
     let mut methods = Methods::none();
     match read_methods(alloc, members, &mut methods, steps) {
@@ -85,10 +83,9 @@ fn read_methods(
     requires head { methods.old.head ≡ None }
     requires patch { methods.old.patch ≡ None }
     requires trace { methods.old.trace ≡ None }
-    ensures reads { GivesPart (λ done. method_forms methods.new) result (kinds.by kinds.path_item) method_rows
+    ensures reads { PartReadAs (λ done. method_forms methods.new) result (kinds.by kinds.path_item) method_rows
         (members_of members.now) }
-    ensures rises { steps.old ≤ steps.new }
-    ensures count { steps.new ≤ steps.old + 3 * rows_weight method_rows (members_of members.now) }
+    ensures count { RisesBy steps.old steps.new (3 * rows_weight method_rows (members_of members.now)) }
 {
     read_method(alloc, members, "get", &mut methods.get, steps)?;
     read_method(alloc, members, "put", &mut methods.put, steps)?;
@@ -112,11 +109,10 @@ fn read_method(
     requires row { row_where (is_named method.now) (rows_asked final_tables (kinds.by kinds.path_item)) ≡ Some
         (kinds.row method.now kinds.optional (kinds.by kinds.operation)) }
     requires free { place.old ≡ None }
-    ensures reads { GivesRow (λ done. optional_form operation_form place.new) result (kinds.by kinds.path_item)
+    ensures reads { RowReadAs (λ done. optional_form operation_form place.new) result (kinds.by kinds.path_item)
         (kinds.row method.entry.now kinds.optional (kinds.by kinds.operation)) (members_of members.now) }
-    ensures rises { steps.old ≤ steps.new }
-    ensures count { steps.new ≤ steps.old + 3 * row_weight
-        (kinds.row method.entry.now kinds.optional (kinds.by kinds.operation)) (members_of members.now) }
+    ensures count { RisesBy steps.old steps.new
+        (3 * row_weight (kinds.row method.entry.now kinds.optional (kinds.by kinds.operation)) (members_of members.now)) }
 {
     match present_view(members, method, steps) {
         None => Ok(()),
@@ -137,9 +133,8 @@ pub(crate) fn read_operation(
     view: &View<'_>,
     steps: &mut Steps,
 ) -> Result<Operation, Fault>
-    ensures reads { Gives operation_form result (kinds.by kinds.operation) (shown view.now) }
-    ensures rises { steps.old ≤ steps.new }
-    ensures count { steps.new + 3 ≤ steps.old + 3 * size_of (shown view.now) }
+    ensures reads { ReadAs operation_form result (kinds.by kinds.operation) (shown view.now) }
+    ensures count { RisesBelow steps.old steps.new (3 * size_of (shown view.now)) }
 {
     match members_shown(alloc, view) {
         Ok(members) => operation_of(alloc, members, steps),
@@ -149,16 +144,15 @@ pub(crate) fn read_operation(
 
 /// Reads an operation among the members of an object, what is large last.
 #[cycle(read)]
-#[tactic(auto, unfolding(openapi_tables::specs::Tables::final_tables, openapi_tables::specs::Tables::tables_with))]
+#[tactic(auto, using(crate::proofs::PartRows::operation_weight), unfolding(openapi_tables::specs::Tables::final_tables, openapi_tables::specs::Tables::tables_with))]
 fn operation_of(
     alloc: Global,
     members: &OrderedMap<Node>,
     steps: &mut Steps,
 ) -> Result<Operation, Fault>
-    ensures reads { GivesRows operation_fields result (kinds.by kinds.operation) (members_of members.now) }
-    ensures rises { steps.old ≤ steps.new }
-    ensures count { steps.new ≤ steps.old + 3 * rows_weight (rows_asked final_tables (kinds.by kinds.operation))
-        (members_of members.now) }
+    ensures reads { RowsReadAs operation_fields result (kinds.by kinds.operation) (members_of members.now) }
+    ensures count { RisesBy steps.old steps.new
+        (3 * rows_weight (rows_asked final_tables (kinds.by kinds.operation)) (members_of members.now)) }
 {
     let texts = read_texts(alloc, members, steps)?;
     let settings = read_settings(alloc, members, steps)?;
@@ -175,34 +169,14 @@ fn read_callbacks(
     members: &OrderedMap<Node>,
     steps: &mut Steps,
 ) -> Result<OrderedMap<ReferenceOr<Callback>>, Fault>
-    ensures reads { GivesRow (map_form (reference_form callback_form)) result (kinds.by kinds.operation)
+    ensures reads { RowReadAs (map_form (reference_form callback_form)) result (kinds.by kinds.operation)
         (kinds.row (codes "callbacks") kinds.listed (kinds.map_of callback_ref)) (members_of members.now) }
-    ensures rises { steps.old ≤ steps.new }
-    ensures count { steps.new ≤ steps.old + 3 * row_weight
-        (kinds.row (codes "callbacks") kinds.listed (kinds.map_of callback_ref)) (members_of members.now) }
+    ensures count { RisesBy steps.old steps.new
+        (3 * row_weight (kinds.row (codes "callbacks") kinds.listed (kinds.map_of callback_ref)) (members_of members.now)) }
 {
-    match find_member(members, "callbacks") {
-        None => Ok(OrderedMap::new(alloc)),
-        Some(node) => {
-            let entries = node.open(steps);
-            at_name(alloc, "callbacks", callbacks_in(alloc, &entries, steps))
-        }
-    }
-}
-
-/// The callbacks and references of a map.
-#[cycle(read)]
-fn callbacks_in(
-    alloc: Global,
-    view: &View<'_>,
-    steps: &mut Steps,
-) -> Result<OrderedMap<ReferenceOr<Callback>>, Fault>
-    ensures reads { Gives (map_form (reference_form callback_form)) result (kinds.map_of callback_ref) (shown view.now) }
-    ensures rises { steps.old ≤ steps.new }
-    ensures count { steps.new + 3 ≤ steps.old + 3 * size_of (shown view.now) }
-{
-    match members_shown(alloc, view) {
-        Ok(members) => callbacks_of(alloc, members, steps),
+    match members_at(alloc, members, "callbacks", steps) {
+        Ok(None) => Ok(OrderedMap::new(alloc)),
+        Ok(Some(entries)) => at_name(alloc, "callbacks", callbacks_of(alloc, entries, steps)),
         Err(fault) => Err(fault),
     }
 }
@@ -214,10 +188,9 @@ fn callbacks_of(
     members: &OrderedMap<Node>,
     steps: &mut Steps,
 ) -> Result<OrderedMap<ReferenceOr<Callback>>, Fault>
-    ensures reads { Gives (map_form (reference_form callback_form)) result (kinds.map_of callback_ref)
+    ensures reads { ReadAs (map_form (reference_form callback_form)) result (kinds.map_of callback_ref)
         (object (members_of members.now)) }
-    ensures rises { steps.old ≤ steps.new }
-    ensures count { steps.new ≤ steps.old + 3 * members_size (members_of members.now) }
+    ensures count { RisesBy steps.old steps.new (3 * members_size (members_of members.now)) }
 {
     let mut values = OrderedMap::new(alloc);
     for i in 0..members.len() {
@@ -243,18 +216,12 @@ fn read_callback_ref(
     view: &View<'_>,
     steps: &mut Steps,
 ) -> Result<ReferenceOr<Callback>, Fault>
-    ensures reads { Gives (reference_form callback_form) result callback_ref (shown view.now) }
-    ensures rises { steps.old ≤ steps.new }
-    ensures count { steps.new + 2 ≤ steps.old + 3 * size_of (shown view.now) }
+    ensures reads { ReadAs (reference_form callback_form) result callback_ref (shown view.now) }
+    ensures count { RisesBelow steps.old steps.new (3 * size_of (shown view.now) + 1) }
 {
     match read_reference(alloc, view, steps) {
-        Ok(reference) => match reference {
-            Some(reference) => Ok(ReferenceOr::Reference { reference }),
-            None => match read_callback(alloc, view, steps) {
-                Ok(callback) => Ok(ReferenceOr::Item(callback)),
-                Err(fault) => Err(fault),
-            },
-        },
+        Ok(Some(reference)) => Ok(ReferenceOr::Reference { reference }),
+        Ok(None) => as_item(read_callback(alloc, view, steps)),
         Err(fault) => Err(fault),
     }
 }
@@ -266,9 +233,8 @@ pub(crate) fn read_callback(
     view: &View<'_>,
     steps: &mut Steps,
 ) -> Result<Callback, Fault>
-    ensures reads { Gives callback_form result (kinds.by kinds.callback_object) (shown view.now) }
-    ensures rises { steps.old ≤ steps.new }
-    ensures count { steps.new + 3 ≤ steps.old + 3 * size_of (shown view.now) }
+    ensures reads { ReadAs callback_form result (kinds.by kinds.callback_object) (shown view.now) }
+    ensures count { RisesBelow steps.old steps.new (3 * size_of (shown view.now)) }
 {
     match members_shown(alloc, view) {
         Ok(members) => callback_of(alloc, members, steps),
@@ -284,10 +250,9 @@ fn callback_of(
     members: &OrderedMap<Node>,
     steps: &mut Steps,
 ) -> Result<Callback, Fault>
-    ensures reads { GivesRows callback_fields result (kinds.by kinds.callback_object) (members_of members.now) }
-    ensures rises { steps.old ≤ steps.new }
-    ensures count { steps.new ≤ steps.old + 3 * rows_weight (rows_asked final_tables (kinds.by kinds.callback_object))
-        (members_of members.now) }
+    ensures reads { RowsReadAs callback_fields result (kinds.by kinds.callback_object) (members_of members.now) }
+    ensures count { RisesBy steps.old steps.new
+        (3 * rows_weight (rows_asked final_tables (kinds.by kinds.callback_object)) (members_of members.now)) }
 {
     let paths = read_requests(alloc, members, steps)?;
     let extensions = extensions::<Callback>(alloc, members, steps)?;
@@ -301,11 +266,10 @@ fn read_requests(
     members: &OrderedMap<Node>,
     steps: &mut Steps,
 ) -> Result<OrderedMap<PathItem>, Fault>
-    ensures reads { GivesRow (map_form path_item_form) result (kinds.by kinds.callback_object)
+    ensures reads { RowReadAs (map_form path_item_form) result (kinds.by kinds.callback_object)
         (kinds.class kinds.callback_names (kinds.by kinds.path_item)) (members_of members.now) }
-    ensures rises { steps.old ≤ steps.new }
-    ensures count { steps.new ≤ steps.old + 3 * row_weight
-        (kinds.class kinds.callback_names (kinds.by kinds.path_item)) (members_of members.now) }
+    ensures count { RisesBy steps.old steps.new
+        (3 * row_weight (kinds.class kinds.callback_names (kinds.by kinds.path_item)) (members_of members.now)) }
 {
     let mut values = OrderedMap::new(alloc);
     for i in 0..members.len() {

@@ -1,14 +1,14 @@
-//! How operations, path items and callbacks are written. The functions call each other in a circle, as those that read
+//! How operations, path items and callbacks are written. The functions are mutually recursive, as those that read
 //! them do: each gets a smaller part of the value in the end.
-ghost use Rattle.std.specs.Prelude.{◌≡◌, codes, IfErr, IfOk, OnOk};
+ghost use Rattle.std.specs.Prelude.{codes, IfErr, IfOk, OnOk};
 ghost use Rattle.openapi_tables.specs.ByRow.{is_class, is_named};
 ghost use Rattle.openapi_tables.specs.Kind as kinds;
 ghost use Rattle.openapi_tables.specs.Slots.{before, through, slots_lost, IsWritten};
 ghost use Rattle.openapi_tables.specs.Tables.{callback_ref, final_tables};
-ghost use Rattle.openapi_rows.specs.Forms.{map_form, optional_form};
-ghost use Rattle.openapi_rows.specs.Gives.{Loses, WrittenAs};
+ghost use Rattle.openapi_fields.specs.Forms.{map_form, optional_form};
+ghost use Rattle.openapi_fields.specs.Returned.{NotWritable, WrittenAs};
 ghost use Rattle.openapi_values.specs.Reference.{reference_form};
-ghost use Rattle.openapi_knots.specs.Writing.{GivesWritten, RowsWritten};
+ghost use Rattle.openapi_fields.specs.Writing.{MemberWrittenAs, RowsWritten};
 ghost use Rattle.openapi_operations.specs.Fields.{callback_slots, operation_slots, path_item_slots};
 ghost use Rattle.openapi_operations.specs.OperationForms.{callback_form, operation_form, path_item_form};
 
@@ -16,9 +16,11 @@ use crate::callback::Callback;
 use crate::operation::Operation;
 use crate::parts::{put_before_callbacks, put_behind_callbacks};
 use crate::path_item::PathItem;
-use openapi_knots::{as_some, put_row, put_written, whole_object};
+use openapi_fields::{
+    Extensions, Names, as_some, put_extensions, put_implied, put_optional, put_row, put_written,
+    whole_object, write_reference,
+};
 use openapi_node::{Cause, Fault, Node, OrderedMap};
-use openapi_rows::{Extensions, Names, put_extensions, put_implied, put_optional, write_reference};
 use openapi_values::ReferenceOr;
 use std::alloc::Global;
 
@@ -65,7 +67,7 @@ fn put_methods(alloc: Global, path_item: &PathItem, out: &mut OrderedMap<Node>) 
     requires { IsWritten final_tables (before (is_named (codes "get")) (path_item_slots path_item.now)) out.old }
     ensures ok { OnOk result (IsWritten final_tables (through (is_named (codes "trace"))
         (path_item_slots path_item.now)) out.new) }
-    ensures err { IfErr result (λ f. Loses f (slots_lost final_tables (path_item_slots path_item.now))) }
+    ensures err { IfErr result (λ f. NotWritable f (slots_lost final_tables (path_item_slots path_item.now))) }
 {
     let get = write_method(alloc, &path_item.get);
     put_row(alloc, path_item, out, "get", get)?;
@@ -88,7 +90,7 @@ fn put_methods(alloc: Global, path_item: &PathItem, out: &mut OrderedMap<Node>) 
 /// Writes the operation under a method; nothing where there is none.
 #[cycle(write)]
 fn write_method(alloc: Global, value: &Option<Operation>) -> Result<Option<Node>, Fault>
-    ensures { GivesWritten kinds.optional (kinds.by kinds.operation) (optional_form operation_form value.now) result }
+    ensures { MemberWrittenAs kinds.optional (kinds.by kinds.operation) (optional_form operation_form value.now) result }
 {
     match value {
         None => Ok(None),
@@ -129,7 +131,7 @@ fn write_callbacks(
     alloc: Global,
     values: &OrderedMap<ReferenceOr<Callback>>,
 ) -> Result<Option<Node>, Fault>
-    ensures { GivesWritten kinds.listed (kinds.map_of callback_ref) (map_form (reference_form callback_form) values.now)
+    ensures { MemberWrittenAs kinds.listed (kinds.map_of callback_ref) (map_form (reference_form callback_form) values.now)
         result }
 {
     if values.is_empty() {
@@ -182,7 +184,7 @@ fn callback_members(alloc: Global, callback: &Callback) -> Result<OrderedMap<Nod
 fn request_members(alloc: Global, callback: &Callback) -> Result<OrderedMap<Node>, Fault>
     ensures ok { IfOk result (λ out. IsWritten final_tables (through (is_class kinds.callback_names)
         (callback_slots callback.now)) out) }
-    ensures err { IfErr result (λ f. Loses f (slots_lost final_tables (callback_slots callback.now))) }
+    ensures err { IfErr result (λ f. NotWritable f (slots_lost final_tables (callback_slots callback.now))) }
 {
     let mut out = OrderedMap::new(alloc);
     for i in 0..callback.paths.len() {

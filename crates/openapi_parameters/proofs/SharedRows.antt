@@ -16,9 +16,9 @@ use Rattle.openapi_tables.specs.ByRow.{AreRows, Broken, asking}
 use Rattle.openapi_tables.proofs.ByRowLaws.{among_left, broken_root}
 use Rattle.openapi_tables.proofs.ListLaws.{join_assoc}
 use Rattle.openapi_tables.proofs.TreeLaws.{tree_of_root-seen}
-use Rattle.openapi_rows.specs.Gives.{Fails}
-use Rattle.openapi_rows.proofs.Referring.{fails_moved}
-use Rattle.openapi_knots.proofs.JoinedRows.{asks_join, rows_join}
+use Rattle.openapi_fields.specs.Returned.{Fails}
+use Rattle.openapi_fields.proofs.Referring.{fails_moved}
+use Rattle.openapi_fields.proofs.JoinedRows.{asks_join, rows_join}
 use Rattle.openapi_parameters.specs.Parameters.{parameter_data_rows}
 use Rattle.openapi_parameters.specs.declared.parameter_data.ParameterData.{ParameterData}
 

@@ -12,11 +12,11 @@ use Rattle.openapi_tables.specs.Laws.{Among}
 use Rattle.openapi_tables.specs.ByRow.{is_named}
 use Rattle.openapi_tables.specs.Slots.{Slot, slots_apart, slots_lost, through, IsWritten}
 use Rattle.openapi_tables.proofs.SlotWriting.{slots_apart-rows}
-use Rattle.openapi_rows.specs.Forms.{record_slots}
-use Rattle.openapi_rows.specs.Gives.{Loses}
-use Rattle.openapi_knots.specs.Writing.{AreNew, RowsWritten}
-use Rattle.openapi_knots.proofs.JoinedSlots.{loses_first, loses_second, new_behind, written_behind}
-use Rattle.openapi_knots.proofs.JoinedSlots.{loses_wider}
+use Rattle.openapi_fields.specs.Forms.{record_slots}
+use Rattle.openapi_fields.specs.Returned.{NotWritable}
+use Rattle.openapi_fields.specs.Writing.{AreNew, RowsWritten}
+use Rattle.openapi_fields.proofs.JoinedSlots.{loses_first, loses_second, new_behind, written_behind}
+use Rattle.openapi_fields.proofs.JoinedSlots.{loses_wider}
 use Rattle.openapi_parameters.specs.Parameters.{data_of_parameter, parameter_data_rows, parameter_slots}
 use Rattle.openapi_parameters.specs.Parameters.{parameter_word, shared_slots}
 use Rattle.openapi_parameters.specs.declared.parameter.Parameter.{Parameter}
@@ -67,8 +67,8 @@ module _ (x : Parameter) where
 
   -- what those lose the parameter loses
   pub data_loses : (f : Fault)
-      → Loses f (slots_lost final_tables (record_slots parameter_data parameter_data_rows (data_of_parameter x)))
-      → Loses f (slots_lost final_tables (parameter_slots x))
+      → NotWritable f (slots_lost final_tables (record_slots parameter_data parameter_data_rows (data_of_parameter x)))
+      → NotWritable f (slots_lost final_tables (parameter_slots x))
   data_loses f h =
       loses_wider f (slots_lost final_tables its_data) (slots_lost final_tables (parameter_slots x)) leads h
     where

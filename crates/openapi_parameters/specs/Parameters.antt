@@ -9,9 +9,9 @@ use Rattle.openapi_tables.specs.Members.{is_case}
 use Rattle.openapi_tables.specs.Form.{Form, absent, leaf}
 use Rattle.openapi_tables.specs.Slots.{Slot}
 use Rattle.openapi_values.specs.Words.{word_form, query_style_word, header_style_word, path_style_word, cookie_style_word}
-use Rattle.openapi_rows.specs.Forms.{text_form, flag_form, optional_form, map_form, extensions_form}
-use Rattle.openapi_rows.specs.Forms.{record_slots, tagged_form, tagged_slots}
-use Rattle.openapi_contents.specs.ContentForms.{example_ref_form, format_form}
+use Rattle.openapi_fields.specs.Forms.{text_form, flag_form, optional_form, map_form, extensions_form}
+use Rattle.openapi_fields.specs.Forms.{record_slots, tagged_form, tagged_slots}
+use Rattle.openapi_media_types.specs.ContentForms.{example_ref_form, format_form}
 use Rattle.openapi_parameters.specs.declared.location.ParameterLocation.{ParameterLocation}
 use Rattle.openapi_parameters.specs.declared.location.ParameterLocation.TheVariants as locations
 use Rattle.openapi_parameters.specs.declared.parameter.Parameter.{Parameter}

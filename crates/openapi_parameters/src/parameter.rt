@@ -5,9 +5,9 @@ ghost use Rattle.openapi_node.specs.Tree.{size_of};
 ghost use Rattle.openapi_tables.specs.Kind.{ref_to};
 ghost use Rattle.openapi_tables.specs.Tables.{parameter};
 ghost use Rattle.openapi_values.specs.Reference.{reference_form};
-ghost use Rattle.openapi_rows.specs.Gives.{Gives, Refuses, WrittenAs};
-ghost use Rattle.openapi_rows.proofs.Spared.{parameter_spares};
-ghost use Rattle.openapi_rows.proofs.Tagging.{parameter_sound, tagged_apart};
+ghost use Rattle.openapi_fields.specs.Returned.{ReadAs, Refuses, WrittenAs};
+ghost use Rattle.openapi_fields.proofs.Spared.{parameter_spares};
+ghost use Rattle.openapi_fields.proofs.Tagging.{parameter_sound, tagged_apart};
 ghost use Rattle.openapi_parameters.specs.Parameters.{data_of_parameter, parameter_cases, parameter_form};
 ghost use Rattle.openapi_parameters.specs.Parameters.{parameter_known, parameter_rows, parameter_slots, parameter_word};
 
@@ -15,8 +15,8 @@ use crate::location::ParameterLocation;
 use crate::parameter_data::ParameterData;
 use crate::read::{read_cookie, read_header, read_path, read_query};
 use crate::write::put_parameter;
+use openapi_fields::{FromNode, HasSlots, Object, Referable, ToNode, tag};
 use openapi_node::{Cause, Expected, Fault, Node, OrderedMap, Steps, View};
-use openapi_rows::{FromNode, Object, Referable, ToNode, tag};
 use openapi_values::{CookieStyle, HeaderStyle, PathStyle, QueryStyle, ReferenceOr};
 use std::alloc::Global;
 
@@ -86,7 +86,7 @@ impl Parameter {
     }
 }
 
-impl Object for Parameter {
+impl HasSlots for Parameter {
     ghost object = { parameter };
 
     ghost slots_of = { parameter_slots };
@@ -139,7 +139,7 @@ pub fn parameter_ref_from_node(
     node: &Node,
     steps: &mut Steps,
 ) -> Result<ReferenceOr<Parameter>, Fault>
-    ensures reads { Gives (reference_form parameter_form) result (ref_to parameter) node.now }
+    ensures reads { ReadAs (reference_form parameter_form) result (ref_to parameter) node.now }
     ensures refuses { Refuses result (ref_to parameter) node.now }
     ensures rises { steps.old + 1 ≤ steps.new }
     ensures count { steps.new ≤ steps.old + 3 * size_of node.now }

@@ -1,19 +1,14 @@
 //! What parameters of all places have.
-ghost use Rattle.std.proofs.Common.{refl};
-ghost use Rattle.std.specs.Prelude.{◌≡◌, ◌+◌, ◌≤◌, ◌*◌};
-ghost use Rattle.openapi_tables.specs.Kind.{by, parameter_data};
-ghost use Rattle.openapi_tables.proofs.SlotWriting.{final_apart};
-ghost use Rattle.openapi_rows.specs.Forms.{record_form, record_slots};
+ghost use Rattle.openapi_tables.specs.Kind.{parameter_data};
 ghost use Rattle.openapi_parameters.specs.Parameters.{parameter_data_rows};
 
-use openapi_contents::{ParameterSchemaOrContent, format_name, read_format, write_format};
-use openapi_knots::put_decided;
-use openapi_node::{Fault, Node, OrderedMap, Steps, View};
-use openapi_records::Example;
-use openapi_rows::{
-    FromNode, Object, Record, ToNode, extensions, optional, or_implied, put_extensions,
-    put_implied, put_optional, put_required, read_record, required, write_record,
+use openapi_fields::{
+    Object, Record, extensions, optional, or_implied, put_decided, put_extensions, put_implied,
+    put_optional, put_required, required,
 };
+use openapi_media_types::{ParameterSchemaOrContent, format_name, read_format, write_format};
+use openapi_metadata::Example;
+use openapi_node::{Fault, Node, OrderedMap, Steps};
 use openapi_values::ReferenceOr;
 use std::alloc::Global;
 
@@ -44,22 +39,18 @@ pub struct ParameterData {
 }
 
 impl Object for ParameterData {
-    ghost object = { by parameter_data };
+    ghost table = { parameter_data };
 
-    ghost slots_of = { record_slots parameter_data parameter_data_rows };
-
-    ghost apart = { λ x. final_apart parameter_data (parameter_data_rows x) };
+    ghost rows_of = { parameter_data_rows };
 }
 
 #[tactic(auto, unfolding(openapi_tables::specs::Tables::final_tables, openapi_tables::specs::Tables::tables_with))]
 impl Record for ParameterData {
-    ghost rows_of = { parameter_data_rows };
-
     fn from_members(
         alloc: Global,
         members: &OrderedMap<Node>,
         steps: &mut Steps,
-    ) -> Result<ParameterData, Fault> {
+    ) -> Result<Self, Fault> {
         let required_flag = or_implied::<Self, _>(alloc, members, "required", steps)?;
         let deprecated = optional::<Self, _>(alloc, members, "deprecated", steps)?;
         let explode = optional::<Self, _>(alloc, members, "explode", steps)?;
@@ -94,32 +85,4 @@ impl Record for ParameterData {
         put_optional(alloc, self, out, "explode", &self.explode)?;
         put_extensions(alloc, self, out, &self.extensions)
     }
-
-    ghost by_table = { refl };
-
-    ghost by_rows = { λ x. refl };
-}
-
-impl FromNode for ParameterData {
-    ghost kind = { by parameter_data };
-
-    ghost form_of = { record_form parameter_data_rows };
-
-    fn from_view(
-        alloc: Global,
-        view: &View<'_>,
-        steps: &mut Steps,
-    ) -> Result<ParameterData, Fault> {
-        read_record(alloc, view, steps)
-    }
-
-    ghost well_made = { refl };
-}
-
-impl ToNode for ParameterData {
-    fn to_node(&self, alloc: Global) -> Result<Node, Fault> {
-        write_record(alloc, self)
-    }
-
-    ghost there = { λ x. refl };
 }

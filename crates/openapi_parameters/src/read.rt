@@ -1,62 +1,53 @@
 //! How the members of a parameter are read, by the table of its place.
-ghost use Rattle.std.proofs.Common.{refl};
-ghost use Rattle.std.specs.Prelude.{◌≡◌, ◌+◌, ◌≤◌, ◌*◌, true, [], codes, IfOk};
+ghost use Rattle.std.specs.Prelude.{◌≡◌, ◌*◌, [], codes, IfOk};
 ghost use Rattle.openapi_node.specs.Tree.{members_of};
 ghost use Rattle.openapi_tables.specs.ByRow.{rows_weight};
 ghost use Rattle.openapi_tables.specs.Kind.{by};
 ghost use Rattle.openapi_tables.specs.Kind as kinds;
 ghost use Rattle.openapi_tables.specs.Tables.{final_tables};
-ghost use Rattle.openapi_rows.specs.Gives.{GivesRows};
+ghost use Rattle.openapi_fields.specs.Returned.{RowsReadAs, RisesBy};
 ghost use Rattle.openapi_parameters.specs.Parameters.{parameter_rows, parameter_word};
 
 use crate::parameter::Parameter;
 use crate::parameter_data::ParameterData;
+use openapi_fields::{Object, Record, optional, or_implied};
 use openapi_node::{Fault, Node, OrderedMap, Steps};
-use openapi_rows::{Object, Record, optional, or_implied};
 use std::alloc::Global;
 
 /// The table of the parameters in a query.
 struct QueryTable;
 
 impl Object for QueryTable {
-    ghost object = { by kinds.query_parameter };
+    ghost table = { kinds.query_parameter };
 
-    ghost slots_of = { λ x. [] };
-
-    ghost apart = { λ x. refl };
+    ghost rows_of = { λ x. [] };
 }
 
 /// The table of the parameters in a header.
 struct HeaderTable;
 
 impl Object for HeaderTable {
-    ghost object = { by kinds.header_parameter };
+    ghost table = { kinds.header_parameter };
 
-    ghost slots_of = { λ x. [] };
-
-    ghost apart = { λ x. refl };
+    ghost rows_of = { λ x. [] };
 }
 
 /// The table of the parameters in a path.
 struct PathTable;
 
 impl Object for PathTable {
-    ghost object = { by kinds.path_parameter };
+    ghost table = { kinds.path_parameter };
 
-    ghost slots_of = { λ x. [] };
-
-    ghost apart = { λ x. refl };
+    ghost rows_of = { λ x. [] };
 }
 
 /// The table of the parameters in a cookie.
 struct CookieTable;
 
 impl Object for CookieTable {
-    ghost object = { by kinds.cookie_parameter };
+    ghost table = { kinds.cookie_parameter };
 
-    ghost slots_of = { λ x. [] };
-
-    ghost apart = { λ x. refl };
+    ghost rows_of = { λ x. [] };
 }
 
 /// Reads a parameter in a query.
@@ -66,10 +57,10 @@ pub(crate) fn read_query(
     members: &OrderedMap<Node>,
     steps: &mut Steps,
 ) -> Result<Parameter, Fault>
-    ensures reads { GivesRows parameter_rows result (by kinds.query_parameter) (members_of members.now) }
+    ensures reads { RowsReadAs parameter_rows result (by kinds.query_parameter) (members_of members.now) }
     ensures word { IfOk result (λ x. parameter_word x ≡ codes "query") }
-    ensures rises { steps.old ≤ steps.new }
-    ensures count { steps.new ≤ steps.old + 3 * rows_weight (final_tables kinds.query_parameter) (members_of members.now) }
+    ensures count { RisesBy steps.old steps.new
+        (3 * rows_weight (final_tables kinds.query_parameter) (members_of members.now)) }
 {
     let allow_reserved = or_implied::<QueryTable, _>(alloc, members, "allowReserved", steps)?;
     let style = or_implied::<QueryTable, _>(alloc, members, "style", steps)?;
@@ -89,10 +80,10 @@ pub(crate) fn read_header(
     members: &OrderedMap<Node>,
     steps: &mut Steps,
 ) -> Result<Parameter, Fault>
-    ensures reads { GivesRows parameter_rows result (by kinds.header_parameter) (members_of members.now) }
+    ensures reads { RowsReadAs parameter_rows result (by kinds.header_parameter) (members_of members.now) }
     ensures word { IfOk result (λ x. parameter_word x ≡ codes "header") }
-    ensures rises { steps.old ≤ steps.new }
-    ensures count { steps.new ≤ steps.old + 3 * rows_weight (final_tables kinds.header_parameter) (members_of members.now) }
+    ensures count { RisesBy steps.old steps.new
+        (3 * rows_weight (final_tables kinds.header_parameter) (members_of members.now)) }
 {
     let style = or_implied::<HeaderTable, _>(alloc, members, "style", steps)?;
     Ok(Parameter::Header {
@@ -108,10 +99,10 @@ pub(crate) fn read_path(
     members: &OrderedMap<Node>,
     steps: &mut Steps,
 ) -> Result<Parameter, Fault>
-    ensures reads { GivesRows parameter_rows result (by kinds.path_parameter) (members_of members.now) }
+    ensures reads { RowsReadAs parameter_rows result (by kinds.path_parameter) (members_of members.now) }
     ensures word { IfOk result (λ x. parameter_word x ≡ codes "path") }
-    ensures rises { steps.old ≤ steps.new }
-    ensures count { steps.new ≤ steps.old + 3 * rows_weight (final_tables kinds.path_parameter) (members_of members.now) }
+    ensures count { RisesBy steps.old steps.new
+        (3 * rows_weight (final_tables kinds.path_parameter) (members_of members.now)) }
 {
     let style = or_implied::<PathTable, _>(alloc, members, "style", steps)?;
     Ok(Parameter::Path {
@@ -127,10 +118,10 @@ pub(crate) fn read_cookie(
     members: &OrderedMap<Node>,
     steps: &mut Steps,
 ) -> Result<Parameter, Fault>
-    ensures reads { GivesRows parameter_rows result (by kinds.cookie_parameter) (members_of members.now) }
+    ensures reads { RowsReadAs parameter_rows result (by kinds.cookie_parameter) (members_of members.now) }
     ensures word { IfOk result (λ x. parameter_word x ≡ codes "cookie") }
-    ensures rises { steps.old ≤ steps.new }
-    ensures count { steps.new ≤ steps.old + 3 * rows_weight (final_tables kinds.cookie_parameter) (members_of members.now) }
+    ensures count { RisesBy steps.old steps.new
+        (3 * rows_weight (final_tables kinds.cookie_parameter) (members_of members.now)) }
 {
     let style = or_implied::<CookieTable, _>(alloc, members, "style", steps)?;
     Ok(Parameter::Cookie {

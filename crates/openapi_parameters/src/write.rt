@@ -1,17 +1,16 @@
 //! How the members of a parameter are written: its `in`, what parameters of all places have, and what only those of its
 //! place have.
-ghost use Rattle.std.specs.Prelude.{◌≡◌, [], codes, OnOk, IfErr};
+ghost use Rattle.std.specs.Prelude.{◌≡◌, [], OnOk, IfErr};
 ghost use Rattle.openapi_tables.specs.Slots.{slots_lost, IsWritten};
 ghost use Rattle.openapi_tables.specs.Tables.{final_tables};
-ghost use Rattle.openapi_rows.specs.Gives.{Loses};
+ghost use Rattle.openapi_fields.specs.Returned.{NotWritable};
 ghost use Rattle.openapi_parameters.specs.Parameters.{parameter_location_word, parameter_slots, parameter_word};
 ghost use Rattle.openapi_parameters.specs.Parameters.{shared_slots};
 
 use crate::location::ParameterLocation;
 use crate::parameter::Parameter;
-use openapi_knots::{append, record_rows};
+use openapi_fields::{append, put_implied, put_optional, put_tag, record_rows};
 use openapi_node::{Fault, Node, OrderedMap};
-use openapi_rows::{put_implied, put_optional, put_tag};
 use openapi_values::Word;
 use std::alloc::Global;
 
@@ -31,7 +30,7 @@ fn location(value: &Parameter) -> ParameterLocation
 fn put_shared(alloc: Global, value: &Parameter, out: &mut OrderedMap<Node>) -> Result<(), Fault>
     requires { IsWritten final_tables [] out.old }
     ensures ok { OnOk result (IsWritten final_tables (shared_slots value.now) out.new) }
-    ensures err { IfErr result (λ f. Loses f (slots_lost final_tables (parameter_slots value.now))) }
+    ensures err { IfErr result (λ f. NotWritable f (slots_lost final_tables (parameter_slots value.now))) }
 {
     put_tag(alloc, value, out, "in", location(value).as_str())?;
     append(alloc, out, record_rows(alloc, value.parameter_data_ref())?)
@@ -46,7 +45,7 @@ pub(crate) fn put_parameter(
 ) -> Result<(), Fault>
     requires { IsWritten final_tables [] out.old }
     ensures ok { OnOk result (IsWritten final_tables (parameter_slots value.now) out.new) }
-    ensures err { IfErr result (λ f. Loses f (slots_lost final_tables (parameter_slots value.now))) }
+    ensures err { IfErr result (λ f. NotWritable f (slots_lost final_tables (parameter_slots value.now))) }
 {
     put_shared(alloc, value, out)?;
     match value {

@@ -6,7 +6,7 @@ use Rattle.openapi_map.specs.Entries.{Entries}
 use Rattle.openapi_tables.specs.Lists.{each}
 use Rattle.openapi_tables.specs.Form.{Form, leaf, reference, an_item, named, named_of, name, sequence, forms_of}
 use Rattle.openapi_tables.specs.Slots.{pairs_of}
-use Rattle.openapi_rows.specs.Forms.{text_form, optional_form, map_form}
+use Rattle.openapi_fields.specs.Forms.{text_form, optional_form, map_form}
 use Rattle.openapi_values.specs.Reference.{reference_form}
 use Rattle.openapi_values.specs.declared.reference.ReferenceOr.{ReferenceOr}
 use Rattle.openapi_values.specs.declared.reference.ReferenceOr.TheVariants as r

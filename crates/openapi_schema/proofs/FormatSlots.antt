@@ -31,11 +31,11 @@ use Rattle.openapi_node.specs.Tree.{Tree, null}
 use Rattle.openapi_node.specs.declared.node.Node.{Node}
 use Rattle.openapi_node.specs.declared.fault.Fault.{Fault}
 use Rattle.openapi_tables.specs.Lists.{each}
-use Rattle.openapi_parts.specs.Enumerations.{entry_tree, GivesEntries}
+use Rattle.openapi_schema_types.specs.Enumerations.{entry_tree, EntriesReadAs}
 use Rattle.openapi_schema.specs.KindNames.{trees_form}
-use Rattle.openapi_schema.specs.Kinds.{GivesEnumeration, trees_in, trees_or_none}
+use Rattle.openapi_schema.specs.Kinds.{EnumerationReadAs, trees_in, trees_or_none}
 use Rattle.openapi_tables.specs.Form.{Form, leaf, known, other, sequence, named, no_forms, no_named, forms_of}
-use Rattle.openapi_rows.specs.Forms.{optional_form, text_form, map_form}
+use Rattle.openapi_fields.specs.Forms.{optional_form, text_form, map_form}
 use Rattle.openapi_values.specs.VariantOr.{IsVariantOrEmptyOf, variant_or_empty_form}
 use Rattle.openapi_values.specs.Words.{IsWordRead}
 use Rattle.openapi_values.specs.declared.variant_or.VariantOrUnknownOrEmpty.{VariantOrUnknownOrEmpty}
@@ -88,7 +88,7 @@ entry_forms tree_in (Some x ∷ os) = ap (λ fs. leaf (tree_in x) ∷ fs) (entry
 
 pub entries_given : {X : Type 0} → (test : Tree → Bool) (tree_in : X → Tree) (r : Result (Option (Vec
     (Option X))) Fault) (ts : List Tree)
-    → GivesEntries test tree_in r ts → GivesEnumeration test tree_in r (Some ts)
+    → EntriesReadAs test tree_in r ts → EnumerationReadAs test tree_in r (Some ts)
 entries_given test tree_in (Ok None) ts h = h
 entries_given test tree_in (Ok (Some v)) ts h = (
   h.0,

@@ -13,7 +13,7 @@ use Rattle.openapi_tables.specs.Members.{
   array_sort,
   any_sort,
 }
-use Rattle.openapi_rows.specs.Forms.{text_form, optional_form, map_form}
+use Rattle.openapi_fields.specs.Forms.{text_form, optional_form, map_form}
 use Rattle.openapi_values.specs.Reference.{reference_form}
 use Rattle.openapi_values.specs.declared.reference.ReferenceOr.{ReferenceOr}
 use Rattle.openapi_values.specs.declared.reference.ReferenceOr.TheVariants as r
@@ -43,10 +43,10 @@ use Rattle.openapi_schema.specs.SchemaForms.{
   size_form,
   list_form,
 }
-use Rattle.openapi_parts.specs.declared.string_type.StringType.{StringType}
-use Rattle.openapi_parts.specs.declared.number_type.NumberType.{NumberType}
-use Rattle.openapi_parts.specs.declared.integer_type.IntegerType.{IntegerType}
-use Rattle.openapi_parts.specs.declared.boolean_type.BooleanType.{BooleanType}
+use Rattle.openapi_schema_types.specs.declared.string_type.StringType.{StringType}
+use Rattle.openapi_schema_types.specs.declared.number_type.NumberType.{NumberType}
+use Rattle.openapi_schema_types.specs.declared.integer_type.IntegerType.{IntegerType}
+use Rattle.openapi_schema_types.specs.declared.boolean_type.BooleanType.{BooleanType}
 use Rattle.openapi_schema.specs.declared.any_schema.AnySchema.{AnySchema}
 use Rattle.openapi_schema.specs.declared.composite_types.ObjectType.{ObjectType, roll-ObjectType}
 use Rattle.openapi_schema.specs.declared.composite_types.ArrayType.{ArrayType, roll-ArrayType}

@@ -18,9 +18,9 @@ use Rattle.openapi_tables.specs.ByRow.{row_form, AreRows, rows_weight, asking, B
 use Rattle.openapi_tables.proofs.ListLaws.{each-join}
 use Rattle.openapi_tables.proofs.Taken.{trees_of-members}
 use Rattle.openapi_tables.proofs.ByRowLaws.{rows_hold, rows_weight-le}
-use Rattle.openapi_rows.specs.Gives.{Fails}
-use Rattle.openapi_rows.proofs.Referring.{fails_moved}
-use Rattle.openapi_knots.proofs.JoinedRows.{among_rows, rows_join, rows_weight-join}
+use Rattle.openapi_fields.specs.Returned.{Fails}
+use Rattle.openapi_fields.proofs.Referring.{fails_moved}
+use Rattle.openapi_fields.proofs.JoinedRows.{among_rows, rows_join, rows_weight-join}
 use Rattle.openapi_schema.specs.RawSlots.{optional_rows, sort_slots}
 use Rattle.openapi_schema.proofs.SortSlots.{sort_slots-read}
 

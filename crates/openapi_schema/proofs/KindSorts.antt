@@ -25,8 +25,8 @@ use Rattle.openapi_tables.specs.Members.{Sort, any_sort, sort_of, further}
 use Rattle.openapi_tables.specs.Form.{Form}
 use Rattle.openapi_tables.specs.Proper.{is_absent}
 use Rattle.openapi_tables.specs.ByRow.{AreRows}
-use Rattle.openapi_rows.specs.Forms.{optional_form}
-use Rattle.openapi_parts.specs.Masks.{mask_of, presence, sort_by_names, IsType}
+use Rattle.openapi_fields.specs.Forms.{optional_form}
+use Rattle.openapi_schema_types.specs.Masks.{mask_of, presence, sort_by_names, IsType}
 use Rattle.openapi_schema.specs.RawSlots.{optional_rows}
 use Rattle.openapi_schema.specs.KindNames.{flags_in, kind_name_rows}
 use Rattle.openapi_schema.specs.declared.kind_names.FirstNames.{FirstNames}

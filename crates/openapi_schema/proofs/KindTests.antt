@@ -37,8 +37,8 @@ use Rattle.openapi_tables.specs.Members.{
 }
 use Rattle.openapi_tables.specs.Form.{Form, sequence, no_forms}
 use Rattle.openapi_tables.specs.ByRow.{AreRows, RowGives}
-use Rattle.openapi_rows.specs.Forms.{optional_form}
-use Rattle.openapi_parts.specs.Masks.{sort_by_names}
+use Rattle.openapi_fields.specs.Forms.{optional_form}
+use Rattle.openapi_schema_types.specs.Masks.{sort_by_names}
 use Rattle.openapi_schema.specs.RawSlots.{optional_rows, or_else}
 use Rattle.openapi_schema.specs.SchemaForms.{list_form, entry_form}
 use Rattle.openapi_schema.specs.KindNames.{kind_name_rows, trees_form}

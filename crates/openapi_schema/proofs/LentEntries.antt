@@ -11,8 +11,8 @@ use Rattle.openapi_tables.specs.Conforms.{conforms}
 use Rattle.openapi_tables.specs.Form.{leaf}
 use Rattle.openapi_tables.specs.Read.{form}
 use Rattle.openapi_tables.proofs.ByRowLaws.{any_conforms, any_form}
-use Rattle.openapi_rows.specs.Presence.{AtMember}
-use Rattle.openapi_rows.proofs.Elements.{list_gives}
+use Rattle.openapi_fields.specs.Presence.{AtMember}
+use Rattle.openapi_fields.proofs.Elements.{list_gives}
 use Rattle.openapi_schema.specs.KindNames.{trees_form}
 use Rattle.openapi_schema.specs.Kinds.{entries_weight, trees_in}
 

@@ -29,11 +29,11 @@ use Rattle.openapi_schema.specs.SchemaForms.{
 use Rattle.openapi_schema.specs.declared.any_schema.AnySchema.{AnySchema, out-AnySchema}
 use Rattle.openapi_schema.specs.declared.composite_types.ArrayType.{ArrayType, out-ArrayType}
 use Rattle.openapi_schema.specs.declared.composite_types.ObjectType.{ObjectType, out-ObjectType}
-use Rattle.openapi_parts.specs.declared.schema_data.SchemaData.{SchemaData}
-use Rattle.openapi_parts.specs.declared.boolean_type.BooleanType.{BooleanType}
-use Rattle.openapi_parts.specs.declared.integer_type.IntegerType.{IntegerType}
-use Rattle.openapi_parts.specs.declared.number_type.NumberType.{NumberType}
-use Rattle.openapi_parts.specs.declared.string_type.StringType.{StringType}
+use Rattle.openapi_schema_types.specs.declared.schema_data.SchemaData.{SchemaData}
+use Rattle.openapi_schema_types.specs.declared.boolean_type.BooleanType.{BooleanType}
+use Rattle.openapi_schema_types.specs.declared.integer_type.IntegerType.{IntegerType}
+use Rattle.openapi_schema_types.specs.declared.number_type.NumberType.{NumberType}
+use Rattle.openapi_schema_types.specs.declared.string_type.StringType.{StringType}
 use Rattle.openapi_schema.specs.declared.schema.AdditionalProperties.{the_lemmas}
 use Rattle.openapi_schema.specs.declared.schema.AdditionalProperties.TheFolds.{
   fold_out-AnySchema,
@@ -45,14 +45,9 @@ use Rattle.openapi_schema.specs.declared.schema.AdditionalProperties.TheFolds.{
 use Rattle.openapi_schema.specs.declared.schema.Schema.{Schema, out-Schema, roll-Schema}
 use Rattle.openapi_schema.specs.declared.schema.SchemaKind.{SchemaKind}
 use Rattle.openapi_schema.specs.declared.schema.SchemaKind.TheVariants as kind
-use Rattle.openapi_schema.specs.declared.schema.SchemaType.{SchemaType}
 use Rattle.openapi_schema.specs.declared.schema.SchemaType.TheVariants as typ
 use Rattle.openapi_schema.proofs.AnyForms.{any_rows-level}
 use Rattle.openapi_schema.proofs.KindForms.{array_rows-level, object_rows-level}
-
--- a typed kind is its type
-pub typed_rows : (t : SchemaType) → schema_kind_rows (kind.Typed t) ≡ schema_type_rows t
-typed_rows t = search (rules, the_lemmas)
 
 pub string_rows-type : (x : StringType) → schema_type_rows (typ.String x) ≡ (string_sort, absent ∷ string_type_rows x)
 string_rows-type x = search (rules, the_lemmas)

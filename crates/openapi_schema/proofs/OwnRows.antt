@@ -15,8 +15,8 @@ use Rattle.openapi_tables.specs.Tables.{final_tables, tables_with, any_rows}
 use Rattle.openapi_tables.specs.ByRow.{AreRows, Broken, RowGives, asking, row_weight, rows_weight}
 use Rattle.openapi_tables.specs.Tree.{Entry, of_members}
 use Rattle.openapi_tables.proofs.ByRowLaws.{among_left, among_right}
-use Rattle.openapi_rows.specs.Gives.{Fails}
-use Rattle.openapi_rows.specs.Forms.{text_form, optional_form, map_form, flag_form, size_form, list_form}
+use Rattle.openapi_fields.specs.Returned.{Fails}
+use Rattle.openapi_fields.specs.Forms.{text_form, optional_form, map_form, flag_form, size_form, list_form}
 use Rattle.openapi_schema.specs.Fields.{object_fields, array_fields, any_fields}
 use Rattle.openapi_schema.specs.KindNames.{any_first, any_first_rows, any_last, any_last_rows, any_rest, any_rest_rows}
 use Rattle.openapi_schema.specs.Reading.{inner_box_form}
@@ -27,10 +27,10 @@ use Rattle.openapi_schema.specs.declared.composite_types.ObjectType.{roll-Object
 use Rattle.openapi_schema.specs.declared.kind_names.FirstNames.{FirstNames}
 use Rattle.openapi_schema.specs.declared.kind_names.LastNames.{LastNames}
 use Rattle.openapi_schema.proofs.KindForms.{Array, Object, array_rows-roll, object_rows-roll}
-use Rattle.openapi_knots.proofs.JoinedRows.{rows_join}
+use Rattle.openapi_fields.proofs.JoinedRows.{rows_join}
 use Rattle.openapi_schema.proofs.KindGives.{none_broken}
 use Rattle.openapi_schema.proofs.OpenedForms.{array_rows-out, object_rows-out}
-use Rattle.openapi_rows.proofs.Referring.{fails_moved}
+use Rattle.openapi_fields.proofs.Referring.{fails_moved}
 
 -- an object by its fields
 pub object_read : (d : Object) (ms : Members)

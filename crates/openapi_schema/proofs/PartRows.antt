@@ -5,7 +5,7 @@ use Rattle.openapi_tables.specs.Kind.{any_text, any_tree, flag_or_schema, ref_to
 use Rattle.openapi_tables.specs.Kind.{optional, row}
 use Rattle.openapi_tables.specs.Tables.{final_tables, any_rows}
 use Rattle.openapi_tables.specs.ByRow.{AreRows, RowGives, rows_weight, row_weight}
-use Rattle.openapi_rows.specs.Forms.{optional_form, list_form, map_form, text_form}
+use Rattle.openapi_fields.specs.Forms.{optional_form, list_form, map_form, text_form}
 use Rattle.openapi_schema.specs.KindNames.{first_rows, last_rows, trees_form}
 use Rattle.openapi_schema.specs.PlainNames.{plain_first, plain_first_rows, plain_last, plain_last_rows}
 use Rattle.openapi_schema.specs.RawSlots.{optional_rows}

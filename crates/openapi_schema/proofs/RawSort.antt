@@ -53,13 +53,13 @@ use Rattle.openapi_tables.specs.Read.{form, root_form}
 use Rattle.openapi_tables.specs.Proper.{is_absent}
 use Rattle.openapi_tables.specs.ByRow.{RowGives, AreRows}
 use Rattle.openapi_tables.proofs.ByRowLaws.{any_form}
-use Rattle.openapi_rows.specs.Forms.{optional_form, text_form}
-use Rattle.openapi_parts.specs.Masks.{presence, IsType, sort_by_names}
+use Rattle.openapi_fields.specs.Forms.{optional_form, text_form}
+use Rattle.openapi_schema_types.specs.Masks.{presence, IsType, sort_by_names}
 use Rattle.openapi_schema.specs.RawSlots.{optional_rows}
 use Rattle.openapi_schema.specs.SchemaForms.{number_form}
 use Rattle.openapi_schema.specs.KindNames.{trees_form}
 use Rattle.openapi_schema.specs.Kinds.{entries_test, limit_test}
-use Rattle.openapi_parts.proofs.HeldRows.{conforms_held, form_held, absent_held}
+use Rattle.openapi_schema_types.proofs.HeldRows.{conforms_held, form_held, absent_held}
 
 -- rows of names that are all optional
 is_optional : Row → Bool

@@ -22,10 +22,10 @@ use Rattle.openapi_tables.specs.Laws.{Among}
 use Rattle.openapi_tables.specs.ByRow.{asking, Broken}
 use Rattle.openapi_tables.proofs.ByRowLaws.{among_left}
 use Rattle.openapi_tables.proofs.TreeLaws.{tree_of_root-seen}
-use Rattle.openapi_rows.specs.Gives.{Fails}
-use Rattle.openapi_rows.proofs.Below.{wrong_here}
-use Rattle.openapi_rows.proofs.Referring.{fails_item, fails_moved, fails_wider, no_reference}
-use Rattle.openapi_knots.proofs.JoinedRows.{asks_join}
+use Rattle.openapi_fields.specs.Returned.{Fails}
+use Rattle.openapi_fields.proofs.Below.{wrong_here}
+use Rattle.openapi_fields.proofs.Referring.{fails_item, fails_moved, fails_wider, no_reference}
+use Rattle.openapi_fields.proofs.JoinedRows.{asks_join}
 use Rattle.openapi_schema.specs.SchemaForms.{schema_form}
 
 -- where a reference or a schema is refused, it is refused where a flag might stand too

@@ -33,8 +33,8 @@ use Rattle.openapi_tables.specs.Tables.{final_tables, any_rows}
 use Rattle.openapi_tables.specs.Members.{sort}
 use Rattle.openapi_tables.specs.Form.{Form, leaf, fields, forms_of}
 use Rattle.openapi_tables.specs.ByRow.{AreRows, rows_weight}
-use Rattle.openapi_rows.specs.Gives.{Gives, Reads}
-use Rattle.openapi_rows.proofs.Below.{memory_fails}
+use Rattle.openapi_fields.specs.Returned.{ReadAs, Reads}
+use Rattle.openapi_fields.proofs.Below.{memory_fails}
 use Rattle.openapi_values.specs.Reference.{reference_form}
 use Rattle.openapi_values.specs.declared.reference.ReferenceOr.{ReferenceOr}
 use Rattle.openapi_values.specs.declared.reference.ReferenceOr.TheVariants as r
@@ -42,7 +42,7 @@ use Rattle.openapi_schema.specs.KindNames.{first_rows, last_rows, kind_name_rows
 use Rattle.openapi_schema.specs.Kinds.{IsKind, entries_left, entries_weight, trees_in}
 use Rattle.openapi_schema.specs.Present.{additional_level}
 use Rattle.openapi_schema.specs.RawSlots.{optional_rows}
-use Rattle.openapi_schema.specs.Reading.{GivesKind, first_optional, last_optional, outer_box_form, schema_kind_form}
+use Rattle.openapi_schema.specs.Reading.{KindReadAs, first_optional, last_optional, outer_box_form, schema_kind_form}
 use Rattle.openapi_schema.specs.SchemaForms.{Sorted, additional_step, schema_kind_step, schema_type_step, any_schema_step, array_type_step, object_type_step, schema_step, schema_form, additional_form, schema_kind_rows, schema_data_rows}
 use Rattle.openapi_schema.specs.declared.kind_names.FirstNames.{FirstNames}
 use Rattle.openapi_schema.specs.declared.kind_names.LastNames.{LastNames}
@@ -62,7 +62,7 @@ use Rattle.openapi_schema.specs.declared.schema.AdditionalProperties.TheFolds.{f
 use Rattle.openapi_schema.specs.declared.schema.AdditionalProperties.TheOpen.{AdditionalProperties-F, Schema-F}
 use Rattle.openapi_schema.specs.declared.schema.Schema.{Schema, roll-Schema}
 use Rattle.openapi_schema.specs.declared.schema.SchemaKind.{SchemaKind}
-use Rattle.openapi_knots.proofs.JoinedRows.{rows_join, rows_weight-join}
+use Rattle.openapi_fields.proofs.JoinedRows.{rows_join, rows_weight-join}
 use Rattle.openapi_schema.proofs.KindGives.{kind_gives, schema_gives}
 use denote.Hole.Carrier.{roll}
 
@@ -86,7 +86,7 @@ names_weight ms =
 -- what is made of what stands under the names is the kind of the schema
 pub kind_read : (r : Result SchemaKind Fault) (a : FirstNames) (b : LastNames) (ms : Members)
     → AreRows final_tables optional_rows (kind_name_rows a b) ms → IfOk r (λ k. IsKind k a b) → IfErr r IsMemory
-    → GivesKind r ms
+    → KindReadAs r ms
 kind_read (Ok k) a b ms rows h g = (kind_name_rows a b, rows, h ms rows)
 kind_read (Err f) a b ms rows h g = memory_fails f a_schema_kind (object ms) g
 
@@ -103,14 +103,14 @@ entries_left-le (Ok b) n m h k = k
 entries_left-le (Err f) n m h k = omega (arith, h)
 
 -- a kind by itself
-pub kind_reads : (k : SchemaKind) (ms : Members) → GivesKind (Ok k) ms → Reads schema_kind_form k a_schema_kind
+pub kind_reads : (k : SchemaKind) (ms : Members) → KindReadAs (Ok k) ms → Reads schema_kind_form k a_schema_kind
     (object ms)
 kind_reads k ms h =
     let g = kind_gives final_tables h.0 ms h.1 in
     (g.0, g.1 ∙ ap (λ (s : Sorted). fields (sort s.0) (forms_of s.1)) (sym h.2))
 
-pub kind_given : (r : Result SchemaKind Fault) (ms : Members) → GivesKind r ms
-    → Gives schema_kind_form r a_schema_kind (object ms)
+pub kind_given : (r : Result SchemaKind Fault) (ms : Members) → KindReadAs r ms
+    → ReadAs schema_kind_form r a_schema_kind (object ms)
 kind_given (Ok k) ms h = kind_reads k ms h
 kind_given (Err f) ms h = h
 
@@ -126,7 +126,7 @@ schema_form-roll d =
 pub schema_reads : (d : Schema-F the_data the_data-1 the_data-2 the_data-3 the_data-4 the_data-5 the_data-6)
     (ms : Members)
     → AreRows final_tables (final_tables schema_data) (schema_data_rows d.schema_data) ms
-    → GivesKind (Ok d.schema_kind) ms
+    → KindReadAs (Ok d.schema_kind) ms
     → Reads schema_form (roll-Schema d) a_schema (object ms)
 schema_reads d ms rows h =
     let g = schema_gives final_tables (schema_data_rows d.schema_data) h.0 ms rows h.1 in (

@@ -88,7 +88,7 @@ use Rattle.openapi_tables.proofs.ListLaws.{same_text_eq}
 use Rattle.openapi_tables.proofs.ReadAgain.{sort_in}
 use Rattle.openapi_tables.proofs.TreeLaws.{tree_of_root-seen}
 use Rattle.openapi_schema.specs.RawSlots.{optional_rows, or_else, as_format, slot_as, slot_of, sort_slots}
-use Rattle.openapi_parts.proofs.HeldRows.{form_there, conforms_held, form_held}
+use Rattle.openapi_schema_types.proofs.HeldRows.{form_there, conforms_held, form_held}
 
 -- kinds whose form is the tree itself
 is_bare : Kind → Bool

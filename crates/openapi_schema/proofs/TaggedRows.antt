@@ -6,8 +6,8 @@ use Rattle.openapi_tables.specs.Lists.{join}
 use Rattle.openapi_tables.specs.Tables.{final_tables}
 use Rattle.openapi_tables.specs.Slots.{Slot, slots_apart, slots_print, slots_lost, taken, all_taken, IsWritten}
 use Rattle.openapi_tables.proofs.ListLaws.{join_assoc}
-use Rattle.openapi_knots.specs.Writing.{AreNew}
-use Rattle.openapi_knots.proofs.JoinedSlots.{new_behind, written_behind}
+use Rattle.openapi_fields.specs.Writing.{AreNew}
+use Rattle.openapi_fields.proofs.JoinedSlots.{new_behind, written_behind}
 use Rattle.openapi_schema.specs.Writing.{tag_members, tag_slots}
 
 -- the member of a `type`

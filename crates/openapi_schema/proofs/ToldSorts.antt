@@ -49,10 +49,10 @@ use Rattle.openapi_tables.specs.Members.{
 use Rattle.openapi_tables.specs.Form.{Form}
 use Rattle.openapi_tables.specs.ByRow.{RowGives}
 use Rattle.openapi_tables.specs.Proper.{is_absent}
-use Rattle.openapi_rows.specs.Forms.{optional_form}
-use Rattle.openapi_rows.specs.Forms.{list_form}
-use Rattle.openapi_parts.specs.Masks.{sort_by_names}
-use Rattle.openapi_parts.proofs.HeldRows.{absent_held}
+use Rattle.openapi_fields.specs.Forms.{optional_form}
+use Rattle.openapi_fields.specs.Forms.{list_form}
+use Rattle.openapi_schema_types.specs.Masks.{sort_by_names}
+use Rattle.openapi_schema_types.proofs.HeldRows.{absent_held}
 
 -- whether what tells a sort is there: a name by which alone it is told
 abbrev told : Bool → Bool → Bool → Bool → Sort → Bool

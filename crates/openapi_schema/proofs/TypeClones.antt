@@ -5,14 +5,14 @@ use Rattle.openapi_map.specs.Entries.{Entries, IsCloneOf}
 use Rattle.openapi_node.specs.Tree.{Tree}
 use Rattle.openapi_tables.specs.Form.{Form, leaf, fields, forms_of}
 use Rattle.openapi_tables.specs.Members.{plain}
-use Rattle.openapi_rows.specs.Forms.{text_form, flag_form, number_form, size_form, optional_form}
-use Rattle.openapi_rows.specs.Forms.{extensions_form}
+use Rattle.openapi_fields.specs.Forms.{text_form, flag_form, number_form, size_form, optional_form}
+use Rattle.openapi_fields.specs.Forms.{extensions_form}
 use Rattle.openapi_values.specs.Words.{number_format_word, integer_format_word, string_format_word}
-use Rattle.openapi_annotations.specs.Objects.{external_documentation_rows, discriminator_rows, xml_rows}
-use Rattle.openapi_annotations.specs.declared.discriminator.Discriminator.{Discriminator}
-use Rattle.openapi_annotations.specs.declared.external_documentation.ExternalDocumentation.{ExternalDocumentation}
-use Rattle.openapi_annotations.specs.declared.xml.Xml.{Xml}
-use Rattle.openapi_parts.specs.Enumerations.{text_tree, number_tree, signed_tree, flag_tree}
+use Rattle.openapi_schema_annotations.specs.Objects.{external_documentation_rows, discriminator_rows, xml_rows}
+use Rattle.openapi_schema_annotations.specs.declared.discriminator.Discriminator.{Discriminator}
+use Rattle.openapi_schema_annotations.specs.declared.external_documentation.ExternalDocumentation.{ExternalDocumentation}
+use Rattle.openapi_schema_annotations.specs.declared.xml.Xml.{Xml}
+use Rattle.openapi_schema_types.specs.Enumerations.{text_tree, number_tree, signed_tree, flag_tree}
 use Rattle.openapi_schema.specs.SchemaForms.{
   entry_form,
   schema_data_rows,
@@ -21,12 +21,12 @@ use Rattle.openapi_schema.specs.SchemaForms.{
   integer_type_rows,
   boolean_type_rows,
 }
-use Rattle.openapi_parts.specs.declared.boolean_type.BooleanType.{BooleanType}
-use Rattle.openapi_parts.specs.declared.integer_type.IntegerType.{IntegerType}
-use Rattle.openapi_parts.specs.declared.number_type.NumberType.{NumberType}
-use Rattle.openapi_parts.specs.declared.string_type.StringType.{StringType}
-use Rattle.openapi_parts.specs.declared.schema_data.SchemaData.{SchemaData}
-use Rattle.openapi_knots.proofs.CloneForms.{
+use Rattle.openapi_schema_types.specs.declared.boolean_type.BooleanType.{BooleanType}
+use Rattle.openapi_schema_types.specs.declared.integer_type.IntegerType.{IntegerType}
+use Rattle.openapi_schema_types.specs.declared.number_type.NumberType.{NumberType}
+use Rattle.openapi_schema_types.specs.declared.string_type.StringType.{StringType}
+use Rattle.openapi_schema_types.specs.declared.schema_data.SchemaData.{SchemaData}
+use Rattle.openapi_fields.proofs.CloneForms.{
   IsSame,
   IsTextClone,
   IsOptionClone,

@@ -12,9 +12,9 @@ use Rattle.openapi_tables.specs.Print.{print}
 use Rattle.openapi_tables.specs.Unwritable.{unwritable}
 use Rattle.openapi_tables.specs.Slots.{slots, slots_apart, slots_lost, IsWritten}
 use Rattle.openapi_tables.proofs.SlotWriting.{none_written}
-use Rattle.openapi_rows.specs.Forms.{tagged_slots}
-use Rattle.openapi_rows.specs.Gives.{Loses}
-use Rattle.openapi_rows.proofs.Tagging.{tagged_apart, tagged_loses, tagged_writes}
+use Rattle.openapi_fields.specs.Forms.{tagged_slots}
+use Rattle.openapi_fields.specs.Returned.{NotWritable}
+use Rattle.openapi_fields.proofs.Tagging.{tagged_apart, tagged_loses, tagged_writes}
 use Rattle.openapi_schema.specs.SchemaForms.{
   Sorted,
   additional_step,
@@ -41,7 +41,7 @@ use Rattle.openapi_schema.specs.TypeForms.{
   schema_type_form,
   schema_type_sound,
 }
-use Rattle.openapi_knots.specs.Writing.{AreNew}
+use Rattle.openapi_fields.specs.Writing.{AreNew}
 use Rattle.openapi_schema.specs.Writing.{sorted_slots, tag_members, tag_slots, type_slots, untagged}
 use Rattle.openapi_schema.specs.declared.schema.AdditionalProperties.TheBlock.{
   the_data,
@@ -56,7 +56,7 @@ use Rattle.openapi_schema.specs.declared.schema.AdditionalProperties.TheFolds.{f
 use Rattle.openapi_schema.specs.declared.schema.AdditionalProperties.TheOpen.{SchemaType-F}
 use Rattle.openapi_schema.specs.declared.schema.SchemaType.{SchemaType, out-SchemaType}
 use Rattle.openapi_schema.proofs.TaggedRows.{rows_new, tag_new, tagged_rows}
-use Rattle.openapi_knots.proofs.JoinedSlots.{loses_wider}
+use Rattle.openapi_fields.proofs.JoinedSlots.{loses_wider}
 use Rattle.openapi_schema.proofs.WrittenForms.{untagged_loses}
 
 -- a sort is that of a type, and its slots are those of the tag and of its table
@@ -98,10 +98,10 @@ module _ (t : SchemaType) where
   pub type_again : join (tag_slots (Some (schema_type_word t))) (untagged (type_slots t)) ≡ type_slots t
   type_again = subst (λ ss. join (tag_slots (Some (schema_type_word t))) (untagged ss) ≡ ss) (sym same) refl
 
-  pub type_loses : (f : Fault) → Loses f (slots_lost final_tables (untagged (type_slots t)))
-      → Loses f (unwritable final_tables schema_type (schema_type_form t))
+  pub type_loses : (f : Fault) → NotWritable f (slots_lost final_tables (untagged (type_slots t)))
+      → NotWritable f (unwritable final_tables schema_type (schema_type_form t))
   type_loses f h =
-      subst (λ ps. Loses f ps)
+      subst (λ ps. NotWritable f ps)
       (ap (slots_lost final_tables) same
       ∙ tagged_loses (codes "type") type_cases schema_type_word schema_type_fields t (is_typed t).0)
       (loses_wider f (slots_lost final_tables (untagged (type_slots t))) (slots_lost final_tables (type_slots t))

@@ -20,14 +20,14 @@ use Rattle.openapi_tables.proofs.FormLaws.{of_forms-of}
 use Rattle.openapi_tables.proofs.ObjectBack.{schema_sound}
 use Rattle.openapi_tables.proofs.SlotLists.{members_untied, slots_apart-rows, slots_lost-rows, slots_print-rows}
 use Rattle.openapi_tables.proofs.WellMade.{final_sound}
-use Rattle.openapi_rows.specs.Forms.{record_slots}
-use Rattle.openapi_rows.specs.Gives.{Loses}
+use Rattle.openapi_fields.specs.Forms.{record_slots}
+use Rattle.openapi_fields.specs.Returned.{NotWritable}
 use Rattle.openapi_schema.specs.SchemaForms.{schema_data_rows, schema_form, schema_kind_rows}
-use Rattle.openapi_knots.specs.Writing.{AreNew}
+use Rattle.openapi_fields.specs.Writing.{AreNew}
 use Rattle.openapi_schema.specs.Writing.{kind_slots, tag_members, tag_slots, untagged}
 use Rattle.openapi_schema.specs.declared.schema.Schema.{Schema, out-Schema}
-use Rattle.openapi_parts.specs.declared.schema_data.SchemaData.{SchemaData}
-use Rattle.openapi_knots.proofs.JoinedSlots.{loses_first, loses_wider, written_behind}
+use Rattle.openapi_schema_types.specs.declared.schema_data.SchemaData.{SchemaData}
+use Rattle.openapi_fields.proofs.JoinedSlots.{loses_first, loses_wider, written_behind}
 use Rattle.openapi_schema.proofs.TaggedRows.{rows_new, tag_new, tagged_rows}
 use Rattle.openapi_schema.proofs.OpenedForms.{schema_form-out}
 
@@ -103,10 +103,10 @@ module _ (x : Schema) where
       ap (unwritable final_tables a_schema) (schema_form-out x) ∙ schema_lost (sort its) both
       ∙ ap (slots_lost final_tables) here
 
-  pub data_loses : (f : Fault) → Loses f (slots_lost final_tables first)
-      → Loses f (unwritable final_tables a_schema (schema_form x))
+  pub data_loses : (f : Fault) → NotWritable f (slots_lost final_tables first)
+      → NotWritable f (unwritable final_tables a_schema (schema_form x))
   data_loses f h =
-      subst (λ ps. Loses f ps) (sym its_lost)
+      subst (λ ps. NotWritable f ps) (sym its_lost)
       (loses_wider f (slots_lost final_tables first) (slots_lost final_tables (join first second))
       (loses_first first second) h)
 

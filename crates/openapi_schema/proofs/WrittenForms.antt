@@ -19,14 +19,14 @@ use Rattle.openapi_tables.proofs.ObjectBack.{sort_sound}
 use Rattle.openapi_tables.proofs.SlotLists.{slots_apart-rows}
 use Rattle.openapi_tables.proofs.SlotWriting.{none_written}
 use Rattle.openapi_tables.proofs.WellMade.{final_sound}
-use Rattle.openapi_rows.specs.Gives.{Loses}
+use Rattle.openapi_fields.specs.Returned.{NotWritable}
 use Rattle.openapi_schema.specs.SchemaForms.{schema_form, schema_kind_rows}
 use Rattle.openapi_schema.specs.Reading.{schema_kind_form}
-use Rattle.openapi_knots.specs.Writing.{AreNew}
+use Rattle.openapi_fields.specs.Writing.{AreNew}
 use Rattle.openapi_schema.specs.Writing.{kind_slots, tag_members, tag_slots, untagged, untagged_from}
 use Rattle.openapi_schema.specs.declared.schema.Schema.{Schema}
 use Rattle.openapi_schema.specs.declared.schema.SchemaKind.{SchemaKind}
-use Rattle.openapi_knots.proofs.JoinedSlots.{loses_second, loses_wider}
+use Rattle.openapi_fields.proofs.JoinedSlots.{loses_second, loses_wider}
 use Rattle.openapi_schema.proofs.TaggedRows.{rows_new, tag_new, tagged_rows}
 use Rattle.openapi_schema.proofs.WholeSchemas.{first, second, its_lost, kind_lost, kind_print}
 
@@ -45,10 +45,10 @@ untagged_loses [] q h = h
 untagged_loses (s ∷ ss) q h = row_loses s.0 s ss q refl h
 
 -- what its kind loses a schema loses
-pub kind_loses : (x : Schema) (f : Fault) → Loses f (slots_lost final_tables (untagged (second x)))
-    → Loses f (unwritable final_tables a_schema (schema_form x))
+pub kind_loses : (x : Schema) (f : Fault) → NotWritable f (slots_lost final_tables (untagged (second x)))
+    → NotWritable f (unwritable final_tables a_schema (schema_form x))
 kind_loses x f h =
-    subst (λ ps. Loses f ps) (sym (its_lost x))
+    subst (λ ps. NotWritable f ps) (sym (its_lost x))
     (loses_wider f (slots_lost final_tables (untagged (second x)))
     (slots_lost final_tables (join (first x) (second x)))
     (λ q a. loses_second (first x) (second x) q (untagged_loses (second x) q a)) h)
@@ -67,10 +67,10 @@ module _ (k : SchemaKind) where
   unfolding rows_of
   alone_lost = kind_lost (sort its_sort) (schema_kind_rows k).1
 
-  pub alone_loses : (f : Fault) → Loses f (slots_lost final_tables (untagged (kind_slots k)))
-      → Loses f (unwritable final_tables a_schema_kind (schema_kind_form k))
+  pub alone_loses : (f : Fault) → NotWritable f (slots_lost final_tables (untagged (kind_slots k)))
+      → NotWritable f (unwritable final_tables a_schema_kind (schema_kind_form k))
   alone_loses f h =
-      subst (λ ps. Loses f ps) (sym alone_lost)
+      subst (λ ps. NotWritable f ps) (sym alone_lost)
       (loses_wider f (slots_lost final_tables (untagged (kind_slots k))) (slots_lost final_tables (kind_slots k))
       (untagged_loses (kind_slots k)) h)
 

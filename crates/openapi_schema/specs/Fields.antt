@@ -3,8 +3,8 @@ use Rattle.std.specs.Prelude.{List, [], ◌∷◌}
 use Rattle.openapi_tables.specs.Kind.{object_type, array_type, any_schema}
 use Rattle.openapi_tables.specs.Form.{Form, leaf}
 use Rattle.openapi_tables.specs.Slots.{Slot}
-use Rattle.openapi_rows.specs.Forms.{text_form, flag_form, optional_form, list_form, map_form, number_form, size_form}
-use Rattle.openapi_rows.specs.Forms.{record_slots}
+use Rattle.openapi_fields.specs.Forms.{text_form, flag_form, optional_form, list_form, map_form, number_form, size_form}
+use Rattle.openapi_fields.specs.Forms.{record_slots}
 use Rattle.openapi_schema.specs.Reading.{ref_form, inner_box_form, outer_box_form}
 use Rattle.openapi_schema.specs.SchemaForms.{additional_form}
 use Rattle.openapi_schema.specs.declared.any_schema.AnySchema.{AnySchema, out-AnySchema}

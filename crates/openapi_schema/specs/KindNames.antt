@@ -7,7 +7,7 @@ use Rattle.openapi_tables.specs.Form.{Form, leaf, named, no_named, sequence, no_
 use Rattle.openapi_tables.specs.Kind.{Row, any_schema}
 use Rattle.openapi_tables.specs.Proper.{is_absent}
 use Rattle.openapi_tables.specs.Tables.{final_tables}
-use Rattle.openapi_rows.specs.Forms.{text_form, optional_form, list_form, map_form}
+use Rattle.openapi_fields.specs.Forms.{text_form, optional_form, list_form, map_form}
 use Rattle.openapi_schema.specs.PlainNames.{plain_first_rows, plain_last_rows}
 use Rattle.openapi_schema.specs.RawSlots.{or_else}
 use Rattle.openapi_schema.specs.Reading.{ref_form, inner_box_form, outer_box_form}

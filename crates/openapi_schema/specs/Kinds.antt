@@ -11,8 +11,8 @@ use Rattle.openapi_tables.specs.Tables.{final_tables}
 use Rattle.openapi_tables.specs.Tree.{members_list}
 use Rattle.openapi_tables.specs.Members.{Sort, sort_of, is_null_or_signed}
 use Rattle.openapi_tables.specs.Form.{Form, sequence, no_forms}
-use Rattle.openapi_rows.specs.Forms.{optional_form}
-use Rattle.openapi_parts.specs.Masks.{sort_by_names}
+use Rattle.openapi_fields.specs.Forms.{optional_form}
+use Rattle.openapi_schema_types.specs.Masks.{sort_by_names}
 use Rattle.openapi_schema.specs.RawSlots.{or_else, optional_rows, sort_slots}
 use Rattle.openapi_schema.specs.SchemaForms.{list_form, entry_form, schema_kind_rows}
 use Rattle.openapi_schema.specs.KindNames.{trees_form, kind_name_rows}
@@ -36,12 +36,12 @@ abbrev pub enumeration_slot : Option (List Tree) → Form
 enumeration_slot o = or_else (sequence no_forms) (optional_form trees_form o)
 
 -- all entries pass the test, and are the values; or one does not pass
-abbrev pub GivesEnumeration : {X : Type 0} → (Tree → Bool) → (X → Tree) → Result (Option (Vec (Option X))) Fault
+abbrev pub EnumerationReadAs : {X : Type 0} → (Tree → Bool) → (X → Tree) → Result (Option (Vec (Option X))) Fault
     → Option (List Tree) → Type 0
-GivesEnumeration test tree_in (Ok None) o = entries_test test o ≡ false
-GivesEnumeration test tree_in (Ok (Some v)) o = (entries_test test o ≡ true) × (list_form (entry_form tree_in) v
+EnumerationReadAs test tree_in (Ok None) o = entries_test test o ≡ false
+EnumerationReadAs test tree_in (Ok (Some v)) o = (entries_test test o ≡ true) × (list_form (entry_form tree_in) v
     ≡ enumeration_slot o)
-GivesEnumeration test tree_in (Err f) o = Unit {0}
+EnumerationReadAs test tree_in (Err f) o = Unit {0}
 
 -- the values are what stands under `enum`
 abbrev pub IsEnumeration : {X : Type 0} → (X → Tree) → Vec (Option X) → LastNames → Type 0
@@ -68,18 +68,18 @@ limit_test None = true
 limit_test (Some z) = is_null_or_signed (whole z)
 
 -- the limit fits, and is the number; or it does not fit
-abbrev pub GivesLimit : Option (Option ℤ) → Option ℤ → Type 0
-GivesLimit None o = limit_test o ≡ false
-GivesLimit (Some p) o = (limit_test o ≡ true) × (p ≡ o)
+abbrev pub LimitReadAs : Option (Option ℤ) → Option ℤ → Type 0
+LimitReadAs None o = limit_test o ≡ false
+LimitReadAs (Some p) o = (limit_test o ≡ true) × (p ≡ o)
 
 -- whether all limits fit
 abbrev pub limits_test : FirstNames → Bool
 limits_test a = limit_test a.plain.multiple_of && limit_test a.plain.minimum && limit_test a.plain.maximum
 
 -- all limits fit, and are the numbers; or one does not fit
-abbrev pub GivesLimits : Option Limits → FirstNames → Type 0
-GivesLimits None a = limits_test a ≡ false
-GivesLimits (Some x) a =
+abbrev pub LimitsReadAs : Option Limits → FirstNames → Type 0
+LimitsReadAs None a = limits_test a ≡ false
+LimitsReadAs (Some x) a =
     (limits_test a ≡ true) × (x.multiple_of ≡ a.plain.multiple_of) × (x.minimum ≡ a.plain.minimum) × (x.maximum ≡ a.plain.maximum)
 
 -- the trees, none where there are none

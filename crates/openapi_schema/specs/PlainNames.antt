@@ -3,7 +3,7 @@ use Rattle.std.specs.Prelude.{Bool, true, false, List, [], ◌∷◌}
 use Rattle.openapi_tables.specs.Lists.{only}
 use Rattle.openapi_tables.specs.Kind.{Kind, any_text, any_flag, number, Row, row, either, class, constant}
 use Rattle.openapi_tables.specs.Form.{Form}
-use Rattle.openapi_rows.specs.Forms.{text_form, flag_form, optional_form, number_form, size_form}
+use Rattle.openapi_fields.specs.Forms.{text_form, flag_form, optional_form, number_form, size_form}
 use Rattle.openapi_schema.specs.Reading.{first_optional, last_optional}
 use Rattle.openapi_schema.specs.declared.plain_names.PlainFirst.{PlainFirst}
 use Rattle.openapi_schema.specs.declared.plain_names.PlainLast.{PlainLast}

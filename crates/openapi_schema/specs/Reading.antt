@@ -9,7 +9,7 @@ use Rattle.openapi_tables.specs.Tree.{members_list}
 use Rattle.openapi_tables.specs.Members.{sort, sort_of}
 use Rattle.openapi_tables.specs.Form.{Form, fields, forms_of}
 use Rattle.openapi_tables.specs.ByRow.{AreRows}
-use Rattle.openapi_rows.specs.Gives.{Fails}
+use Rattle.openapi_fields.specs.Returned.{Fails}
 use Rattle.openapi_values.specs.Reference.{reference_form}
 use Rattle.openapi_values.specs.declared.reference.ReferenceOr.{ReferenceOr}
 use Rattle.openapi_schema.specs.RawSlots.{optional_rows, sort_slots}
@@ -39,8 +39,8 @@ unfoldable pub last_optional : List Row
 last_optional = drop 12 optional_rows
 
 -- the kind of a schema has the sort of the members, and the slots of that sort; or a refusal
-abbrev pub GivesKind : Result SchemaKind Fault → Members → Type 0
-GivesKind (Ok k) ms =
+abbrev pub KindReadAs : Result SchemaKind Fault → Members → Type 0
+KindReadAs (Ok k) ms =
     (fs : List Form) × AreRows final_tables optional_rows fs ms
     × (schema_kind_rows k ≡ (sort_of (members_list ms), sort_slots (sort_of (members_list ms)) fs))
-GivesKind (Err f) ms = Fails f a_schema_kind (object ms)
+KindReadAs (Err f) ms = Fails f a_schema_kind (object ms)

@@ -17,10 +17,10 @@ use Rattle.openapi_tables.specs.Members.{
   any_sort,
   sort,
 }
-use Rattle.openapi_rows.specs.Forms.{text_form, optional_form, map_form}
+use Rattle.openapi_fields.specs.Forms.{text_form, optional_form, map_form}
 -- what others name through this module
-pub use Rattle.openapi_rows.specs.Forms.{flag_form, number_form, size_form, list_form}
-pub use Rattle.openapi_parts.specs.PartForms.{
+pub use Rattle.openapi_fields.specs.Forms.{flag_form, number_form, size_form, list_form}
+pub use Rattle.openapi_schema_types.specs.PartForms.{
   entry_form,
   schema_data_rows,
   string_type_rows,

@@ -25,11 +25,11 @@ use Rattle.openapi_tables.specs.Tables.{
   array_rows,
   boolean_rows,
 }
-use Rattle.openapi_rows.specs.Forms.{tagged_form}
+use Rattle.openapi_fields.specs.Forms.{tagged_form}
 use Rattle.openapi_schema.specs.SchemaForms.{schema_type_rows}
 use Rattle.openapi_schema.specs.declared.schema.SchemaType.{SchemaType}
-use Rattle.openapi_parts.specs.TypeNames.{type_name_word}
-use Rattle.openapi_parts.specs.declared.type_name.TypeName.{TypeName}
+use Rattle.openapi_schema_types.specs.TypeNames.{type_name_word}
+use Rattle.openapi_schema_types.specs.declared.type_name.TypeName.{TypeName}
 
 -- the types of schemas, each with its table
 abbrev pub type_cases : List Case

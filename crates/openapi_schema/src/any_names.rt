@@ -5,16 +5,17 @@ ghost use Rattle.openapi_tables.specs.ByRow.{rows_weight};
 ghost use Rattle.openapi_tables.specs.Form.{leaf};
 ghost use Rattle.openapi_tables.specs.Kind.{any_schema, by};
 ghost use Rattle.openapi_tables.specs.Lists.{join};
-ghost use Rattle.openapi_rows.specs.Forms.{list_form};
+ghost use Rattle.openapi_fields.specs.Forms.{list_form};
+ghost use Rattle.openapi_fields.specs.Returned.{RisesBy};
 ghost use Rattle.openapi_schema.specs.Fields.{any_fields};
 ghost use Rattle.openapi_schema.specs.KindNames.{any_first, any_first_rows, any_last_rows, any_rest, any_rest_rows};
-ghost use Rattle.openapi_knots.specs.Reading.{GivesPart};
+ghost use Rattle.openapi_fields.specs.Reading.{PartReadAs};
 
 use crate::any_schema::AnySchema;
 use crate::kind_names::{FirstNames, LastNames};
 use crate::plain_names::{read_plain_first, read_plain_last};
+use openapi_fields::{optional, or_implied};
 use openapi_node::{Fault, Node, OrderedMap, Steps};
-use openapi_rows::{optional, or_implied};
 use std::alloc::Global;
 
 /// Reads the first twelve rows of a schema of no sort in particular. A list or a map that is missing is an empty one.
@@ -24,9 +25,8 @@ pub(crate) fn read_any_first(
     members: &OrderedMap<Node>,
     steps: &mut Steps,
 ) -> Result<FirstNames, Fault>
-    ensures reads { GivesPart any_first_rows result (by any_schema) any_first (members_of members.now) }
-    ensures rises { steps.old ≤ steps.new }
-    ensures count { steps.new ≤ steps.old + 3 * rows_weight any_first (members_of members.now) }
+    ensures reads { PartReadAs any_first_rows result (by any_schema) any_first (members_of members.now) }
+    ensures count { RisesBy steps.old steps.new (3 * rows_weight any_first (members_of members.now)) }
 {
     let plain = read_plain_first(alloc, members, steps)?;
     let properties = or_implied::<AnySchema, _>(alloc, members, "properties", steps)?;
@@ -52,9 +52,8 @@ pub(crate) fn read_any_rest(
     members: &OrderedMap<Node>,
     steps: &mut Steps,
 ) -> Result<LastNames<'static>, Fault>
-    ensures reads { GivesPart any_rest_rows result (by any_schema) any_rest (members_of members.now) }
-    ensures rises { steps.old ≤ steps.new }
-    ensures count { steps.new ≤ steps.old + 3 * rows_weight any_rest (members_of members.now) }
+    ensures reads { PartReadAs any_rest_rows result (by any_schema) any_rest (members_of members.now) }
+    ensures count { RisesBy steps.old steps.new (3 * rows_weight any_rest (members_of members.now)) }
 {
     let plain = read_plain_last(alloc, members, steps)?;
     let items = optional::<AnySchema, _>(alloc, members, "items", steps)?;

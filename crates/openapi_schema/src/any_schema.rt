@@ -1,16 +1,13 @@
 //! Schemas of no sort in particular.
-ghost use Rattle.std.proofs.Common.{refl};
-ghost use Rattle.std.specs.Prelude.{◌≡◌, ◌+◌, ◌≤◌, ◌*◌, [], None};
-ghost use Rattle.openapi_tables.specs.Kind.{any_schema, by};
-ghost use Rattle.openapi_tables.proofs.SlotWriting.{final_apart};
-ghost use Rattle.openapi_rows.specs.Forms.{record_form};
-ghost use Rattle.openapi_schema.specs.Fields.{any_fields, any_slots};
+ghost use Rattle.std.specs.Prelude.{◌≡◌, ◌*◌, [], None};
+ghost use Rattle.openapi_tables.specs.Kind.{any_schema};
+ghost use Rattle.openapi_schema.specs.Fields.{any_fields};
 
 use crate::any_names::{any_of_names, read_any_first, read_any_rest};
 use crate::schema::{AdditionalProperties, Schema};
 use crate::write::any_rows;
-use openapi_node::{Fault, Node, OrderedMap, Steps, View, Whole};
-use openapi_rows::{FromNode, Object, Record, ToNode, or_implied, read_record, write_record};
+use openapi_fields::{Object, Record, or_implied};
+use openapi_node::{Fault, Node, OrderedMap, Steps, Whole};
 use openapi_values::ReferenceOr;
 use std::alloc::Global;
 
@@ -128,22 +125,18 @@ impl AnySchema {
 }
 
 impl Object for AnySchema {
-    ghost object = { by any_schema };
+    ghost table = { any_schema };
 
-    ghost slots_of = { any_slots };
-
-    ghost apart = { λ x. final_apart any_schema (any_fields x) };
+    ghost rows_of = { any_fields };
 }
 
 #[tactic(auto, unfolding(openapi_tables::specs::Tables::final_tables, openapi_tables::specs::Tables::tables_with, openapi_tables::specs::Tables::any_rows))]
 impl Record for AnySchema {
-    ghost rows_of = { any_fields };
-
     fn from_members(
         alloc: Global,
         members: &OrderedMap<Node>,
         steps: &mut Steps,
-    ) -> Result<AnySchema, Fault> {
+    ) -> Result<Self, Fault> {
         let first = read_any_first(alloc, members, steps)?;
         let enumeration = or_implied::<Self, _>(alloc, members, "enum", steps)?;
         let last = read_any_rest(alloc, members, steps)?;
@@ -154,28 +147,4 @@ impl Record for AnySchema {
         *out = any_rows(alloc, self)?;
         Ok(())
     }
-
-    ghost by_table = { refl };
-
-    ghost by_rows = { λ x. refl };
-}
-
-impl FromNode for AnySchema {
-    ghost kind = { by any_schema };
-
-    ghost form_of = { record_form any_fields };
-
-    fn from_view(alloc: Global, view: &View<'_>, steps: &mut Steps) -> Result<AnySchema, Fault> {
-        read_record(alloc, view, steps)
-    }
-
-    ghost well_made = { refl };
-}
-
-impl ToNode for AnySchema {
-    fn to_node(&self, alloc: Global) -> Result<Node, Fault> {
-        write_record(alloc, self)
-    }
-
-    ghost there = { λ x. refl };
 }

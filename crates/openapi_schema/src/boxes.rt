@@ -1,6 +1,6 @@
 //! Schemas in boxes, and references to them, where a flag may stand too.
 ghost use Rattle.openapi_node.specs.Tree.{Members, object};
-ghost use Rattle.openapi_rows.specs.Gives.{Gives};
+ghost use Rattle.openapi_fields.specs.Returned.{ReadAs};
 ghost use Rattle.openapi_tables.specs.Kind.{a_schema, flag_or_schema, ref_to};
 ghost use Rattle.openapi_schema.specs.Reading.{outer_box_form};
 ghost use Rattle.openapi_schema.specs.SchemaForms.{additional_form};
@@ -13,8 +13,8 @@ use openapi_values::ReferenceOr;
 pub(crate) fn in_additional(
     read: Result<Box<ReferenceOr<Schema>>, Fault>,
 ) -> Result<AdditionalProperties, Fault>
-    ensures { (ms : Members) → Gives outer_box_form read (ref_to a_schema) (object ms)
-        → Gives additional_form result flag_or_schema (object ms) }
+    ensures { (ms : Members) → ReadAs outer_box_form read (ref_to a_schema) (object ms)
+        → ReadAs additional_form result flag_or_schema (object ms) }
 {
     match read {
         Ok(value) => Ok(AdditionalProperties::Schema(value)),

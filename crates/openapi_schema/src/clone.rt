@@ -1,9 +1,9 @@
 //! Clones of the types that hold schemas. They are written by hand, since a derived clone of a type that leads back to
-//! itself promises nothing. The functions call each other in a circle, as schemas hold schemas: each gets a smaller
+//! itself promises nothing. The functions are mutually recursive, as schemas hold schemas: each gets a smaller
 //! part of the schema in the end. An error says that memory was refused.
 ghost use Rattle.std.specs.Prelude.{◌≡◌, IfOk, take, drop};
 ghost use Rattle.openapi_tables.specs.Form.{leaf};
-ghost use Rattle.openapi_rows.specs.Forms.{list_form, map_form, optional_form};
+ghost use Rattle.openapi_fields.specs.Forms.{list_form, map_form, optional_form};
 ghost use Rattle.openapi_schema.specs.Fields.{any_fields, array_fields, object_fields};
 ghost use Rattle.openapi_schema.specs.KindNames.{any_first_rows, any_last_rows};
 ghost use Rattle.openapi_schema.specs.Reading.{ref_form, inner_box_form, outer_box_form};

@@ -1,17 +1,12 @@
 //! The kinds of schemas of objects and arrays.
-ghost use Rattle.std.proofs.Common.{refl};
-ghost use Rattle.std.specs.Prelude.{◌≡◌, ◌+◌, ◌≤◌, ◌*◌, [], None};
-ghost use Rattle.openapi_tables.specs.Kind.{array_type, by, object_type};
-ghost use Rattle.openapi_tables.proofs.SlotWriting.{final_apart};
-ghost use Rattle.openapi_rows.specs.Forms.{record_form};
-ghost use Rattle.openapi_schema.specs.Fields.{array_fields, array_slots, object_fields, object_slots};
+ghost use Rattle.std.specs.Prelude.{◌≡◌, ◌*◌, [], None};
+ghost use Rattle.openapi_tables.specs.Kind.{array_type, object_type};
+ghost use Rattle.openapi_schema.specs.Fields.{array_fields, object_fields};
 
 use crate::schema::{AdditionalProperties, Schema};
 use crate::write::{array_rows, object_rows};
-use openapi_node::{Fault, Node, OrderedMap, Steps, View};
-use openapi_rows::{
-    FromNode, Object, Record, ToNode, optional, or_implied, read_record, write_record,
-};
+use openapi_fields::{Object, Record, optional, or_implied};
+use openapi_node::{Fault, Node, OrderedMap, Steps};
 use openapi_values::ReferenceOr;
 use std::alloc::Global;
 
@@ -67,22 +62,18 @@ pub struct ArrayType {
 }
 
 impl Object for ObjectType {
-    ghost object = { by object_type };
+    ghost table = { object_type };
 
-    ghost slots_of = { object_slots };
-
-    ghost apart = { λ x. final_apart object_type (object_fields x) };
+    ghost rows_of = { object_fields };
 }
 
 #[tactic(auto, unfolding(openapi_tables::specs::Tables::final_tables, openapi_tables::specs::Tables::tables_with, openapi_tables::specs::Tables::object_rows))]
 impl Record for ObjectType {
-    ghost rows_of = { object_fields };
-
     fn from_members(
         alloc: Global,
         members: &OrderedMap<Node>,
         steps: &mut Steps,
-    ) -> Result<ObjectType, Fault> {
+    ) -> Result<Self, Fault> {
         Ok(ObjectType {
             properties: or_implied::<Self, _>(alloc, members, "properties", steps)?,
             required: or_implied::<Self, _>(alloc, members, "required", steps)?,
@@ -101,49 +92,21 @@ impl Record for ObjectType {
         *out = object_rows(alloc, self)?;
         Ok(())
     }
-
-    ghost by_table = { refl };
-
-    ghost by_rows = { λ x. refl };
-}
-
-impl FromNode for ObjectType {
-    ghost kind = { by object_type };
-
-    ghost form_of = { record_form object_fields };
-
-    fn from_view(alloc: Global, view: &View<'_>, steps: &mut Steps) -> Result<ObjectType, Fault> {
-        read_record(alloc, view, steps)
-    }
-
-    ghost well_made = { refl };
-}
-
-impl ToNode for ObjectType {
-    fn to_node(&self, alloc: Global) -> Result<Node, Fault> {
-        write_record(alloc, self)
-    }
-
-    ghost there = { λ x. refl };
 }
 
 impl Object for ArrayType {
-    ghost object = { by array_type };
+    ghost table = { array_type };
 
-    ghost slots_of = { array_slots };
-
-    ghost apart = { λ x. final_apart array_type (array_fields x) };
+    ghost rows_of = { array_fields };
 }
 
 #[tactic(auto, unfolding(openapi_tables::specs::Tables::final_tables, openapi_tables::specs::Tables::tables_with, openapi_tables::specs::Tables::array_rows))]
 impl Record for ArrayType {
-    ghost rows_of = { array_fields };
-
     fn from_members(
         alloc: Global,
         members: &OrderedMap<Node>,
         steps: &mut Steps,
-    ) -> Result<ArrayType, Fault> {
+    ) -> Result<Self, Fault> {
         Ok(ArrayType {
             items: optional::<Self, _>(alloc, members, "items", steps)?,
             min_items: optional::<Self, _>(alloc, members, "minItems", steps)?,
@@ -156,28 +119,4 @@ impl Record for ArrayType {
         *out = array_rows(alloc, self)?;
         Ok(())
     }
-
-    ghost by_table = { refl };
-
-    ghost by_rows = { λ x. refl };
-}
-
-impl FromNode for ArrayType {
-    ghost kind = { by array_type };
-
-    ghost form_of = { record_form array_fields };
-
-    fn from_view(alloc: Global, view: &View<'_>, steps: &mut Steps) -> Result<ArrayType, Fault> {
-        read_record(alloc, view, steps)
-    }
-
-    ghost well_made = { refl };
-}
-
-impl ToNode for ArrayType {
-    fn to_node(&self, alloc: Global) -> Result<Node, Fault> {
-        write_record(alloc, self)
-    }
-
-    ghost there = { λ x. refl };
 }

@@ -3,16 +3,15 @@ ghost use Rattle.std.proofs.Common.{refl};
 ghost use Rattle.std.specs.Prelude.{◌≡◌, ◌+◌, ◌*◌, ◌≤◌, true};
 ghost use Rattle.openapi_node.specs.Tree.{size_of};
 ghost use Rattle.openapi_tables.specs.Kind as kinds;
-ghost use Rattle.openapi_rows.specs.Gives.{Gives, Refuses};
+ghost use Rattle.openapi_fields.specs.Returned.{ReadAs, Refuses};
 ghost use Rattle.openapi_schema.specs.Reading.{inner_box_form, schema_kind_form};
 ghost use Rattle.openapi_schema.specs.SchemaForms.{additional_form, schema_form};
 
 use crate::joined::schema_with;
 use crate::read::{read_additional_in, read_kind, read_schema_ref};
 use crate::schema::{AdditionalProperties, Schema, SchemaKind};
-use openapi_knots::in_inner_box;
+use openapi_fields::{FromNode, Referable, in_inner_box};
 use openapi_node::{Cause, Expected, Fault, Node, Steps, View};
-use openapi_rows::{FromNode, Referable};
 use openapi_values::ReferenceOr;
 use std::alloc::Global;
 
@@ -23,7 +22,7 @@ pub fn boxed_schema_ref_from_node(
     node: &Node,
     steps: &mut Steps,
 ) -> Result<ReferenceOr<Box<Schema>>, Fault>
-    ensures reads { Gives inner_box_form result (kinds.ref_to kinds.a_schema) node.now }
+    ensures reads { ReadAs inner_box_form result (kinds.ref_to kinds.a_schema) node.now }
     ensures refuses { Refuses result (kinds.ref_to kinds.a_schema) node.now }
     ensures rises { steps.old + 1 ≤ steps.new }
     ensures count { steps.new ≤ steps.old + 3 * size_of node.now }

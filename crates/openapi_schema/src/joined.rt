@@ -1,26 +1,25 @@
 //! Schemas and their kinds, made of what was read of their parts. What needs room for a whole schema stands here and not
-//! in the circle of readers: the circle calls it when all that lies below was read, so no level of a nested schema keeps
-//! that room while it waits for the next one.
+//! among the mutually recursive readers: these call it when all that lies below was read, so no level of a nested schema
+//! keeps that room while it waits for the next one.
 ghost use Rattle.std.specs.Prelude.{◌≡◌, ◌+◌, ◌*◌, ◌≤◌, None, Ok};
 ghost use Rattle.openapi_node.specs.Tree.{Members, members_of, object};
 ghost use Rattle.openapi_tables.specs.ByRow.{rows_asked, rows_weight};
 ghost use Rattle.openapi_tables.specs.Kind as kinds;
 ghost use Rattle.openapi_tables.specs.Tables.{final_tables};
-ghost use Rattle.openapi_rows.specs.Gives.{Gives};
-ghost use Rattle.openapi_rows.specs.References.{reference_in};
-ghost use Rattle.openapi_knots.specs.Reading.{GivesPart};
+ghost use Rattle.openapi_fields.specs.Returned.{ReadAs, RisesBy};
+ghost use Rattle.openapi_fields.specs.References.{reference_in};
+ghost use Rattle.openapi_fields.specs.Reading.{PartReadAs};
 ghost use Rattle.openapi_schema.specs.KindNames.{first_rows, last_rows};
 ghost use Rattle.openapi_schema.specs.Kinds.{entries_left};
-ghost use Rattle.openapi_schema.specs.Reading.{GivesKind, first_optional, last_optional, ref_form};
+ghost use Rattle.openapi_schema.specs.Reading.{KindReadAs, first_optional, last_optional, ref_form};
 ghost use Rattle.openapi_schema.specs.SchemaForms.{schema_form};
 
 use crate::kind_names::{FirstNames, LastNames};
 use crate::schema::{Schema, SchemaKind};
 use crate::schema_kind::schema_kind;
-use openapi_knots::as_item;
+use openapi_fields::{Record, as_item};
 use openapi_node::{Fault, Node, OrderedMap, Steps};
-use openapi_parts::SchemaData;
-use openapi_rows::Record;
+use openapi_schema_types::SchemaData;
 use openapi_values::ReferenceOr;
 use std::alloc::Global;
 
@@ -32,10 +31,9 @@ pub(crate) fn kind_with(
     last: Result<LastNames<'_>, Fault>,
     steps: &mut Steps,
 ) -> Result<SchemaKind, Fault>
-    ensures reads { (ms : Members) → GivesPart first_rows (Ok first) kinds.a_schema_kind first_optional ms
-        → GivesPart last_rows last.entry kinds.a_schema_kind last_optional ms → GivesKind result ms }
-    ensures rises { steps.old ≤ steps.new }
-    ensures count { steps.new ≤ steps.old + 2 * entries_left last.entry }
+    ensures reads { (ms : Members) → PartReadAs first_rows (Ok first) kinds.a_schema_kind first_optional ms
+        → PartReadAs last_rows last.entry kinds.a_schema_kind last_optional ms → KindReadAs result ms }
+    ensures count { RisesBy steps.old steps.new (2 * entries_left last.entry) }
 {
     match last {
         Ok(last) => schema_kind(alloc, first, last, steps),
@@ -51,11 +49,10 @@ pub(crate) fn schema_with(
     kind: Result<SchemaKind, Fault>,
     steps: &mut Steps,
 ) -> Result<Schema, Fault>
-    ensures reads { GivesKind kind (members_of members.now)
-        → Gives schema_form result kinds.a_schema (object (members_of members.now)) }
-    ensures rises { steps.old ≤ steps.new }
-    ensures count { steps.new ≤ steps.old + 3 * rows_weight (rows_asked final_tables (kinds.by kinds.schema_data))
-        (members_of members.now) }
+    ensures reads { KindReadAs kind (members_of members.now)
+        → ReadAs schema_form result kinds.a_schema (object (members_of members.now)) }
+    ensures count { RisesBy steps.old steps.new
+        (3 * rows_weight (rows_asked final_tables (kinds.by kinds.schema_data)) (members_of members.now)) }
 {
     match kind {
         Ok(schema_kind) => match SchemaData::from_members(alloc, members, steps) {
@@ -77,11 +74,10 @@ pub(crate) fn item_with(
     kind: Result<SchemaKind, Fault>,
     steps: &mut Steps,
 ) -> Result<ReferenceOr<Schema>, Fault>
-    ensures reads { GivesKind kind (members_of members.now) → reference_in (object (members_of members.now)) ≡ None
-        → Gives ref_form result (kinds.ref_to kinds.a_schema) (object (members_of members.now)) }
-    ensures rises { steps.old ≤ steps.new }
-    ensures count { steps.new ≤ steps.old + 3 * rows_weight (rows_asked final_tables (kinds.by kinds.schema_data))
-        (members_of members.now) }
+    ensures reads { KindReadAs kind (members_of members.now) → reference_in (object (members_of members.now)) ≡ None
+        → ReadAs ref_form result (kinds.ref_to kinds.a_schema) (object (members_of members.now)) }
+    ensures count { RisesBy steps.old steps.new
+        (3 * rows_weight (rows_asked final_tables (kinds.by kinds.schema_data)) (members_of members.now)) }
 {
     as_item(schema_with(alloc, members, kind, steps))
 }

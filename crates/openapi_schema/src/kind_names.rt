@@ -8,20 +8,20 @@ ghost use Rattle.openapi_tables.specs.Kind.{a_schema_kind};
 ghost use Rattle.openapi_tables.specs.Tables.{final_tables};
 ghost use Rattle.openapi_tables.specs.ByRow.{AreRows};
 ghost use Rattle.openapi_schema.specs.KindNames.{flags_in, kind_name_rows};
-ghost use Rattle.openapi_parts.specs.Masks.{mask_of, sort_in, sort_by_names};
+ghost use Rattle.openapi_schema_types.specs.Masks.{mask_of, sort_in, sort_by_names};
 ghost use Rattle.openapi_schema.specs.RawSlots.{optional_rows};
 
 use crate::plain_names::{PlainFirst, PlainLast};
 use crate::schema::{AdditionalProperties, Schema};
+use openapi_fields::HasSlots;
 use openapi_node::{Node, OrderedMap};
-use openapi_parts::{Mask, Sort};
-use openapi_rows::Object;
+use openapi_schema_types::{Mask, Sort};
 use openapi_values::ReferenceOr;
 
 /// The names themselves, so that a helper of rows can be told that a row is one of theirs.
 pub(crate) struct KindNames;
 
-impl Object for KindNames {
+impl HasSlots for KindNames {
     ghost object = { a_schema_kind };
 
     ghost slots_of = { λ names. [] };

@@ -3,8 +3,9 @@ ghost use Rattle.std.proofs.Common.{refl};
 ghost use Rattle.std.specs.Prelude.{◌≡◌, ◌+◌, ◌*◌, ◌≤◌, IfOk, IfErr};
 ghost use Rattle.openapi_node.specs.Fault.{IsMemory};
 ghost use Rattle.openapi_tables.specs.Members as sorts;
-ghost use Rattle.openapi_parts.specs.Enumerations.{text_tree, number_tree, signed_tree, flag_tree};
-ghost use Rattle.openapi_schema.specs.Kinds.{GivesEnumeration, GivesLimit, GivesLimits, IsEnumeration, IsKindBy, IsKindOf};
+ghost use Rattle.openapi_fields.specs.Returned.{RisesBy};
+ghost use Rattle.openapi_schema_types.specs.Enumerations.{text_tree, number_tree, signed_tree, flag_tree};
+ghost use Rattle.openapi_schema.specs.Kinds.{EnumerationReadAs, LimitReadAs, LimitsReadAs, IsEnumeration, IsKindBy, IsKindOf};
 ghost use Rattle.openapi_schema.specs.Kinds.{entries_weight, trees_in, trees_or_none};
 
 use crate::any_names::any_of_names;
@@ -12,7 +13,7 @@ use crate::composite_types::{ArrayType, ObjectType};
 use crate::kind_names::{FirstNames, LastNames};
 use crate::schema::{SchemaKind, SchemaType};
 use openapi_node::{Fault, Node, OrderedMap, Steps, Whole};
-use openapi_parts::{
+use openapi_schema_types::{
     BooleanType, Entry, IntegerType, NumberType, Sort, StringType, copies, entries,
 };
 use std::alloc::Global;
@@ -24,10 +25,9 @@ fn enumeration<T: Entry + Drop>(
     nodes: Option<&[Node]>,
     steps: &mut Steps,
 ) -> Result<Option<Vec<Option<T>>>, Fault>
-    ensures reads { GivesEnumeration T.test T.tree_in result (trees_in nodes.entry) }
+    ensures reads { EnumerationReadAs T.test T.tree_in result (trees_in nodes.entry) }
     ensures err { IfErr result IsMemory }
-    ensures rises { steps.old ≤ steps.new }
-    ensures count { steps.new ≤ steps.old + entries_weight (trees_in nodes.entry) }
+    ensures count { RisesBy steps.old steps.new (entries_weight (trees_in nodes.entry)) }
 {
     match nodes {
         None => Ok(Some(Vec::new(alloc))),
@@ -39,8 +39,7 @@ fn enumeration<T: Entry + Drop>(
 fn kept(alloc: Global, nodes: Option<&[Node]>, steps: &mut Steps) -> Result<Vec<Node>, Fault>
     ensures ok { IfOk result (λ v. v.items ≡ trees_or_none (trees_in nodes.entry)) }
     ensures err { IfErr result IsMemory }
-    ensures rises { steps.old ≤ steps.new }
-    ensures count { steps.new ≤ steps.old + entries_weight (trees_in nodes.entry) }
+    ensures count { RisesBy steps.old steps.new (entries_weight (trees_in nodes.entry)) }
 {
     match nodes {
         None => Ok(Vec::new(alloc)),
@@ -139,8 +138,7 @@ pub(crate) fn typed_or_any<T: TypedEntry>(
 ) -> Result<SchemaKind, Fault>
     ensures reads { IfOk result (λ k. IsKindBy T.sort k first last.entry) }
     ensures err { IfErr result IsMemory }
-    ensures rises { steps.old ≤ steps.new }
-    ensures count { steps.new ≤ steps.old + 2 * entries_weight (trees_in last.entry.enumeration) }
+    ensures count { RisesBy steps.old steps.new (2 * entries_weight (trees_in last.entry.enumeration)) }
 {
     match enumeration::<T>(alloc, last.enumeration, steps)? {
         Some(enumeration) => Ok(T::kind(first, last, enumeration)),
@@ -150,7 +148,7 @@ pub(crate) fn typed_or_any<T: TypedEntry>(
 
 /// A limit of whole numbers of 64 bits. None where the number does not fit.
 fn limit(number: &Option<Whole>) -> Option<Option<i64>>
-    ensures { GivesLimit result number.now }
+    ensures { LimitReadAs result number.now }
 {
     match number {
         None => Some(None),
@@ -171,7 +169,7 @@ struct Limits {
 
 /// The limits, where each of them fits.
 fn limits_in(first: &FirstNames) -> Option<Limits>
-    ensures { GivesLimits result first.now }
+    ensures { LimitsReadAs result first.now }
 {
     let Some(multiple_of) = limit(&first.plain.multiple_of) else {
         return None;
@@ -225,8 +223,7 @@ pub(crate) fn integer_or_any(
 ) -> Result<SchemaKind, Fault>
     ensures reads { IfOk result (λ k. IsKindBy sorts.integer_sort k first last.entry) }
     ensures err { IfErr result IsMemory }
-    ensures rises { steps.old ≤ steps.new }
-    ensures count { steps.new ≤ steps.old + 2 * entries_weight (trees_in last.entry.enumeration) }
+    ensures count { RisesBy steps.old steps.new (2 * entries_weight (trees_in last.entry.enumeration)) }
 {
     let Some(limits) = limits_in(&first) else {
         return any_kind(alloc, first, last, steps);
@@ -273,8 +270,7 @@ pub(crate) fn any_kind(
 ) -> Result<SchemaKind, Fault>
     ensures ok { IfOk result (λ k. IsKindOf sorts.any_sort k first last.entry) }
     ensures err { IfErr result IsMemory }
-    ensures rises { steps.old ≤ steps.new }
-    ensures count { steps.new ≤ steps.old + entries_weight (trees_in last.entry.enumeration) }
+    ensures count { RisesBy steps.old steps.new (entries_weight (trees_in last.entry.enumeration)) }
 {
     let enumeration = kept(alloc, last.enumeration, steps)?;
     Ok(SchemaKind::Any(any_of_names(alloc, first, last, enumeration)))

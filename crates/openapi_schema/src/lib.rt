@@ -23,7 +23,7 @@ mod write;
 pub use any_schema::AnySchema;
 pub use composite_types::{ArrayType, ObjectType};
 pub use from_node::boxed_schema_ref_from_node;
-pub use openapi_parts::{BooleanType, IntegerType, NumberType, SchemaData, StringType};
+pub use openapi_schema_types::{BooleanType, IntegerType, NumberType, SchemaData, StringType};
 pub use read::schema_ref_from_node;
 pub use schema::{AdditionalProperties, Schema, SchemaKind, SchemaType, Type};
 pub use write::{boxed_schema_ref_to_node, schema_ref_to_node};

@@ -5,21 +5,20 @@ ghost use Rattle.openapi_tables.specs.Kind as kinds;
 ghost use Rattle.openapi_tables.specs.Lists.{join};
 ghost use Rattle.openapi_tables.specs.Slots.{IsWritten};
 ghost use Rattle.openapi_tables.specs.Tables.{final_tables, schema_type};
-ghost use Rattle.openapi_rows.specs.Forms.{record_slots};
-ghost use Rattle.openapi_rows.specs.Gives.{WrittenAs};
-ghost use Rattle.openapi_knots.specs.Writing.{AreNew};
+ghost use Rattle.openapi_fields.specs.Forms.{record_slots};
+ghost use Rattle.openapi_fields.specs.Returned.{WrittenAs};
+ghost use Rattle.openapi_fields.specs.Writing.{AreNew};
 ghost use Rattle.openapi_schema.specs.Reading.{schema_kind_form};
 ghost use Rattle.openapi_schema.specs.SchemaForms.{schema_data_rows, schema_form};
-ghost use Rattle.openapi_parts.specs.TypeNames.{type_name_word};
+ghost use Rattle.openapi_schema_types.specs.TypeNames.{type_name_word};
 ghost use Rattle.openapi_schema.specs.TypeForms.{schema_type_form, schema_type_word};
 ghost use Rattle.openapi_schema.specs.Writing.{kind_slots, tag_members, tag_slots, type_slots, untagged};
 ghost use Rattle.openapi_schema.specs.declared.schema.Schema.{out-Schema};
 
 use crate::schema::{Schema, SchemaKind, SchemaType};
-use openapi_knots::append;
+use openapi_fields::{append, put};
 use openapi_node::{Fault, Node, OrderedMap};
-use openapi_parts::TypeName;
-use openapi_rows::put;
+use openapi_schema_types::TypeName;
 use openapi_values::Word;
 use std::alloc::Global;
 

@@ -3,12 +3,13 @@ ghost use Rattle.std.specs.Prelude.{◌+◌, ◌*◌, ◌≤◌};
 ghost use Rattle.openapi_node.specs.Tree.{members_of};
 ghost use Rattle.openapi_tables.specs.ByRow.{rows_weight};
 ghost use Rattle.openapi_tables.specs.Kind as kinds;
+ghost use Rattle.openapi_fields.specs.Returned.{RisesBy};
 ghost use Rattle.openapi_schema.specs.PlainNames.{plain_first, plain_first_rows, plain_last, plain_last_rows};
-ghost use Rattle.openapi_knots.specs.Reading.{GivesPart};
+ghost use Rattle.openapi_fields.specs.Reading.{PartReadAs};
 
 use crate::kind_names::KindNames;
+use openapi_fields::optional;
 use openapi_node::{Fault, Node, OrderedMap, Steps, Whole};
-use openapi_rows::optional;
 use std::alloc::Global;
 
 /// One text, number or flag under each of the first twelve names that has one, where it is not null.
@@ -44,9 +45,8 @@ pub(crate) fn read_plain_first(
     members: &OrderedMap<Node>,
     steps: &mut Steps,
 ) -> Result<PlainFirst, Fault>
-    ensures reads { GivesPart plain_first_rows result kinds.a_schema_kind plain_first (members_of members.now) }
-    ensures rises { steps.old ≤ steps.new }
-    ensures count { steps.new ≤ steps.old + 3 * rows_weight plain_first (members_of members.now) }
+    ensures reads { PartReadAs plain_first_rows result kinds.a_schema_kind plain_first (members_of members.now) }
+    ensures count { RisesBy steps.old steps.new (3 * rows_weight plain_first (members_of members.now)) }
 {
     Ok(PlainFirst {
         multiple_of: optional::<KindNames, _>(alloc, members, "multipleOf", steps)?,
@@ -69,9 +69,8 @@ pub(crate) fn read_plain_last(
     members: &OrderedMap<Node>,
     steps: &mut Steps,
 ) -> Result<PlainLast, Fault>
-    ensures reads { GivesPart plain_last_rows result kinds.a_schema_kind plain_last (members_of members.now) }
-    ensures rises { steps.old ≤ steps.new }
-    ensures count { steps.new ≤ steps.old + 3 * rows_weight plain_last (members_of members.now) }
+    ensures reads { PartReadAs plain_last_rows result kinds.a_schema_kind plain_last (members_of members.now) }
+    ensures count { RisesBy steps.old steps.new (3 * rows_weight plain_last (members_of members.now)) }
 {
     Ok(PlainLast {
         min_items: optional::<KindNames, _>(alloc, members, "minItems", steps)?,

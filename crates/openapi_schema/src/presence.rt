@@ -4,18 +4,18 @@ ghost use Rattle.openapi_node.specs.Tree.{items_of, items_size, members_of, size
 ghost use Rattle.openapi_node.specs.View.{shown};
 ghost use Rattle.openapi_tables.specs.ByRow.{row_weight};
 ghost use Rattle.openapi_tables.specs.Kind as kinds;
-ghost use Rattle.openapi_rows.specs.Forms.{optional_form};
-ghost use Rattle.openapi_rows.specs.Gives.{Gives, GivesRow};
+ghost use Rattle.openapi_fields.specs.Forms.{optional_form};
+ghost use Rattle.openapi_fields.specs.Returned.{ReadAs, RowReadAs, RisesBy};
 ghost use Rattle.openapi_schema.specs.KindNames.{trees_form};
 ghost use Rattle.openapi_schema.specs.Kinds.{entries_weight, trees_in};
 
+use openapi_fields::{as_member, present_view};
 use openapi_node::{Cause, Expected, Fault, Node, OrderedMap, Steps, View};
-use openapi_rows::{as_member, present_view};
 use std::alloc::Global;
 
 /// The elements of a list, which are not looked into.
 fn elements<'a>(alloc: Global, view: &View<'a>) -> Result<&'a [Node], Fault>
-    ensures reads { Gives (λ nodes. trees_form nodes.now) result (kinds.list_of kinds.any_tree) (shown view.now) }
+    ensures reads { ReadAs (λ nodes. trees_form nodes.now) result (kinds.list_of kinds.any_tree) (shown view.now) }
     ensures within { IfOk result (λ nodes. items_size (items_of nodes.now) < size_of (shown view.now)) }
 {
     match view {
@@ -30,11 +30,10 @@ pub(crate) fn lent_entries<'a>(
     members: &'a OrderedMap<Node>,
     steps: &mut Steps,
 ) -> Result<Option<&'a [Node]>, Fault>
-    ensures reads { GivesRow (optional_form (λ nodes. trees_form nodes.now)) result kinds.a_schema_kind
+    ensures reads { RowReadAs (optional_form (λ nodes. trees_form nodes.now)) result kinds.a_schema_kind
         (kinds.row (codes "enum") kinds.optional (kinds.list_of kinds.any_tree)) (members_of members.now) }
-    ensures rises { steps.old ≤ steps.new }
-    ensures count { steps.new ≤ steps.old + 3 * row_weight
-        (kinds.row (codes "enum") kinds.optional (kinds.list_of kinds.any_tree)) (members_of members.now) }
+    ensures count { RisesBy steps.old steps.new
+        (3 * row_weight (kinds.row (codes "enum") kinds.optional (kinds.list_of kinds.any_tree)) (members_of members.now)) }
     ensures left { IfOk result (λ o. steps.new + 2 * entries_weight (trees_in o) ≤ steps.old + 3 * row_weight
         (kinds.row (codes "enum") kinds.optional (kinds.list_of kinds.any_tree)) (members_of members.now)) }
 {

@@ -1,21 +1,20 @@
-//! How schemas are read. The functions call each other in a circle, as schemas hold schemas: each gets a smaller part
+//! How schemas are read. The functions are mutually recursive, as schemas hold schemas: each gets a smaller part
 //! of the tree in the end. A value is looked at once, and handed down as the view of that look.
 ghost use Rattle.std.specs.Prelude.{◌≡◌, ◌+◌, ◌*◌, ◌≤◌, Some, codes, IfOk};
-ghost use Rattle.openapi_node.specs.Tree.{list, object, items_of, members_of, size_of, items_size, members_size};
+ghost use Rattle.openapi_node.specs.Tree.{list, items_of, members_of, size_of, items_size, members_size, object};
 ghost use Rattle.openapi_node.specs.View.{shown};
 ghost use Rattle.openapi_tables.specs.Kind as kinds;
 ghost use Rattle.openapi_tables.specs.ByRow.{is_named, row_where, row_weight, rows_asked, rows_weight};
 ghost use Rattle.openapi_tables.specs.Tables.{final_tables};
-ghost use Rattle.openapi_rows.specs.Entries.{GivesEntries, chosen, entries_size};
-ghost use Rattle.openapi_rows.specs.Forms.{list_form, map_form, optional_form};
-ghost use Rattle.openapi_rows.specs.Gives.{Gives, GivesRow, Refuses};
-ghost use Rattle.openapi_knots.specs.Reading.{GivesPart, any_name};
+ghost use Rattle.openapi_fields.specs.Forms.{list_form, map_form, optional_form};
+ghost use Rattle.openapi_fields.specs.Returned.{ReadAs, RowReadAs, Refuses, RisesBelow, RisesBy};
+ghost use Rattle.openapi_fields.specs.Reading.{PartReadAs};
 ghost use Rattle.openapi_schema.specs.KindNames.{first_rows, last_rows};
 ghost use Rattle.openapi_schema.specs.Kinds.{entries_weight, trees_in};
 ghost use Rattle.openapi_schema.specs.RawSlots.{optional_rows};
-ghost use Rattle.openapi_schema.specs.Reading.{GivesKind, first_optional, last_optional};
+ghost use Rattle.openapi_schema.specs.Reading.{KindReadAs, first_optional, last_optional};
 ghost use Rattle.openapi_schema.specs.Reading.{ref_form, inner_box_form, outer_box_form};
-ghost use Rattle.openapi_schema.specs.SchemaForms.{additional_form, schema_form};
+ghost use Rattle.openapi_schema.specs.SchemaForms.{additional_form};
 
 use crate::boxes::in_additional;
 use crate::joined::{item_with, kind_with};
@@ -23,9 +22,10 @@ use crate::kind_names::{FirstNames, KindNames, LastNames};
 use crate::plain_names::{read_plain_first, read_plain_last};
 use crate::presence::lent_entries;
 use crate::schema::{AdditionalProperties, Schema, SchemaKind};
-use openapi_knots::{in_inner_box, in_outer_box};
+use openapi_fields::{
+    as_member, in_inner_box, in_outer_box, optional, present_view, push, put_read, read_reference,
+};
 use openapi_node::{Cause, Expected, Fault, Node, OrderedMap, Steps, View};
-use openapi_rows::{as_member, at_name, optional, present_view, push, put, read_reference};
 use openapi_values::ReferenceOr;
 use std::alloc::Global;
 
@@ -36,7 +36,7 @@ pub fn schema_ref_from_node(
     node: &Node,
     steps: &mut Steps,
 ) -> Result<ReferenceOr<Schema>, Fault>
-    ensures reads { Gives ref_form result (kinds.ref_to kinds.a_schema) node.now }
+    ensures reads { ReadAs ref_form result (kinds.ref_to kinds.a_schema) node.now }
     ensures refuses { Refuses result (kinds.ref_to kinds.a_schema) node.now }
     ensures rises { steps.old + 1 ≤ steps.new }
     ensures count { steps.new ≤ steps.old + 3 * size_of node.now }
@@ -52,9 +52,8 @@ pub(crate) fn read_schema_ref(
     view: &View<'_>,
     steps: &mut Steps,
 ) -> Result<ReferenceOr<Schema>, Fault>
-    ensures reads { Gives ref_form result (kinds.ref_to kinds.a_schema) (shown view.now) }
-    ensures rises { steps.old ≤ steps.new }
-    ensures count { steps.new + 2 ≤ steps.old + 3 * size_of (shown view.now) }
+    ensures reads { ReadAs ref_form result (kinds.ref_to kinds.a_schema) (shown view.now) }
+    ensures count { RisesBelow steps.old steps.new (3 * size_of (shown view.now) + 1) }
 {
     let View::Object(members) = view else {
         return Err(Fault::new(alloc, Cause::WrongKind(Expected::Object)));
@@ -73,9 +72,8 @@ fn read_boxed_schema_ref(
     view: &View<'_>,
     steps: &mut Steps,
 ) -> Result<ReferenceOr<Box<Schema>>, Fault>
-    ensures reads { Gives inner_box_form result (kinds.ref_to kinds.a_schema) (shown view.now) }
-    ensures rises { steps.old ≤ steps.new }
-    ensures count { steps.new + 2 ≤ steps.old + 3 * size_of (shown view.now) }
+    ensures reads { ReadAs inner_box_form result (kinds.ref_to kinds.a_schema) (shown view.now) }
+    ensures count { RisesBelow steps.old steps.new (3 * size_of (shown view.now) + 1) }
 {
     in_inner_box(alloc, read_schema_ref(alloc, view, steps))
 }
@@ -88,9 +86,8 @@ fn read_boxed_ref(
     view: &View<'_>,
     steps: &mut Steps,
 ) -> Result<Box<ReferenceOr<Schema>>, Fault>
-    ensures reads { Gives outer_box_form result (kinds.ref_to kinds.a_schema) (shown view.now) }
-    ensures rises { steps.old ≤ steps.new }
-    ensures count { steps.new + 2 ≤ steps.old + 3 * size_of (shown view.now) }
+    ensures reads { ReadAs outer_box_form result (kinds.ref_to kinds.a_schema) (shown view.now) }
+    ensures count { RisesBelow steps.old steps.new (3 * size_of (shown view.now) + 1) }
 {
     in_outer_box(alloc, read_schema_ref(alloc, view, steps))
 }
@@ -102,9 +99,8 @@ pub(crate) fn read_kind(
     members: &OrderedMap<Node>,
     steps: &mut Steps,
 ) -> Result<SchemaKind, Fault>
-    ensures reads { GivesKind result (members_of members.now) }
-    ensures rises { steps.old ≤ steps.new }
-    ensures count { steps.new ≤ steps.old + 3 * rows_weight optional_rows (members_of members.now) }
+    ensures reads { KindReadAs result (members_of members.now) }
+    ensures count { RisesBy steps.old steps.new (3 * rows_weight optional_rows (members_of members.now)) }
 {
     let first = read_first_names(alloc, members, steps)?;
     kind_with(alloc, first, read_last_names(alloc, members, steps), steps)
@@ -112,16 +108,15 @@ pub(crate) fn read_kind(
 
 /// Reads what stands under the first twelve names that tell the kinds of schemas apart.
 #[cycle(read)]
-#[tactic(auto, unfolding(openapi_tables::specs::Members::checked_rows, openapi_tables::specs::Tables::any_rows))]
+#[tactic(auto, using(crate::proofs::PartRows::first_weight), unfolding(openapi_tables::specs::Members::checked_rows, openapi_tables::specs::Tables::any_rows))]
 #[inline(never)]
 fn read_first_names(
     alloc: Global,
     members: &OrderedMap<Node>,
     steps: &mut Steps,
 ) -> Result<FirstNames, Fault>
-    ensures reads { GivesPart first_rows result kinds.a_schema_kind first_optional (members_of members.now) }
-    ensures rises { steps.old ≤ steps.new }
-    ensures count { steps.new ≤ steps.old + 3 * rows_weight first_optional (members_of members.now) }
+    ensures reads { PartReadAs first_rows result kinds.a_schema_kind first_optional (members_of members.now) }
+    ensures count { RisesBy steps.old steps.new (3 * rows_weight first_optional (members_of members.now)) }
 {
     let plain = read_plain_first(alloc, members, steps)?;
     let properties = read_properties(alloc, members, steps)?;
@@ -137,16 +132,15 @@ fn read_first_names(
 
 /// Reads what stands under the last twelve names. What is left to look at pays for the entries of the enumeration.
 #[cycle(read)]
-#[tactic(auto, unfolding(openapi_tables::specs::Members::checked_rows, openapi_tables::specs::Tables::any_rows))]
+#[tactic(auto, using(crate::proofs::PartRows::last_weight), unfolding(openapi_tables::specs::Members::checked_rows, openapi_tables::specs::Tables::any_rows))]
 #[inline(never)]
 fn read_last_names<'a>(
     alloc: Global,
     members: &'a OrderedMap<Node>,
     steps: &mut Steps,
 ) -> Result<LastNames<'a>, Fault>
-    ensures reads { GivesPart last_rows result kinds.a_schema_kind last_optional (members_of members.now) }
-    ensures rises { steps.old ≤ steps.new }
-    ensures count { steps.new ≤ steps.old + 3 * rows_weight last_optional (members_of members.now) }
+    ensures reads { PartReadAs last_rows result kinds.a_schema_kind last_optional (members_of members.now) }
+    ensures count { RisesBy steps.old steps.new (3 * rows_weight last_optional (members_of members.now)) }
     ensures left { IfOk result (λ b. steps.new + 2 * entries_weight (trees_in b.enumeration) ≤ steps.old
         + 3 * rows_weight last_optional (members_of members.now)) }
 {
@@ -178,11 +172,10 @@ fn read_inner_box(
 ) -> Result<Option<ReferenceOr<Box<Schema>>>, Fault>
     requires row { row_where (is_named name.now) (rows_asked final_tables kinds.a_schema_kind) ≡ Some
         (kinds.row name.now kinds.optional (kinds.ref_to kinds.a_schema)) }
-    ensures reads { GivesRow (optional_form inner_box_form) result kinds.a_schema_kind
+    ensures reads { RowReadAs (optional_form inner_box_form) result kinds.a_schema_kind
         (kinds.row name.entry.now kinds.optional (kinds.ref_to kinds.a_schema)) (members_of members.now) }
-    ensures rises { steps.old ≤ steps.new }
-    ensures count { steps.new ≤ steps.old + 3 * row_weight
-        (kinds.row name.entry.now kinds.optional (kinds.ref_to kinds.a_schema)) (members_of members.now) }
+    ensures count { RisesBy steps.old steps.new
+        (3 * row_weight (kinds.row name.entry.now kinds.optional (kinds.ref_to kinds.a_schema)) (members_of members.now)) }
 {
     match present_view(members, name, steps) {
         None => Ok(None),
@@ -200,11 +193,10 @@ fn read_outer_box(
 ) -> Result<Option<Box<ReferenceOr<Schema>>>, Fault>
     requires row { row_where (is_named name.now) (rows_asked final_tables kinds.a_schema_kind) ≡ Some
         (kinds.row name.now kinds.optional (kinds.ref_to kinds.a_schema)) }
-    ensures reads { GivesRow (optional_form outer_box_form) result kinds.a_schema_kind
+    ensures reads { RowReadAs (optional_form outer_box_form) result kinds.a_schema_kind
         (kinds.row name.entry.now kinds.optional (kinds.ref_to kinds.a_schema)) (members_of members.now) }
-    ensures rises { steps.old ≤ steps.new }
-    ensures count { steps.new ≤ steps.old + 3 * row_weight
-        (kinds.row name.entry.now kinds.optional (kinds.ref_to kinds.a_schema)) (members_of members.now) }
+    ensures count { RisesBy steps.old steps.new
+        (3 * row_weight (kinds.row name.entry.now kinds.optional (kinds.ref_to kinds.a_schema)) (members_of members.now)) }
 {
     match present_view(members, name, steps) {
         None => Ok(None),
@@ -222,13 +214,11 @@ fn read_listed(
 ) -> Result<Option<Vec<ReferenceOr<Schema>>>, Fault>
     requires row { row_where (is_named name.now) (rows_asked final_tables kinds.a_schema_kind) ≡ Some
         (kinds.row name.now kinds.optional (kinds.list_of (kinds.ref_to kinds.a_schema))) }
-    ensures reads { GivesRow (optional_form (list_form ref_form)) result kinds.a_schema_kind
+    ensures reads { RowReadAs (optional_form (list_form ref_form)) result kinds.a_schema_kind
         (kinds.row name.entry.now kinds.optional (kinds.list_of (kinds.ref_to kinds.a_schema)))
         (members_of members.now) }
-    ensures rises { steps.old ≤ steps.new }
-    ensures count { steps.new ≤ steps.old + 3 * row_weight
-        (kinds.row name.entry.now kinds.optional (kinds.list_of (kinds.ref_to kinds.a_schema)))
-        (members_of members.now) }
+    ensures count { RisesBy steps.old steps.new
+        (3 * row_weight (kinds.row name.entry.now kinds.optional (kinds.list_of (kinds.ref_to kinds.a_schema))) (members_of members.now)) }
 {
     match present_view(members, name, steps) {
         None => Ok(None),
@@ -243,9 +233,8 @@ fn read_refs_in(
     view: &View<'_>,
     steps: &mut Steps,
 ) -> Result<Vec<ReferenceOr<Schema>>, Fault>
-    ensures reads { Gives (list_form ref_form) result (kinds.list_of (kinds.ref_to kinds.a_schema)) (shown view.now) }
-    ensures rises { steps.old ≤ steps.new }
-    ensures count { steps.new + 3 ≤ steps.old + 3 * size_of (shown view.now) }
+    ensures reads { ReadAs (list_form ref_form) result (kinds.list_of (kinds.ref_to kinds.a_schema)) (shown view.now) }
+    ensures count { RisesBelow steps.old steps.new (3 * size_of (shown view.now)) }
 {
     match view {
         View::List(nodes) => read_refs(alloc, nodes, steps),
@@ -260,10 +249,9 @@ fn read_refs(
     nodes: &[Node],
     steps: &mut Steps,
 ) -> Result<Vec<ReferenceOr<Schema>>, Fault>
-    ensures reads { Gives (list_form ref_form) result (kinds.list_of (kinds.ref_to kinds.a_schema))
+    ensures reads { ReadAs (list_form ref_form) result (kinds.list_of (kinds.ref_to kinds.a_schema))
         (list (items_of nodes.now)) }
-    ensures rises { steps.old ≤ steps.new }
-    ensures count { steps.new ≤ steps.old + 3 * items_size (items_of nodes.now) }
+    ensures count { RisesBy steps.old steps.new (3 * items_size (items_of nodes.now)) }
 {
     let Ok(mut values) = Vec::with_capacity(alloc, nodes.len()) else {
         return Err(Fault::memory(alloc));
@@ -284,13 +272,11 @@ fn read_properties(
     members: &OrderedMap<Node>,
     steps: &mut Steps,
 ) -> Result<Option<OrderedMap<ReferenceOr<Box<Schema>>>>, Fault>
-    ensures reads { GivesRow (optional_form (map_form inner_box_form)) result kinds.a_schema_kind
+    ensures reads { RowReadAs (optional_form (map_form inner_box_form)) result kinds.a_schema_kind
         (kinds.row (codes "properties") kinds.optional (kinds.map_of (kinds.ref_to kinds.a_schema)))
         (members_of members.now) }
-    ensures rises { steps.old ≤ steps.new }
-    ensures count { steps.new ≤ steps.old + 3 * row_weight
-        (kinds.row (codes "properties") kinds.optional (kinds.map_of (kinds.ref_to kinds.a_schema)))
-        (members_of members.now) }
+    ensures count { RisesBy steps.old steps.new
+        (3 * row_weight (kinds.row (codes "properties") kinds.optional (kinds.map_of (kinds.ref_to kinds.a_schema))) (members_of members.now)) }
 {
     match present_view(members, "properties", steps) {
         None => Ok(None),
@@ -305,10 +291,9 @@ fn read_properties_in(
     view: &View<'_>,
     steps: &mut Steps,
 ) -> Result<OrderedMap<ReferenceOr<Box<Schema>>>, Fault>
-    ensures reads { Gives (map_form inner_box_form) result (kinds.map_of (kinds.ref_to kinds.a_schema))
+    ensures reads { ReadAs (map_form inner_box_form) result (kinds.map_of (kinds.ref_to kinds.a_schema))
         (shown view.now) }
-    ensures rises { steps.old ≤ steps.new }
-    ensures count { steps.new + 3 ≤ steps.old + 3 * size_of (shown view.now) }
+    ensures count { RisesBelow steps.old steps.new (3 * size_of (shown view.now)) }
 {
     match view {
         View::Object(members) => read_named(alloc, members, steps),
@@ -323,21 +308,23 @@ fn read_named(
     members: &OrderedMap<Node>,
     steps: &mut Steps,
 ) -> Result<OrderedMap<ReferenceOr<Box<Schema>>>, Fault>
-    ensures reads { GivesEntries inner_box_form result (kinds.ref_to kinds.a_schema) (chosen any_name members.now) }
-    ensures rises { steps.old ≤ steps.new }
-    ensures count { steps.new ≤ steps.old + 3 * entries_size (chosen any_name members.now) }
+    ensures reads { ReadAs (map_form inner_box_form) result (kinds.map_of (kinds.ref_to kinds.a_schema))
+        (object (members_of members.now)) }
+    ensures count { RisesBy steps.old steps.new (3 * members_size (members_of members.now)) }
 {
     let Ok(mut values) = OrderedMap::with_capacity(alloc, members.len()) else {
         return Err(Fault::memory(alloc));
     };
     for i in 0..members.len() {
         let (name, node) = members.entry_at(i);
-        match at_name(
+        let entry = node.open(steps);
+        match put_read(
             alloc,
+            &mut values,
             name,
-            in_inner_box(alloc, schema_ref_from_node(alloc, node, steps)),
+            read_boxed_schema_ref(alloc, &entry, steps),
         ) {
-            Ok(value) => put(alloc, &mut values, name, value)?,
+            Ok(()) => {}
             Err(fault) => return Err(fault),
         }
     }
@@ -351,11 +338,10 @@ fn read_additional(
     members: &OrderedMap<Node>,
     steps: &mut Steps,
 ) -> Result<Option<AdditionalProperties>, Fault>
-    ensures reads { GivesRow (optional_form additional_form) result kinds.a_schema_kind
+    ensures reads { RowReadAs (optional_form additional_form) result kinds.a_schema_kind
         (kinds.row (codes "additionalProperties") kinds.optional kinds.flag_or_schema) (members_of members.now) }
-    ensures rises { steps.old ≤ steps.new }
-    ensures count { steps.new ≤ steps.old + 3 * row_weight
-        (kinds.row (codes "additionalProperties") kinds.optional kinds.flag_or_schema) (members_of members.now) }
+    ensures count { RisesBy steps.old steps.new
+        (3 * row_weight (kinds.row (codes "additionalProperties") kinds.optional kinds.flag_or_schema) (members_of members.now)) }
 {
     match present_view(members, "additionalProperties", steps) {
         None => Ok(None),
@@ -374,9 +360,8 @@ pub(crate) fn read_additional_in(
     view: &View<'_>,
     steps: &mut Steps,
 ) -> Result<AdditionalProperties, Fault>
-    ensures reads { Gives additional_form result kinds.flag_or_schema (shown view.now) }
-    ensures rises { steps.old ≤ steps.new }
-    ensures count { steps.new + 2 ≤ steps.old + 3 * size_of (shown view.now) }
+    ensures reads { ReadAs additional_form result kinds.flag_or_schema (shown view.now) }
+    ensures count { RisesBelow steps.old steps.new (3 * size_of (shown view.now) + 1) }
 {
     match view {
         View::Flag(allowed) => Ok(AdditionalProperties::Any(*allowed)),

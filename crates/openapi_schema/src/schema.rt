@@ -1,7 +1,7 @@
 //! The Schema Object, and what it holds.
 use crate::any_schema::AnySchema;
 use crate::composite_types::{ArrayType, ObjectType};
-use openapi_parts::{BooleanType, IntegerType, NumberType, SchemaData, StringType};
+use openapi_schema_types::{BooleanType, IntegerType, NumberType, SchemaData, StringType};
 use openapi_values::ReferenceOr;
 
 /// The Schema Object (OpenAPI 3.0.3, section 4.7.24): which values are allowed, in the words of JSON Schema.

@@ -2,6 +2,7 @@
 ghost use Rattle.std.specs.Prelude.{◌≡◌, ◌+◌, ◌*◌, ◌≤◌, IfOk, IfErr};
 ghost use Rattle.openapi_node.specs.Fault.{IsMemory};
 ghost use Rattle.openapi_tables.specs.Members as sorts;
+ghost use Rattle.openapi_fields.specs.Returned.{RisesBy};
 ghost use Rattle.openapi_schema.specs.Kinds.{IsKind, IsKindBy, entries_weight, trees_in};
 
 use crate::any_schema::AnySchema;
@@ -9,7 +10,7 @@ use crate::kind_names::{FirstNames, LastNames, named_sort};
 use crate::kinds::{any_kind, array_kind, integer_or_any, object_kind, typed_or_any};
 use crate::schema::{Schema, SchemaKind};
 use openapi_node::{Fault, Steps, Whole};
-use openapi_parts::Sort;
+use openapi_schema_types::Sort;
 use openapi_values::ReferenceOr;
 use std::alloc::Global;
 
@@ -32,8 +33,7 @@ pub(crate) fn schema_kind(
 ) -> Result<SchemaKind, Fault>
     ensures reads { IfOk result (λ k. IsKind k first last.entry) }
     ensures err { IfErr result IsMemory }
-    ensures rises { steps.old ≤ steps.new }
-    ensures count { steps.new ≤ steps.old + 2 * entries_weight (trees_in last.entry.enumeration) }
+    ensures count { RisesBy steps.old steps.new (2 * entries_weight (trees_in last.entry.enumeration)) }
 {
     match named_sort(&first, &last) {
         Sort::String => typed_or_any::<String>(alloc, first, last, steps),

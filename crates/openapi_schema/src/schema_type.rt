@@ -5,8 +5,8 @@ ghost use Rattle.openapi_node.specs.Tree.{members_of};
 ghost use Rattle.openapi_tables.specs.ByRow.{rows_weight};
 ghost use Rattle.openapi_tables.specs.Kind.{by};
 ghost use Rattle.openapi_tables.specs.Tables.{final_tables, schema_type};
-ghost use Rattle.openapi_rows.specs.Gives.{GivesRows};
-ghost use Rattle.openapi_parts.specs.TypeNames.{type_name_word};
+ghost use Rattle.openapi_fields.specs.Returned.{RowsReadAs, RisesBy};
+ghost use Rattle.openapi_schema_types.specs.TypeNames.{type_name_word};
 ghost use Rattle.openapi_schema.specs.TypeForms.{table_of};
 ghost use Rattle.openapi_schema.specs.TypeForms.{schema_type_fields, schema_type_form, schema_type_word};
 ghost use Rattle.openapi_schema.specs.TypeForms.{schema_type_sound};
@@ -15,9 +15,9 @@ use crate::composite_types::{ArrayType, ObjectType};
 use crate::members::whole_type;
 use crate::schema::SchemaType;
 use crate::write::type_rows;
+use openapi_fields::{FromNode, Record, ToNode, tag};
 use openapi_node::{Cause, Expected, Fault, Node, OrderedMap, Steps, View};
-use openapi_parts::{BooleanType, IntegerType, NumberType, StringType, TypeName};
-use openapi_rows::{FromNode, Record, ToNode, tag};
+use openapi_schema_types::{BooleanType, IntegerType, NumberType, StringType, TypeName};
 use std::alloc::Global;
 
 /// Reads a schema of a type among the members of an object.
@@ -27,10 +27,10 @@ fn of_type(
     members: &OrderedMap<Node>,
     steps: &mut Steps,
 ) -> Result<SchemaType, Fault>
-    ensures reads { GivesRows schema_type_fields result (by (table_of name)) (members_of members.now) }
+    ensures reads { RowsReadAs schema_type_fields result (by (table_of name)) (members_of members.now) }
     ensures word { IfOk result (λ x. schema_type_word x ≡ type_name_word name) }
-    ensures rises { steps.old ≤ steps.new }
-    ensures count { steps.new ≤ steps.old + 3 * rows_weight (final_tables (table_of name)) (members_of members.now) }
+    ensures count { RisesBy steps.old steps.new
+        (3 * rows_weight (final_tables (table_of name)) (members_of members.now)) }
 {
     match name {
         TypeName::String => match StringType::from_members(alloc, members, steps) {

@@ -5,8 +5,8 @@ ghost use Rattle.openapi_schema.specs.Present.{additional_there, schema_there};
 use crate::members::whole_kind;
 use crate::schema::{AdditionalProperties, Schema, SchemaKind};
 use crate::write::{additional_to_node, kind_rows, write_schema};
+use openapi_fields::{IntoNode, ToNode};
 use openapi_node::{Fault, Node};
-use openapi_rows::{IntoNode, ToNode};
 use std::alloc::Global;
 
 impl ToNode for Schema {

@@ -1,13 +1,13 @@
-//! How schemas are written. The functions call each other in a circle, as schemas hold schemas: each gets a smaller
+//! How schemas are written. The functions are mutually recursive, as schemas hold schemas: each gets a smaller
 //! part of the schema in the end.
-ghost use Rattle.std.specs.Prelude.{◌≡◌, [], OnOk, IfErr, codes};
+ghost use Rattle.std.specs.Prelude.{[], OnOk, IfErr, codes};
 ghost use Rattle.openapi_tables.specs.ByRow.{is_named};
 ghost use Rattle.openapi_tables.specs.Kind as kinds;
 ghost use Rattle.openapi_tables.specs.Slots.{before, slots_lost, IsWritten};
 ghost use Rattle.openapi_tables.specs.Tables.{final_tables};
-ghost use Rattle.openapi_rows.specs.Forms.{list_form, map_form, optional_form};
-ghost use Rattle.openapi_rows.specs.Gives.{Loses, WrittenAs};
-ghost use Rattle.openapi_knots.specs.Writing.{GivesWritten, RowsWritten};
+ghost use Rattle.openapi_fields.specs.Forms.{list_form, map_form, optional_form};
+ghost use Rattle.openapi_fields.specs.Returned.{NotWritable, WrittenAs};
+ghost use Rattle.openapi_fields.specs.Writing.{MemberWrittenAs, RowsWritten};
 ghost use Rattle.openapi_schema.specs.Fields.{any_slots, array_slots, object_slots};
 ghost use Rattle.openapi_schema.specs.Reading.{ref_form, inner_box_form, outer_box_form};
 ghost use Rattle.openapi_schema.specs.SchemaForms.{additional_form, schema_form};
@@ -17,9 +17,11 @@ use crate::any_schema::AnySchema;
 use crate::composite_types::{ArrayType, ObjectType};
 use crate::members::whole_schema;
 use crate::schema::{AdditionalProperties, Schema, SchemaKind, SchemaType};
-use openapi_knots::{as_some, only_row, put_row, put_written, record_rows};
+use openapi_fields::{
+    as_some, only_row, push, put_implied, put_optional, put_row, put_written, record_rows,
+    write_reference,
+};
 use openapi_node::{Fault, Node, OrderedMap};
-use openapi_rows::{push, put_implied, put_optional, write_reference};
 use openapi_values::ReferenceOr;
 use std::alloc::Global;
 
@@ -158,7 +160,7 @@ fn put_first(alloc: Global, any: &AnySchema, out: &mut OrderedMap<Node>) -> Resu
     requires { IsWritten final_tables [] out.old }
     ensures ok { OnOk result (IsWritten final_tables (before (is_named (codes "items")) (any_slots any.now))
         out.new) }
-    ensures err { IfErr result (λ f. Loses f (slots_lost final_tables (any_slots any.now))) }
+    ensures err { IfErr result (λ f. NotWritable f (slots_lost final_tables (any_slots any.now))) }
 {
     put_optional(alloc, any, out, "type", &any.typ)?;
     put_optional(alloc, any, out, "pattern", &any.pattern)?;
@@ -192,7 +194,7 @@ fn put_first(alloc: Global, any: &AnySchema, out: &mut OrderedMap<Node>) -> Resu
 fn put_last(alloc: Global, any: &AnySchema, out: &mut OrderedMap<Node>) -> Result<(), Fault>
     requires { IsWritten final_tables (before (is_named (codes "items")) (any_slots any.now)) out.old }
     ensures ok { OnOk result (IsWritten final_tables (any_slots any.now) out.new) }
-    ensures err { IfErr result (λ f. Loses f (slots_lost final_tables (any_slots any.now))) }
+    ensures err { IfErr result (λ f. NotWritable f (slots_lost final_tables (any_slots any.now))) }
 {
     put_row(alloc, any, out, "items", write_items(alloc, &any.items))?;
     put_optional(alloc, any, out, "minItems", &any.min_items)?;
@@ -211,7 +213,7 @@ fn put_last(alloc: Global, any: &AnySchema, out: &mut OrderedMap<Node>) -> Resul
 /// Writes a list of schemas and references; nothing where it is empty.
 #[cycle(write)]
 fn write_listed(alloc: Global, values: &Vec<ReferenceOr<Schema>>) -> Result<Option<Node>, Fault>
-    ensures { GivesWritten kinds.listed (kinds.list_of (kinds.ref_to kinds.a_schema)) (list_form ref_form values.now)
+    ensures { MemberWrittenAs kinds.listed (kinds.list_of (kinds.ref_to kinds.a_schema)) (list_form ref_form values.now)
         result }
 {
     if values.as_slice().is_empty() {
@@ -243,7 +245,7 @@ fn write_properties(
     alloc: Global,
     values: &OrderedMap<ReferenceOr<Box<Schema>>>,
 ) -> Result<Option<Node>, Fault>
-    ensures { GivesWritten kinds.listed (kinds.map_of (kinds.ref_to kinds.a_schema))
+    ensures { MemberWrittenAs kinds.listed (kinds.map_of (kinds.ref_to kinds.a_schema))
         (map_form inner_box_form values.now) result }
 {
     if values.is_empty() {
@@ -281,7 +283,7 @@ fn write_items(
     alloc: Global,
     value: &Option<ReferenceOr<Box<Schema>>>,
 ) -> Result<Option<Node>, Fault>
-    ensures { GivesWritten kinds.optional (kinds.ref_to kinds.a_schema) (optional_form inner_box_form value.now) result }
+    ensures { MemberWrittenAs kinds.optional (kinds.ref_to kinds.a_schema) (optional_form inner_box_form value.now) result }
 {
     match value {
         None => Ok(None),
@@ -292,7 +294,7 @@ fn write_items(
 /// Writes a schema or a reference in a box, where there is one.
 #[cycle(write)]
 fn write_not(alloc: Global, value: &Option<Box<ReferenceOr<Schema>>>) -> Result<Option<Node>, Fault>
-    ensures { GivesWritten kinds.optional (kinds.ref_to kinds.a_schema) (optional_form outer_box_form value.now) result }
+    ensures { MemberWrittenAs kinds.optional (kinds.ref_to kinds.a_schema) (optional_form outer_box_form value.now) result }
 {
     match value {
         None => Ok(None),
@@ -306,7 +308,7 @@ fn write_additional(
     alloc: Global,
     value: &Option<AdditionalProperties>,
 ) -> Result<Option<Node>, Fault>
-    ensures { GivesWritten kinds.optional kinds.flag_or_schema (optional_form additional_form value.now) result }
+    ensures { MemberWrittenAs kinds.optional kinds.flag_or_schema (optional_form additional_form value.now) result }
 {
     match value {
         None => Ok(None),

@@ -1,7 +1,7 @@
 -- The forms of the fields of the OAuth flows, in the order of the rows of each table.
 use Rattle.std.specs.Prelude.{List, [], ◌∷◌}
 use Rattle.openapi_tables.specs.Form.{Form}
-use Rattle.openapi_rows.specs.Forms.{text_form, optional_form, map_form, extensions_form, record_form}
+use Rattle.openapi_fields.specs.Forms.{text_form, optional_form, map_form, extensions_form, record_form}
 use Rattle.openapi_security.specs.declared.authorization_code_flow.AuthorizationCodeOAuth2Flow as code
 use Rattle.openapi_security.specs.declared.client_credentials_flow.ClientCredentialsOAuth2Flow as client
 use Rattle.openapi_security.specs.declared.implicit_flow.ImplicitOAuth2Flow.{ImplicitOAuth2Flow}

@@ -10,8 +10,8 @@ use Rattle.openapi_tables.specs.Members.{is_case}
 use Rattle.openapi_tables.specs.Form.{Form}
 use Rattle.openapi_tables.specs.Slots.{Slot}
 use Rattle.openapi_values.specs.Words.{word_form, api_key_location_word}
-use Rattle.openapi_rows.specs.Forms.{text_form, optional_form, list_form, map_form, extensions_form, record_form}
-use Rattle.openapi_rows.specs.Forms.{tagged_form, tagged_slots}
+use Rattle.openapi_fields.specs.Forms.{text_form, optional_form, list_form, map_form, extensions_form, record_form}
+use Rattle.openapi_fields.specs.Forms.{tagged_form, tagged_slots}
 use Rattle.openapi_security.specs.Flows.{oauth2_flows_rows}
 use Rattle.openapi_security.specs.declared.security_scheme.SchemeType.{SchemeType}
 use Rattle.openapi_security.specs.declared.security_scheme.SchemeType.TheVariants as types

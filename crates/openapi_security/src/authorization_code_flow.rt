@@ -1,16 +1,11 @@
 //! The OAuth Flow Object: the flow by an authorization code.
-ghost use Rattle.std.proofs.Common.{refl};
-ghost use Rattle.std.specs.Prelude.{◌≡◌, ◌+◌, ◌≤◌, ◌*◌, true, false};
-ghost use Rattle.openapi_tables.specs.Kind.{by, authorization_code_flow};
-ghost use Rattle.openapi_tables.proofs.SlotWriting.{final_apart};
-ghost use Rattle.openapi_rows.specs.Forms.{record_form, record_slots};
+ghost use Rattle.openapi_tables.specs.Kind.{authorization_code_flow};
 ghost use Rattle.openapi_security.specs.Flows.{authorization_code_flow_rows};
 
-use openapi_node::{Fault, Node, OrderedMap, Steps, View};
-use openapi_rows::{
-    FromNode, Object, Record, ToNode, extensions, optional, put_extensions, put_optional,
-    put_required, read_record, required, write_record,
+use openapi_fields::{
+    Object, Record, extensions, optional, put_extensions, put_optional, put_required, required,
 };
+use openapi_node::{Fault, Node, OrderedMap, Steps};
 use std::alloc::Global;
 
 /// The OAuth Flow Object (OpenAPI 3.0.3, section 4.7.29) of the authorization code flow of OAuth 2.
@@ -29,22 +24,18 @@ pub struct AuthorizationCodeOAuth2Flow {
 }
 
 impl Object for AuthorizationCodeOAuth2Flow {
-    ghost object = { by authorization_code_flow };
+    ghost table = { authorization_code_flow };
 
-    ghost slots_of = { record_slots authorization_code_flow authorization_code_flow_rows };
-
-    ghost apart = { λ x. final_apart authorization_code_flow (authorization_code_flow_rows x) };
+    ghost rows_of = { authorization_code_flow_rows };
 }
 
 #[tactic(auto, unfolding(openapi_tables::specs::Tables::final_tables, openapi_tables::specs::Tables::tables_with))]
 impl Record for AuthorizationCodeOAuth2Flow {
-    ghost rows_of = { authorization_code_flow_rows };
-
     fn from_members(
         alloc: Global,
         members: &OrderedMap<Node>,
         steps: &mut Steps,
-    ) -> Result<AuthorizationCodeOAuth2Flow, Fault> {
+    ) -> Result<Self, Fault> {
         Ok(AuthorizationCodeOAuth2Flow {
             authorization_url: required::<Self, _>(alloc, members, "authorizationUrl", steps)?,
             token_url: required::<Self, _>(alloc, members, "tokenUrl", steps)?,
@@ -67,32 +58,4 @@ impl Record for AuthorizationCodeOAuth2Flow {
         put_required(alloc, self, out, "scopes", &self.scopes)?;
         put_extensions(alloc, self, out, &self.extensions)
     }
-
-    ghost by_table = { refl };
-
-    ghost by_rows = { λ x. refl };
-}
-
-impl FromNode for AuthorizationCodeOAuth2Flow {
-    ghost kind = { by authorization_code_flow };
-
-    ghost form_of = { record_form authorization_code_flow_rows };
-
-    fn from_view(
-        alloc: Global,
-        view: &View<'_>,
-        steps: &mut Steps,
-    ) -> Result<AuthorizationCodeOAuth2Flow, Fault> {
-        read_record(alloc, view, steps)
-    }
-
-    ghost well_made = { refl };
-}
-
-impl ToNode for AuthorizationCodeOAuth2Flow {
-    fn to_node(&self, alloc: Global) -> Result<Node, Fault> {
-        write_record(alloc, self)
-    }
-
-    ghost there = { λ x. refl };
 }

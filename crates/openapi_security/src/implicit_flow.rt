@@ -1,16 +1,11 @@
 //! The OAuth Flow Object: the implicit flow.
-ghost use Rattle.std.proofs.Common.{refl};
-ghost use Rattle.std.specs.Prelude.{◌≡◌, ◌+◌, ◌≤◌, ◌*◌, true, false};
-ghost use Rattle.openapi_tables.specs.Kind.{by, implicit_flow};
-ghost use Rattle.openapi_tables.proofs.SlotWriting.{final_apart};
-ghost use Rattle.openapi_rows.specs.Forms.{record_form, record_slots};
+ghost use Rattle.openapi_tables.specs.Kind.{implicit_flow};
 ghost use Rattle.openapi_security.specs.Flows.{implicit_flow_rows};
 
-use openapi_node::{Fault, Node, OrderedMap, Steps, View};
-use openapi_rows::{
-    FromNode, Object, Record, ToNode, extensions, optional, put_extensions, put_optional,
-    put_required, read_record, required, write_record,
+use openapi_fields::{
+    Object, Record, extensions, optional, put_extensions, put_optional, put_required, required,
 };
+use openapi_node::{Fault, Node, OrderedMap, Steps};
 use std::alloc::Global;
 
 /// The OAuth Flow Object (OpenAPI 3.0.3, section 4.7.29) of the implicit flow of OAuth 2.
@@ -27,22 +22,18 @@ pub struct ImplicitOAuth2Flow {
 }
 
 impl Object for ImplicitOAuth2Flow {
-    ghost object = { by implicit_flow };
+    ghost table = { implicit_flow };
 
-    ghost slots_of = { record_slots implicit_flow implicit_flow_rows };
-
-    ghost apart = { λ x. final_apart implicit_flow (implicit_flow_rows x) };
+    ghost rows_of = { implicit_flow_rows };
 }
 
 #[tactic(auto, unfolding(openapi_tables::specs::Tables::final_tables, openapi_tables::specs::Tables::tables_with))]
 impl Record for ImplicitOAuth2Flow {
-    ghost rows_of = { implicit_flow_rows };
-
     fn from_members(
         alloc: Global,
         members: &OrderedMap<Node>,
         steps: &mut Steps,
-    ) -> Result<ImplicitOAuth2Flow, Fault> {
+    ) -> Result<Self, Fault> {
         Ok(ImplicitOAuth2Flow {
             authorization_url: required::<Self, _>(alloc, members, "authorizationUrl", steps)?,
             refresh_url: optional::<Self, _>(alloc, members, "refreshUrl", steps)?,
@@ -63,32 +54,4 @@ impl Record for ImplicitOAuth2Flow {
         put_required(alloc, self, out, "scopes", &self.scopes)?;
         put_extensions(alloc, self, out, &self.extensions)
     }
-
-    ghost by_table = { refl };
-
-    ghost by_rows = { λ x. refl };
-}
-
-impl FromNode for ImplicitOAuth2Flow {
-    ghost kind = { by implicit_flow };
-
-    ghost form_of = { record_form implicit_flow_rows };
-
-    fn from_view(
-        alloc: Global,
-        view: &View<'_>,
-        steps: &mut Steps,
-    ) -> Result<ImplicitOAuth2Flow, Fault> {
-        read_record(alloc, view, steps)
-    }
-
-    ghost well_made = { refl };
-}
-
-impl ToNode for ImplicitOAuth2Flow {
-    fn to_node(&self, alloc: Global) -> Result<Node, Fault> {
-        write_record(alloc, self)
-    }
-
-    ghost there = { λ x. refl };
 }

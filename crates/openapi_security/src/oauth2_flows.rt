@@ -1,20 +1,14 @@
 //! The OAuth Flows Object.
-ghost use Rattle.std.proofs.Common.{refl};
-ghost use Rattle.std.specs.Prelude.{◌≡◌, ◌+◌, ◌≤◌, ◌*◌, true, false, [], None};
-ghost use Rattle.openapi_tables.specs.Kind.{by, oauth2_flows};
-ghost use Rattle.openapi_tables.proofs.SlotWriting.{final_apart};
-ghost use Rattle.openapi_rows.specs.Forms.{record_form, record_slots};
+ghost use Rattle.std.specs.Prelude.{◌≡◌, [], None};
+ghost use Rattle.openapi_tables.specs.Kind.{oauth2_flows};
 ghost use Rattle.openapi_security.specs.Flows.{oauth2_flows_rows};
 
 use crate::authorization_code_flow::AuthorizationCodeOAuth2Flow;
 use crate::client_credentials_flow::ClientCredentialsOAuth2Flow;
 use crate::implicit_flow::ImplicitOAuth2Flow;
 use crate::password_flow::PasswordOAuth2Flow;
-use openapi_node::{Fault, Node, OrderedMap, Steps, View};
-use openapi_rows::{
-    FromNode, Object, Record, ToNode, extensions, join, optional, put_extensions, put_optional,
-    read_record, write_record,
-};
+use openapi_fields::{Object, Record, extensions, join, optional, put_extensions, put_optional};
+use openapi_node::{Fault, Node, OrderedMap, Steps};
 use std::alloc::Global;
 
 /// The OAuth Flows Object (OpenAPI 3.0.3, section 4.7.28): the flows of OAuth 2 that are supported.
@@ -52,22 +46,18 @@ impl OAuth2Flows {
 }
 
 impl Object for OAuth2Flows {
-    ghost object = { by oauth2_flows };
+    ghost table = { oauth2_flows };
 
-    ghost slots_of = { record_slots oauth2_flows oauth2_flows_rows };
-
-    ghost apart = { λ x. final_apart oauth2_flows (oauth2_flows_rows x) };
+    ghost rows_of = { oauth2_flows_rows };
 }
 
 #[tactic(auto, unfolding(openapi_tables::specs::Tables::final_tables, openapi_tables::specs::Tables::tables_with))]
 impl Record for OAuth2Flows {
-    ghost rows_of = { oauth2_flows_rows };
-
     fn from_members(
         alloc: Global,
         members: &OrderedMap<Node>,
         steps: &mut Steps,
-    ) -> Result<OAuth2Flows, Fault> {
+    ) -> Result<Self, Fault> {
         let implicit = optional::<Self, _>(alloc, members, "implicit", steps);
         let password = optional::<Self, _>(alloc, members, "password", steps);
         let client = optional::<Self, _>(alloc, members, "clientCredentials", steps);
@@ -105,28 +95,4 @@ impl Record for OAuth2Flows {
         )?;
         put_extensions(alloc, self, out, &self.extensions)
     }
-
-    ghost by_table = { refl };
-
-    ghost by_rows = { λ x. refl };
-}
-
-impl FromNode for OAuth2Flows {
-    ghost kind = { by oauth2_flows };
-
-    ghost form_of = { record_form oauth2_flows_rows };
-
-    fn from_view(alloc: Global, view: &View<'_>, steps: &mut Steps) -> Result<OAuth2Flows, Fault> {
-        read_record(alloc, view, steps)
-    }
-
-    ghost well_made = { refl };
-}
-
-impl ToNode for OAuth2Flows {
-    fn to_node(&self, alloc: Global) -> Result<Node, Fault> {
-        write_record(alloc, self)
-    }
-
-    ghost there = { λ x. refl };
 }

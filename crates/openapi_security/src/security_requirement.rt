@@ -2,11 +2,11 @@
 ghost use Rattle.std.specs.Prelude.{◌≡◌, ◌+◌, ◌≤◌, ◌*◌};
 ghost use Rattle.openapi_node.specs.Tree.{size_of};
 ghost use Rattle.openapi_tables.specs.Tables.{security_requirement};
-ghost use Rattle.openapi_rows.specs.Gives.{Gives, Refuses, WrittenAs};
+ghost use Rattle.openapi_fields.specs.Returned.{ReadAs, Refuses, WrittenAs};
 ghost use Rattle.openapi_security.specs.Schemes.{security_requirement_form};
 
+use openapi_fields::{FromNode, ToNode};
 use openapi_node::{Fault, Node, OrderedMap, Steps};
-use openapi_rows::{FromNode, ToNode};
 use std::alloc::Global;
 
 /// The Security Requirement Object (OpenAPI 3.0.3, section 4.7.30): by the name of each security scheme that a call
@@ -19,7 +19,7 @@ pub fn security_requirement_from_node(
     node: &Node,
     steps: &mut Steps,
 ) -> Result<SecurityRequirement, Fault>
-    ensures reads { Gives security_requirement_form result security_requirement node.now }
+    ensures reads { ReadAs security_requirement_form result security_requirement node.now }
     ensures refuses { Refuses result security_requirement node.now }
     ensures rises { steps.old + 1 ≤ steps.new }
     ensures count { steps.new ≤ steps.old + 3 * size_of node.now }

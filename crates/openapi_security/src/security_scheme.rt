@@ -1,16 +1,15 @@
 //! The Security Scheme Object.
 ghost use Rattle.std.proofs.Common.{refl};
-ghost use Rattle.std.specs.Prelude.{◌≡◌, ◌+◌, ◌≤◌, ◌*◌, true, false, [], codes, IfOk, OnOk, IfErr};
+ghost use Rattle.std.specs.Prelude.{◌≡◌, ◌+◌, ◌≤◌, ◌*◌, [], codes, IfOk, OnOk, IfErr};
 ghost use Rattle.openapi_node.specs.Tree.{members_of, size_of};
-ghost use Rattle.openapi_node.specs.View.{shown};
 ghost use Rattle.openapi_tables.specs.ByRow.{rows_weight};
-ghost use Rattle.openapi_tables.specs.Kind.{TableName, by, ref_to};
+ghost use Rattle.openapi_tables.specs.Kind.{by, ref_to};
 ghost use Rattle.openapi_tables.specs.Kind as kinds;
 ghost use Rattle.openapi_tables.specs.Slots.{slots_lost, IsWritten};
 ghost use Rattle.openapi_tables.specs.Tables.{final_tables, security_scheme};
-ghost use Rattle.openapi_rows.specs.Gives.{Gives, GivesRows, Loses, Refuses, WrittenAs};
-ghost use Rattle.openapi_rows.proofs.Spared.{security_scheme_spares};
-ghost use Rattle.openapi_rows.proofs.Tagging.{security_scheme_sound, tagged_apart};
+ghost use Rattle.openapi_fields.specs.Returned.{ReadAs, RowsReadAs, NotWritable, Refuses, RisesBy, WrittenAs};
+ghost use Rattle.openapi_fields.proofs.Spared.{security_scheme_spares};
+ghost use Rattle.openapi_fields.proofs.Tagging.{security_scheme_sound, tagged_apart};
 ghost use Rattle.openapi_values.specs.Reference.{reference_form};
 ghost use Rattle.openapi_security.specs.Schemes.{scheme_types, scheme_cases, scheme_type_word};
 ghost use Rattle.openapi_security.specs.Schemes.{security_scheme_word, security_scheme_rows};
@@ -18,11 +17,11 @@ ghost use Rattle.openapi_security.specs.Schemes.{security_scheme_form, security_
 ghost use Rattle.openapi_security.specs.Schemes.{security_scheme_known};
 
 use crate::oauth2_flows::OAuth2Flows;
-use openapi_node::{Cause, Expected, Fault, Node, OrderedMap, Steps, View};
-use openapi_rows::{
-    FromNode, Object, Referable, ToNode, extensions, optional, put_extensions, put_optional,
-    put_required, put_tag, required, tag,
+use openapi_fields::{
+    FromNode, HasSlots, Object, Referable, ToNode, extensions, optional, put_extensions,
+    put_optional, put_required, put_tag, required, tag,
 };
+use openapi_node::{Cause, Expected, Fault, Node, OrderedMap, Steps, View};
 use openapi_values::{APIKeyLocation, ReferenceOr, Word};
 use std::alloc::Global;
 
@@ -118,44 +117,36 @@ impl Word for SchemeType {
 struct ApiKeyTable;
 
 impl Object for ApiKeyTable {
-    ghost object = { by kinds.api_key_scheme };
+    ghost table = { kinds.api_key_scheme };
 
-    ghost slots_of = { λ x. [] };
-
-    ghost apart = { λ x. refl };
+    ghost rows_of = { λ x. [] };
 }
 
 /// The table of the schemes by HTTP.
 struct HttpTable;
 
 impl Object for HttpTable {
-    ghost object = { by kinds.http_scheme };
+    ghost table = { kinds.http_scheme };
 
-    ghost slots_of = { λ x. [] };
-
-    ghost apart = { λ x. refl };
+    ghost rows_of = { λ x. [] };
 }
 
 /// The table of the schemes by OAuth 2.
 struct OAuth2Table;
 
 impl Object for OAuth2Table {
-    ghost object = { by kinds.oauth2_scheme };
+    ghost table = { kinds.oauth2_scheme };
 
-    ghost slots_of = { λ x. [] };
-
-    ghost apart = { λ x. refl };
+    ghost rows_of = { λ x. [] };
 }
 
 /// The table of the schemes by OpenID Connect.
 struct OpenIdConnectTable;
 
 impl Object for OpenIdConnectTable {
-    ghost object = { by kinds.open_id_connect_scheme };
+    ghost table = { kinds.open_id_connect_scheme };
 
-    ghost slots_of = { λ x. [] };
-
-    ghost apart = { λ x. refl };
+    ghost rows_of = { λ x. [] };
 }
 
 /// Reads a scheme by an API key.
@@ -165,10 +156,10 @@ fn api_key(
     members: &OrderedMap<Node>,
     steps: &mut Steps,
 ) -> Result<SecurityScheme, Fault>
-    ensures reads { GivesRows security_scheme_rows result (by kinds.api_key_scheme) (members_of members.now) }
+    ensures reads { RowsReadAs security_scheme_rows result (by kinds.api_key_scheme) (members_of members.now) }
     ensures word { IfOk result (λ x. security_scheme_word x ≡ codes "apiKey") }
-    ensures rises { steps.old ≤ steps.new }
-    ensures count { steps.new ≤ steps.old + 3 * rows_weight (final_tables kinds.api_key_scheme) (members_of members.now) }
+    ensures count { RisesBy steps.old steps.new
+        (3 * rows_weight (final_tables kinds.api_key_scheme) (members_of members.now)) }
 {
     Ok(SecurityScheme::APIKey {
         location: required::<ApiKeyTable, _>(alloc, members, "in", steps)?,
@@ -185,10 +176,10 @@ fn http(
     members: &OrderedMap<Node>,
     steps: &mut Steps,
 ) -> Result<SecurityScheme, Fault>
-    ensures reads { GivesRows security_scheme_rows result (by kinds.http_scheme) (members_of members.now) }
+    ensures reads { RowsReadAs security_scheme_rows result (by kinds.http_scheme) (members_of members.now) }
     ensures word { IfOk result (λ x. security_scheme_word x ≡ codes "http") }
-    ensures rises { steps.old ≤ steps.new }
-    ensures count { steps.new ≤ steps.old + 3 * rows_weight (final_tables kinds.http_scheme) (members_of members.now) }
+    ensures count { RisesBy steps.old steps.new
+        (3 * rows_weight (final_tables kinds.http_scheme) (members_of members.now)) }
 {
     Ok(SecurityScheme::HTTP {
         scheme: required::<HttpTable, _>(alloc, members, "scheme", steps)?,
@@ -205,10 +196,10 @@ fn oauth2(
     members: &OrderedMap<Node>,
     steps: &mut Steps,
 ) -> Result<SecurityScheme, Fault>
-    ensures reads { GivesRows security_scheme_rows result (by kinds.oauth2_scheme) (members_of members.now) }
+    ensures reads { RowsReadAs security_scheme_rows result (by kinds.oauth2_scheme) (members_of members.now) }
     ensures word { IfOk result (λ x. security_scheme_word x ≡ codes "oauth2") }
-    ensures rises { steps.old ≤ steps.new }
-    ensures count { steps.new ≤ steps.old + 3 * rows_weight (final_tables kinds.oauth2_scheme) (members_of members.now) }
+    ensures count { RisesBy steps.old steps.new
+        (3 * rows_weight (final_tables kinds.oauth2_scheme) (members_of members.now)) }
 {
     Ok(SecurityScheme::OAuth2 {
         flows: required::<OAuth2Table, _>(alloc, members, "flows", steps)?,
@@ -224,10 +215,10 @@ fn open_id_connect(
     members: &OrderedMap<Node>,
     steps: &mut Steps,
 ) -> Result<SecurityScheme, Fault>
-    ensures reads { GivesRows security_scheme_rows result (by kinds.open_id_connect_scheme) (members_of members.now) }
+    ensures reads { RowsReadAs security_scheme_rows result (by kinds.open_id_connect_scheme) (members_of members.now) }
     ensures word { IfOk result (λ x. security_scheme_word x ≡ codes "openIdConnect") }
-    ensures rises { steps.old ≤ steps.new }
-    ensures count { steps.new ≤ steps.old + 3 * rows_weight (final_tables kinds.open_id_connect_scheme) (members_of members.now) }
+    ensures count { RisesBy steps.old steps.new
+        (3 * rows_weight (final_tables kinds.open_id_connect_scheme) (members_of members.now)) }
 {
     Ok(SecurityScheme::OpenIDConnect {
         open_id_connect_url: required::<OpenIdConnectTable, _>(
@@ -266,7 +257,7 @@ impl FromNode for SecurityScheme {
     ghost well_made = { security_scheme_sound };
 }
 
-impl Object for SecurityScheme {
+impl HasSlots for SecurityScheme {
     ghost object = { security_scheme };
 
     ghost slots_of = { security_scheme_slots };
@@ -284,7 +275,7 @@ fn put_scheme(
 ) -> Result<(), Fault>
     requires { IsWritten final_tables [] out.old }
     ensures ok { OnOk result (IsWritten final_tables (security_scheme_slots value.now) out.new) }
-    ensures err { IfErr result (λ f. Loses f (slots_lost final_tables (security_scheme_slots value.now))) }
+    ensures err { IfErr result (λ f. NotWritable f (slots_lost final_tables (security_scheme_slots value.now))) }
 {
     match value {
         SecurityScheme::APIKey {
@@ -357,7 +348,7 @@ pub fn security_scheme_ref_from_node(
     node: &Node,
     steps: &mut Steps,
 ) -> Result<ReferenceOr<SecurityScheme>, Fault>
-    ensures reads { Gives (reference_form security_scheme_form) result (ref_to security_scheme) node.now }
+    ensures reads { ReadAs (reference_form security_scheme_form) result (ref_to security_scheme) node.now }
     ensures refuses { Refuses result (ref_to security_scheme) node.now }
     ensures rises { steps.old + 1 ≤ steps.new }
     ensures count { steps.new ≤ steps.old + 3 * size_of node.now }

@@ -21,7 +21,7 @@ use Rattle.openapi_tables.specs.Members.{is_null, own, plain, rows_of, checked_r
 use Rattle.openapi_tables.specs.Conforms.{root_conforms, row_holds, name_holds, conforms, may_miss, skips_null}
 use Rattle.openapi_tables.specs.Form.{Form, fields, forms_of, leaf}
 use Rattle.openapi_tables.specs.Read.{root_form, slot, name_slot, form, default_of}
-use Rattle.openapi_tables.specs.Sound.{rows_apart, row_sound, mode_fits, refuses_null, never_misses, sound}
+use Rattle.openapi_tables.specs.Sound.{rows_apart, row_sound, refuses_null, never_misses, sound}
 use Rattle.openapi_tables.specs.Sound.{tables_sound, schema_rows}
 use Rattle.openapi_tables.specs.Faults.{Asking, Cause, missing, Asks, asked, causes, here, root_asks, below, asks_own}
 use Rattle.openapi_tables.specs.Faults.{asks_row, asks_rows, misses, row_misses}
@@ -291,14 +291,6 @@ asked_sound T W (tagged n cs) = tt
 asked_sound T W (ref_to k) = tt
 asked_sound T W flag_or_schema = tt
 asked_sound T W status_code = tt
-
--- a row that has to be there takes no null
-pub required_refuses : (T : Tables) (W : tables_sound T ≡ true) (o : Kind) (n : List ℕ) (k : Kind)
-    → row_where (is_named n) (rows_asked T o) ≡ Some (row n required k) → refuses_null k ≡ true
-required_refuses T W o n k e =
-    let s : row_sound T (row n required k) ≡ true =
-    where_each (λ w. row_sound T w ≡ true) (is_named n) (rows_asked T o) (row n required k) (asked_sound T W o) e in
-    (and_parts (mode_fits required k) (sound T k) s).0
 
 -- a row that has to be there is one of a table, and the object misses it
 schema_misses_none : (T : Tables) (q : Row → Bool) (n : List ℕ) (k : Kind) (ws : List Row)

@@ -1,6 +1,6 @@
 -- A code is read again from its text, and what is read as a code can be written.
 use Rattle.std.proofs.Common.{ℕ, Bool, true, false, not, cond, ◌&&◌, ◌||◌, ◌≤◌, ◌+◌, ◌-◌, ◌*◌, nat_le, List, [], ◌∷◌}
-use Rattle.std.proofs.Common.{Option, Some, None, ◌≡◌, refl, sym, ap, ◌∙◌, subst, arith, eqb-true, leb-true, le-leb}
+use Rattle.std.proofs.Common.{Option, Some, None, ◌≡◌, refl, ap, subst, arith, eqb-true, leb-true, le-leb}
 use Rattle.std.proofs.lemmas.Bool.{agree_below, agree_below_at, and_parts, and_from}
 use Rattle.openapi_tables.specs.Kind.{Code, code, range, code_of, text_of, writable_code, is_digit, is_x}
 use Rattle.openapi_tables.specs.Read.{same_code}
@@ -49,10 +49,6 @@ code_of-text_of (range n) h =
     let b : n ≤ 9 = leb-true n 9 h in
     is_again_eq (range n) (code_of (text_of (range n)))
     (agree_below_at range_again (λ x. true) 10 n every_range (omega arith))
-
-pub distinct_texts : (c d : Code) → writable_code c ≡ true → writable_code d ≡ true → text_of c ≡ text_of d → c ≡ d
-distinct_texts c d h g e =
-    let p : Some c ≡ Some d = sym (code_of-text_of c h) ∙ ap code_of e ∙ code_of-text_of d g in cc
 
 writable_of : (b1 b2 : Bool) (x y c : Code) → (b1 ≡ true → writable_code x ≡ true)
     → (b2 ≡ true → writable_code y ≡ true) → cond b1 (Some x) (cond b2 (Some y) None) ≡ Some c → writable_code c ≡ true

@@ -1,7 +1,7 @@
 //! Values that are built, and not read: what they are written as, and the names that are not written.
 
 use crate::extended::{Extended, with_extension};
-use openapi_checks::trees::{check_tree, check_written, map_with};
+use openapi_test_support::trees::{check_tree, check_written, map_with};
 use openapiv3::{
     Components, Content, Encoding, ExternalDocumentation, FromNode, MediaType, ObjectType, OpenAPI,
     Operation, OrderedMap, PathItem, ReferenceOr, Schema, SchemaData, SchemaKind, SchemaType,

@@ -1,7 +1,7 @@
 //! Extensions, whose names each writer looks at: a name that would not be read as one again is not written.
 
 use crate::built::check_built;
-use openapi_checks::trees::map_with;
+use openapi_test_support::trees::map_with;
 use openapiv3::{
     AnySchema, Callback, Components, Encoding, ExternalDocumentation, Node, Operation, OrderedMap,
     Parameter, ParameterData, ParameterSchemaOrContent, PathItem, PathStyle, Paths, Response,

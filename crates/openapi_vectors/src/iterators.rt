@@ -1,6 +1,6 @@
 //! What the iterators over path items and paths give.
 
-use openapi_checks::trees::{check_same, tree};
+use openapi_test_support::trees::{check_same, tree};
 use openapiv3::{FromNode, Node, Operation, PathItem, Paths, ReferenceOr, Steps};
 use std::alloc::{AllocError, Global};
 use std::test::Fail;

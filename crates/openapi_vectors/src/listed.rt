@@ -1,6 +1,6 @@
 //! The operations of documents, which an iterator gives path by path.
 
-use openapi_checks::trees::{check_same, tree};
+use openapi_test_support::trees::{check_same, tree};
 use openapiv3::{FromNode, Node, OpenAPI, Steps};
 use std::test::Fail;
 

@@ -3,7 +3,7 @@
 use crate::built::check_built;
 use crate::extended::with_extension;
 use indexmap::IndexMap;
-use openapi_checks::trees::map_with;
+use openapi_test_support::trees::map_with;
 use openapiv3::{
     Callback, OpenAPI, Operation, OrderedMap, PathItem, Paths, ReferenceOr, Response, Responses,
     StatusCode,

@@ -1,7 +1,7 @@
 //! Parameters that were read, matched on.
 
 use crate::read::{Tells, check_told, read_value};
-use openapi_checks::trees::check_written;
+use openapi_test_support::trees::check_written;
 use openapiv3::{Fault, FromNode, Node, Parameter, ParameterSchemaOrContent, ToNode, Word};
 use std::alloc::Global;
 use std::test::Fail;

@@ -1,7 +1,7 @@
 //! Values as text for programmers.
 
 use crate::read::read_value;
-use openapi_checks::trees::check_same;
+use openapi_test_support::trees::check_same;
 use openapiv3::{
     AdditionalProperties, BooleanType, FromNode, ObjectType, Parameter, ReferenceOr, RequestBody,
     Response, Responses, SchemaKind, SchemaType, StringType,

@@ -1,6 +1,6 @@
 //! Callbacks and responses that were read, matched on and counted.
 
-use openapi_checks::trees::{check_same, tree};
+use openapi_test_support::trees::{check_same, tree};
 use openapiv3::{Callback, FromNode, Operation, ReferenceOr, Response, Responses, Steps};
 use std::alloc::Global;
 use std::test::Fail;

@@ -1,6 +1,6 @@
 //! What the example of the README does.
 use crate::readme::{read_schema, undeclared};
-use openapi_checks::trees::check_same;
+use openapi_test_support::trees::check_same;
 use openapiv3::{Schema, Steps};
 use std::test::Fail;
 

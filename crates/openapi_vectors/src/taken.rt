@@ -2,7 +2,7 @@
 
 use crate::built::document_of_schema;
 use crate::extended::with_extension;
-use openapi_checks::trees::check_written;
+use openapi_test_support::trees::check_written;
 use openapiv3::{IntoNode, OpenAPI, Schema, Tag};
 use std::test::Fail;
 

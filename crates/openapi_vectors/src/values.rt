@@ -1,6 +1,6 @@
 //! Status codes and references, as users name them at the root.
 
-use openapi_checks::trees::write_refusal;
+use openapi_test_support::trees::write_refusal;
 use openapiv3::StatusCode::{Code, Range};
 use openapiv3::{Example, ReferenceOr, StatusCode};
 use std::test::Fail;

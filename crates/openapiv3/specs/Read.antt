@@ -4,7 +4,7 @@ use Rattle.openapi_json.specs.Reading as texts
 use Rattle.openapi_node.specs.Tree.{Tree, size_of}
 use Rattle.openapi_tables.specs.Form.{Form}
 use Rattle.openapi_tables.specs.Kind.{Kind}
-use Rattle.openapi_rows.specs.Gives.{Fails, Reads, RefusesBy}
+use Rattle.openapi_fields.specs.Returned.{Fails, Reads, RefusesBy}
 use Rattle.openapiv3.specs.declared.read.ReadError.{ReadError}
 use Rattle.openapiv3.specs.declared.read.ReadError.TheVariants.{Json, Refused}
 

@@ -2,9 +2,9 @@
 ghost use Rattle.std.specs.Prelude.{◌≡◌, IfOk, IfErr};
 ghost use Rattle.openapiv3.specs.Read.{Explains, IsReadOf};
 
+use openapi_fields::FromNode;
 use openapi_json::{JsonFault, node_from_json};
 use openapi_node::{Fault, Steps};
-use openapi_rows::FromNode;
 use std::alloc::Global;
 use thiserror::Error;
 

@@ -1,12 +1,12 @@
-use Rattle.std.proofs.Common.{◌≡◌, [], ◌++◌, ◌∷◌, map, string_bytes, refl, sym, ap, ◌∙◌}
+use Rattle.std.proofs.Common.{◌≡◌, [], ◌++◌, ◌∷◌, map, string_bytes, sym, ap, ◌∙◌}
 use Rattle.std.proofs.Common.{arith, append_assoc, append-nil}
 use Rattle.std.proofs.lemmas.List.{nil_from_length}
 use Rattle.std.specs.Vec.Iter.{into_iter_items}
-use Rattle.serde_json.specs.View.{view, members_view}
+use Rattle.serde_json.specs.View.{view}
 use Rattle.serde_json.specs.View.{items_of as view_items_of}
 use Rattle.openapi_node.specs.Json.{data_of}
 use Rattle.openapi_node.specs.Pairs.{pair_view, pair_data}
-use Rattle.openapi_node.proofs.JsonLemmas.{items_data-items_of, push_made, member_written}
+use Rattle.openapi_node.proofs.JsonLemmas.{items_data-items_of, push_made}
 use Rattle.openapi_node.proofs.PairLemmas.{members_of_pairs}
 use Rattle.openapi_node.proofs.TreeLemmas.{item_after, member_after}
 use Rattle.openapi_node.proofs.write_value.+turn.Goals as goal
@@ -59,47 +59,6 @@ turn_items-returns-clause-ok t c =
     let all : c.args.items.items ≡ l.done = l.split ∙ ap (λ ts. l.done ++ ts) none ∙ append-nil l.done in
     ap view_items_of (l.written ∙ ap (λ ts. map data_of ts) (sym all)) ∙ items_data-items_of c.args.items.items
 
-pub turn_members-turn_node-requires : goal.turn_members-turn_node-requires
-turn_members-turn_node-requires t c =
-    let l = c.loop-name.invariant in
-    let split = l.split ∙ ap (λ ms. l.done ++ ms) c.in-Some.ensures.steps in
-    let after = member_after c.args.members l.done (string_bytes c.in-Some.name, c.in-Some.member) c.next.new.self split
-    in
-    (omega (arith, after.within, c.decreases), tt)
-
-pub turn_members-returns-in_err-turn_node-clause-bound : goal.turn_members-returns-in_err-turn_node-clause-bound
-turn_members-returns-in_err-turn_node-clause-bound t c =
-    let l = c.loop-name.invariant in
-    let split = l.split ∙ ap (λ ms. l.done ++ ms) c.in-Some.ensures.steps in
-    let after = member_after c.args.members l.done (string_bytes c.in-Some.name, c.in-Some.member) c.next.new.self split
-    in
-    omega (arith, after.within, c.in_err-turn_node.ensures.bound, l.counted)
-
-pub turn_members-returns-in_err-insert-clause-bound : goal.turn_members-returns-in_err-insert-clause-bound
-turn_members-returns-in_err-insert-clause-bound t c =
-    let l = c.loop-name.invariant in
-    let split = l.split ∙ ap (λ ms. l.done ++ ms) c.in-Some.ensures.steps in
-    let after = member_after c.args.members l.done (string_bytes c.in-Some.name, c.in-Some.member) c.next.new.self split
-    in
-    omega (arith, after.within, c.in_ok-turn_node.ensures.bound, l.counted)
-
-pub turn_members-loop-name-preserved : goal.turn_members-loop-name-preserved
-turn_members-loop-name-preserved t c =
-    let l = c.loop-name.invariant in
-    let name = string_bytes c.in-Some.name in
-    let member = c.in-Some.member in
-    let more = c.next.new.self in
-    let split = l.split ∙ ap (λ ms. l.done ++ ms) c.in-Some.ensures.steps in
-    let after = member_after c.args.members l.done (name, member) more split in
-    record {
-      done = l.done ++ (name, member) ∷ [];
-      split = split ∙ sym (append_assoc l.done ((name, member) ∷ []) more);
-      written = ap members_view c.in_ok-insert.ensures.entries
-          ∙ member_written c.loop-name.values.entries (c.in-Some.name, c.in_ok-turn_node.field-0) l.done (name, member)
-          l.written refl c.in_ok-turn_node.ensures.ok;
-      counted = omega (arith, after.adds name, c.in_ok-turn_node.ensures.counted, l.counted);
-    }
-
 pub turn_pairs-turn_node-requires : goal.turn_pairs-turn_node-requires
 turn_pairs-turn_node-requires t c =
     let l = c.loop-name.invariant in
@@ -141,7 +100,7 @@ turn_pairs-loop-name-preserved t c =
       counted = omega (arith, after.adds name, c.in_ok-turn_node.ensures.counted, l.counted);
     }
 
-pub turn_members-returns-then-len-gt-PUT_LIMIT-clause-ok : goal.turn_members-returns-then-len-gt-PUT_LIMIT-clause-ok
-turn_members-returns-then-len-gt-PUT_LIMIT-clause-ok t c =
+pub turn_members-returns-clause-ok : goal.turn_members-returns-clause-ok
+turn_members-returns-clause-ok t c =
     let pairs = c.in_ok-turn_pairs in
     members_of_pairs c.map_of.result pairs.field-0.items c.args.members pairs.ensures.ok c.map_of.ensures

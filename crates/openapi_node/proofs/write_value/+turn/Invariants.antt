@@ -1,8 +1,7 @@
 use Rattle.std.proofs.Common.{◌≡◌, ◌+◌, ◌*◌, ℕ, List, ◌++◌, map}
 use Rattle.std.specs.Vec.Iter.{into_iter_items}
-use Rattle.serde_json.specs.Data.{no_members}
-use Rattle.serde_json.specs.View.{view, members_view}
-use Rattle.openapi_node.specs.Json.{data_of, members_data}
+use Rattle.serde_json.specs.View.{view}
+use Rattle.openapi_node.specs.Json.{data_of}
 use Rattle.openapi_node.specs.Pairs.{pair_view, pair_data}
 use Rattle.openapi_node.specs.Tree.{Tree, size_of, items_size, members_size, items_of, members_of}
 use Rattle.openapi_node.proofs.write_value.+turn.Given as goal
@@ -27,15 +26,6 @@ invariant-turn_items-loop-item l =
       split : l.fn.items.items ≡ done ++ into_iter_items l.item-iterator;
       written : map view l.values.items ≡ map data_of done;
       counted : l.steps ≡ l.initial.steps + items_size (items_of done);
-    }
-
-abbrev pub invariant-turn_members-loop-name : goal.invariant-turn_members-loop-name
-invariant-turn_members-loop-name l =
-    record {
-      done : List (List ℕ × Tree);
-      split : l.fn.members ≡ done ++ l.name-iterator;
-      written : members_view l.values.entries ≡ members_data (members_of done) no_members;
-      counted : l.steps ≡ l.initial.steps + members_size (members_of done);
     }
 
 abbrev pub invariant-turn_pairs-loop-name : goal.invariant-turn_pairs-loop-name

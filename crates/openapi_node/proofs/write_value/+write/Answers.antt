@@ -1,13 +1,11 @@
 use Rattle.std.proofs.Common.{take, get_or, map, sym, ap, ◌∙◌, arith}
 use Rattle.std.proofs.lemmas.List.{take_more, take_all}
-use Rattle.serde_json.specs.View.{view, members_view}
-use Rattle.openapi_node.specs.Json.{data_of, members_data}
-use Rattle.openapi_node.specs.Tree.{members_of}
+use Rattle.serde_json.specs.View.{view}
+use Rattle.openapi_node.specs.Json.{data_of}
 use Rattle.openapi_node.specs.Pairs.{pair_view, pair_data}
-use Rattle.openapi_node.proofs.JsonLemmas.{items_data-items_of, push_made, member_written}
+use Rattle.openapi_node.proofs.JsonLemmas.{items_data-items_of, push_made}
 use Rattle.openapi_node.proofs.PairLemmas.{members_of_pairs}
 use Rattle.openapi_node.proofs.TreeLemmas.{next_item, next_member, members_size-take, take_next}
-use Rattle.serde_json.specs.Data.{no_members}
 use Rattle.serde_json.specs.View.{items_of as view_items_of}
 use Rattle.openapi_node.proofs.write_value.+write.Goals as goal
 
@@ -42,44 +40,6 @@ write_items-loop-item-preserved t c =
           (c.in_ok-write_node.ensures.ok ∙ ap data_of c.item-item.is)
           ∙ sym (ap (λ ts. map data_of ts) (take_more items i item c.loop-item-test.true));
       counted = omega (arith, next.adds, c.in_ok-write_node.ensures.counted, c.loop-item.invariant.counted);
-    }
-
-pub write_members-returns-in_err-name-clause-bound : goal.write_members-returns-in_err-name-clause-bound
-write_members-returns-in_err-name-clause-bound t c =
-    omega (arith, members_size-take c.args.members.now c.loop-i.i, c.loop-i.invariant.counted)
-
-pub write_members-write_node-requires : goal.write_members-write_node-requires
-write_members-write_node-requires t c =
-    let next = next_member c.args.members.now c.loop-i.i (c.entry_at.result.0.now, c.entry_at.result.1.now)
-    c.entry_at.ensures in
-    (omega (arith, next.within, c.decreases), tt)
-
-pub write_members-returns-in_err-write_node-clause-bound : goal.write_members-returns-in_err-write_node-clause-bound
-write_members-returns-in_err-write_node-clause-bound t c =
-    let next = next_member c.args.members.now c.loop-i.i (c.entry_at.result.0.now, c.entry_at.result.1.now)
-    c.entry_at.ensures in
-    omega (arith, next.within, c.in_err-write_node.ensures.bound, c.loop-i.invariant.counted)
-
-pub write_members-returns-in_err-insert-clause-bound : goal.write_members-returns-in_err-insert-clause-bound
-write_members-returns-in_err-insert-clause-bound t c =
-    let next = next_member c.args.members.now c.loop-i.i (c.entry_at.result.0.now, c.entry_at.result.1.now)
-    c.entry_at.ensures in
-    omega (arith, next.within, c.in_ok-write_node.ensures.bound, c.loop-i.invariant.counted)
-
-pub write_members-loop-i-preserved : goal.write_members-loop-i-preserved
-write_members-loop-i-preserved t c =
-    let members = c.args.members.now in
-    let i = c.loop-i.i in
-    let name = c.entry_at.result.0.now in
-    let member = c.entry_at.result.1.now in
-    let next = next_member members i (name, member) c.entry_at.ensures in
-    record {
-      written = ap members_view c.in_ok-insert.ensures.entries
-          ∙ member_written c.loop-i.values.entries (c.in_ok-name.name, c.in_ok-write_node.field-0) (take i members)
-          (name, member) c.loop-i.invariant.written c.in_ok-name.ensures.ok c.in_ok-write_node.ensures.ok
-          ∙ sym (ap (λ ms. members_data (members_of ms) no_members)
-          (take_next members i (name, member) c.entry_at.ensures));
-      counted = omega (arith, next.adds, c.in_ok-write_node.ensures.counted, c.loop-i.invariant.counted);
     }
 
 pub write_items-returns-clause-ok : goal.write_items-returns-clause-ok
@@ -127,7 +87,7 @@ write_pairs-loop-i-preserved t c =
       counted = omega (arith, next.adds, c.in_ok-write_node.ensures.counted, c.loop-i.invariant.counted);
     }
 
-pub write_members-returns-then-len-gt-PUT_LIMIT-clause-ok : goal.write_members-returns-then-len-gt-PUT_LIMIT-clause-ok
-write_members-returns-then-len-gt-PUT_LIMIT-clause-ok t c =
+pub write_members-returns-clause-ok : goal.write_members-returns-clause-ok
+write_members-returns-clause-ok t c =
     let pairs = c.in_ok-write_pairs in
     members_of_pairs c.map_of.result pairs.field-0.items c.args.members.now pairs.ensures.ok c.map_of.ensures

@@ -1,7 +1,6 @@
 use Rattle.std.proofs.Common.{◌≡◌, ◌+◌, ◌*◌, take, map}
-use Rattle.serde_json.specs.Data.{no_members}
-use Rattle.serde_json.specs.View.{view, members_view}
-use Rattle.openapi_node.specs.Json.{data_of, members_data}
+use Rattle.serde_json.specs.View.{view}
+use Rattle.openapi_node.specs.Json.{data_of}
 use Rattle.openapi_node.specs.Pairs.{pair_view, pair_data}
 use Rattle.openapi_node.specs.Tree.{size_of, items_size, members_size, items_of, members_of}
 use Rattle.openapi_node.proofs.write_value.+write.Given as goal
@@ -24,13 +23,6 @@ invariant-write_items-loop-item l =
     record {
       written : map view l.values.items ≡ map data_of (take l.item-index l.items);
       counted : l.steps ≡ l.initial.steps + items_size (items_of (take l.item-index l.items));
-    }
-
-abbrev pub invariant-write_members-loop-i : goal.invariant-write_members-loop-i
-invariant-write_members-loop-i l =
-    record {
-      written : members_view l.values.entries ≡ members_data (members_of (take l.i l.members)) no_members;
-      counted : l.steps ≡ l.initial.steps + members_size (members_of (take l.i l.members));
     }
 
 abbrev pub invariant-write_pairs-loop-i : goal.invariant-write_pairs-loop-i

@@ -1,34 +1,25 @@
-use Rattle.std.proofs.Common.{◌≡◌, ◌∙◌, Ok, Err, Some, not, codes, None, refl, rules, sym, ap, subst, arith, string_bytes}
+use Rattle.std.proofs.Common.{◌≡◌, ◌∙◌, Ok, Err, Some, not, None, refl, rules, sym, ap, subst, arith, codes, string_bytes}
 use Rattle.std.proofs.lemmas.List.{take_all}
-use Rattle.openapi_node.specs.Tree.{members_of, members_size, size_of}
+use Rattle.openapi_node.specs.Tree.{members_of, size_of}
 use Rattle.openapi_node.specs.View.{shown}
 use Rattle.openapi_node.proofs.TreeLemmas.{next_member}
 use Rattle.openapi_tables.specs.ByRow.{AreRows, RowGives, is_named, row_where, rows_asked}
-use Rattle.openapi_tables.specs.Kind.{any_tree, by, callback_names, callback_object, in_class, listed, map_of, operation, optional, path_item, row}
+use Rattle.openapi_tables.specs.Kind.{any_tree, by, callback_names, callback_object, in_class, operation, optional, path_item, row}
 use Rattle.openapi_tables.specs.Tables.{callback_ref, final_tables, tables_with}
-use Rattle.openapi_tables.proofs.ByRowLaws.{weight-found}
 use Rattle.openapi_values.specs.Reference.{reference_form}
-use Rattle.openapi_rows.specs.Entries.{chosen, entries_size}
-use Rattle.openapi_rows.specs.Forms.{map_form, optional_form}
-use Rattle.openapi_rows.specs.Gives.{Gives}
-use Rattle.openapi_rows.proofs.Below.{memory_fails}
-use Rattle.openapi_rows.proofs.Chosen.{next_size, next_skipped, next_within}
-use Rattle.openapi_rows.proofs.Classed.{class_count, class_gives}
-use Rattle.openapi_rows.proofs.Records.{record_weight}
-use Rattle.openapi_rows.proofs.Referring.{fails_item, reads_item, reads_reference}
-use Rattle.openapi_rows.proofs.RowReading.{weight_of_name}
-use Rattle.openapi_knots.proofs.EntryReading.{
-  AreRead,
-  all_read,
-  entry_refused,
-  listed_read,
-  name_unread,
-  none_listed,
-  none_read,
-  one_read,
-}
-use Rattle.openapi_knots.proofs.PresentRows.{row_gone, row_read}
-use Rattle.openapi_operations.specs.OperationForms.{callback_form, operation_form, path_item_form}
+use Rattle.openapi_fields.specs.Entries.{chosen, entries_size}
+use Rattle.openapi_fields.specs.Forms.{optional_form}
+use Rattle.openapi_fields.specs.Returned.{ReadAs}
+use Rattle.openapi_fields.proofs.Below.{memory_fails}
+use Rattle.openapi_fields.proofs.Referring.{reads_reference}
+use Rattle.openapi_fields.proofs.Chosen.{next_size, next_skipped, next_within}
+use Rattle.openapi_fields.proofs.Classed.{class_count, class_gives}
+use Rattle.openapi_fields.proofs.RowReading.{weight_of_name}
+use Rattle.openapi_fields.proofs.RecursiveReading.{all_so_far, map_at, next_refused, next_so_far, no_map, no_map_at, none_so_far, object_read}
+use Rattle.openapi_fields.proofs.EntryReading.{name_unread}
+use Rattle.openapi_fields.proofs.PresentRows.{row_gone, row_read}
+use Rattle.openapi_operations.specs.OperationForms.{callback_form, callback_rows, operation_form, operation_rows, path_item_form, path_item_rows}
+use Rattle.openapi_operations.specs.Fields.{callback_fields, operation_fields, path_item_fields}
 use Rattle.openapi_operations.proofs.ClassReading.{
   AreTaken,
   all_taken,
@@ -39,30 +30,49 @@ use Rattle.openapi_operations.proofs.ClassReading.{
   one_taken,
 }
 use Rattle.openapi_operations.proofs.Opened.{
-  callback_given,
+  callback_same,
   callback_read,
-  operation_given,
-  path_item_given,
+  operation_same,
+  path_item_same,
 }
-use Rattle.openapi_operations.proofs.PartRows.{methods_read, operation_weight, path_item_weight}
+use Rattle.openapi_operations.proofs.PartRows.{methods_read, path_item_weight}
 use Rattle.openapi_operations.proofs.read.+read.Goals as goal
+
+pub read_path_item-returns-in-Ok : goal.read_path_item-returns-in-Ok
+read_path_item-returns-in-Ok t c =
+    object_read path_item_fields path_item_rows path_item_same path_item c.path_item_of.result (members_of c.in-Ok.members.now) (shown c.args.view.now) _ _
+    c.in-Ok.ensures c.path_item_of.ensures
+
+pub read_operation-returns-in-Ok : goal.read_operation-returns-in-Ok
+read_operation-returns-in-Ok t c =
+    object_read operation_fields operation_rows operation_same operation c.operation_of.result (members_of c.in-Ok.members.now) (shown c.args.view.now) _ _
+    c.in-Ok.ensures c.operation_of.ensures
+
+pub read_callback-returns-in-Ok : goal.read_callback-returns-in-Ok
+read_callback-returns-in-Ok t c =
+    object_read callback_fields callback_rows callback_same callback_object c.callback_of.result (members_of c.in-Ok.members.now) (shown c.args.view.now) _ _
+    c.in-Ok.ensures c.callback_of.ensures
+
+pub callbacks_of-loop-i-init : goal.callbacks_of-loop-i-init
+callbacks_of-loop-i-init t c = none_so_far (reference_form callback_form) callback_ref c.args.members.now c.args.steps.now c.new-values.result c.new-values.ensures
+
+pub callbacks_of-returns-in-Err : goal.callbacks_of-returns-in-Err
+callbacks_of-returns-in-Err t c =
+    next_refused (reference_form callback_form) callback_ref c.args.members.now c.args.steps.now c.loop-i.i c.put_read.new.values c.read_callback_ref.result c.put_read.result
+    c.entry_at.ensures c.loop-i.invariant c.open-entry.ensures c.read_callback_ref.ensures.reads c.read_callback_ref.ensures.count c.put_read.ensures c.in-Err.fault c.in-Err.is
+
+pub callbacks_of-loop-i-preserved : goal.callbacks_of-loop-i-preserved
+callbacks_of-loop-i-preserved t c =
+    next_so_far (reference_form callback_form) callback_ref c.args.members.now c.args.steps.now c.loop-i.i c.put_read.new.values c.read_callback_ref.result c.put_read.result
+    c.entry_at.ensures c.loop-i.invariant c.open-entry.ensures c.read_callback_ref.ensures.reads c.read_callback_ref.ensures.count c.put_read.ensures c.in-Ok.is
+
+pub callbacks_of-returns : goal.callbacks_of-returns
+callbacks_of-returns t c =
+    all_so_far (reference_form callback_form) callback_ref c.args.members.now c.args.steps.now c.loop-i.i c.loop-i.values c.loop-i.steps (omega arith)
+    c.loop-i.invariant
 
 pub read_path_item-path_item_of-requires : goal.read_path_item-path_item_of-requires
 read_path_item-path_item_of-requires t c = (omega (arith, ap size_of c.in-Ok.ensures, c.decreases), tt)
-
-pub read_path_item-returns-in-Ok-clause-reads : goal.read_path_item-returns-in-Ok-clause-reads
-read_path_item-returns-in-Ok-clause-reads t c =
-    path_item_given c.path_item_of.result (members_of c.in-Ok.members.now) (shown c.args.view.now) c.in-Ok.ensures
-    c.path_item_of.ensures.reads
-
-pub read_path_item-returns-in-Ok-clause-count : goal.read_path_item-returns-in-Ok-clause-count
-read_path_item-returns-in-Ok-clause-count t c =
-    omega (
-      arith,
-      ap size_of c.in-Ok.ensures,
-      record_weight (by path_item) (members_of c.in-Ok.members.now) refl,
-      c.path_item_of.ensures.count,
-    )
 
 pub read_path_item-returns-in-Err-clause-reads : goal.read_path_item-returns-in-Err-clause-reads
 read_path_item-returns-in-Err-clause-reads t c = c.in-Err.ensures (by path_item) refl
@@ -70,75 +80,14 @@ read_path_item-returns-in-Err-clause-reads t c = c.in-Err.ensures (by path_item)
 pub read_operation-operation_of-requires : goal.read_operation-operation_of-requires
 read_operation-operation_of-requires t c = (omega (arith, ap size_of c.in-Ok.ensures, c.decreases), tt)
 
-pub read_operation-returns-in-Ok-clause-reads : goal.read_operation-returns-in-Ok-clause-reads
-read_operation-returns-in-Ok-clause-reads t c =
-    operation_given c.operation_of.result (members_of c.in-Ok.members.now) (shown c.args.view.now) c.in-Ok.ensures
-    c.operation_of.ensures.reads
-
-pub read_operation-returns-in-Ok-clause-count : goal.read_operation-returns-in-Ok-clause-count
-read_operation-returns-in-Ok-clause-count t c =
-    omega (
-      arith,
-      ap size_of c.in-Ok.ensures,
-      record_weight (by operation) (members_of c.in-Ok.members.now) refl,
-      c.operation_of.ensures.count,
-    )
-
 pub read_operation-returns-in-Err-clause-reads : goal.read_operation-returns-in-Err-clause-reads
 read_operation-returns-in-Err-clause-reads t c = c.in-Err.ensures (by operation) refl
 
 pub read_callback-callback_of-requires : goal.read_callback-callback_of-requires
 read_callback-callback_of-requires t c = (omega (arith, ap size_of c.in-Ok.ensures, c.decreases), tt)
 
-pub read_callback-returns-in-Ok-clause-reads : goal.read_callback-returns-in-Ok-clause-reads
-read_callback-returns-in-Ok-clause-reads t c =
-    callback_given c.callback_of.result (members_of c.in-Ok.members.now) (shown c.args.view.now) c.in-Ok.ensures
-    c.callback_of.ensures.reads
-
-pub read_callback-returns-in-Ok-clause-count : goal.read_callback-returns-in-Ok-clause-count
-read_callback-returns-in-Ok-clause-count t c =
-    omega (
-      arith,
-      ap size_of c.in-Ok.ensures,
-      record_weight (by callback_object) (members_of c.in-Ok.members.now) refl,
-      c.callback_of.ensures.count,
-    )
-
 pub read_callback-returns-in-Err-clause-reads : goal.read_callback-returns-in-Err-clause-reads
 read_callback-returns-in-Err-clause-reads t c = c.in-Err.ensures (by callback_object) refl
-
-pub read_callback_ref-returns-in-Some-clause-reads : goal.read_callback_ref-returns-in-Some-clause-reads
-read_callback_ref-returns-in-Some-clause-reads t c =
-    reads_reference (by callback_object) callback_form (shown c.args.view.now) (string_bytes c.in-Some.reference)
-    (sym (rw c.in-Some.is at c.in-Ok.ensures.reads))
-
-pub read_callback_ref-returns-in-Ok-read_callback-clause-reads : goal.read_callback_ref-returns-in-Ok-read_callback-clause-reads
-read_callback_ref-returns-in-Ok-read_callback-clause-reads t c =
-    reads_item (by callback_object) callback_form (shown c.args.view.now) c.in-Ok-read_callback.callback
-    (sym (rw c.in-None.is at c.in-Ok.ensures.reads)) c.in-Ok-read_callback.ensures.reads
-
-pub read_callback_ref-returns-in-Err-read_callback-clause-reads : goal.read_callback_ref-returns-in-Err-read_callback-clause-reads
-read_callback_ref-returns-in-Err-read_callback-clause-reads t c =
-    fails_item (by callback_object) callback_form (shown c.args.view.now) c.in-Err-read_callback.fault
-    (sym (rw c.in-None.is at c.in-Ok.ensures.reads)) c.in-Err-read_callback.ensures.reads
-
-pub read_callback_ref-returns-in-Err-clause-reads : goal.read_callback_ref-returns-in-Err-clause-reads
-read_callback_ref-returns-in-Err-clause-reads t c =
-    memory_fails c.in-Err.fault callback_ref (shown c.args.view.now) c.in-Err.ensures.err
-
-pub callbacks_in-callbacks_of-requires : goal.callbacks_in-callbacks_of-requires
-callbacks_in-callbacks_of-requires t c = (omega (arith, ap size_of c.in-Ok.ensures, c.decreases), tt)
-
-pub callbacks_in-returns-in-Ok-clause-reads : goal.callbacks_in-returns-in-Ok-clause-reads
-callbacks_in-returns-in-Ok-clause-reads t c =
-    subst (λ u. Gives (map_form (reference_form callback_form)) c.callbacks_of.result (map_of callback_ref) u)
-    (sym c.in-Ok.ensures) c.callbacks_of.ensures.reads
-
-pub callbacks_in-returns-in-Ok-clause-count : goal.callbacks_in-returns-in-Ok-clause-count
-callbacks_in-returns-in-Ok-clause-count t c = omega (arith, ap size_of c.in-Ok.ensures, c.callbacks_of.ensures.count)
-
-pub callbacks_in-returns-in-Err-clause-reads : goal.callbacks_in-returns-in-Err-clause-reads
-callbacks_in-returns-in-Err-clause-reads t c = c.in-Err.ensures (map_of callback_ref) refl
 
 pub callbacks_of-read_callback_ref-requires : goal.callbacks_of-read_callback_ref-requires
 callbacks_of-read_callback_ref-requires t c =
@@ -150,117 +99,6 @@ pub callbacks_of-put_read-requires : goal.callbacks_of-put_read-requires
 callbacks_of-put_read-requires t c =
     name_unread (reference_form callback_form) callback_ref c.args.members.now c.loop-i.i c.entry_at.result.0.now
     c.entry_at.result.1.now c.entry_at.ensures c.loop-i.values c.len-i-end.ensures.distinct c.loop-i.invariant.read
-
-pub callbacks_of-loop-i-init : goal.callbacks_of-loop-i-init
-callbacks_of-loop-i-init t c =
-    record {
-      read = none_read (reference_form callback_form) callback_ref c.new-values.result c.new-values.ensures;
-      rises = omega arith;
-      counted = omega arith;
-    }
-
-pub callbacks_of-returns-in-Err-clause-reads : goal.callbacks_of-returns-in-Err-clause-reads
-callbacks_of-returns-in-Err-clause-reads t c =
-    let u = c.entry_at.result.1.now in
-    let given = subst (λ v. Gives (reference_form callback_form) c.read_callback_ref.result callback_ref v)
-    c.open-entry.ensures.shown c.read_callback_ref.ensures.reads in
-    entry_refused (reference_form callback_form) callback_ref c.args.members.now c.loop-i.i c.entry_at.result.0.now u
-    c.entry_at.ensures c.loop-i.values c.in-Err.fault c.put_read.new.values
-    (rw c.in-Err.is at (c.put_read.ensures (reference_form callback_form) callback_ref u given))
-
-pub callbacks_of-returns-in-Err-clause-rises : goal.callbacks_of-returns-in-Err-clause-rises
-callbacks_of-returns-in-Err-clause-rises t c =
-    omega (arith, c.open-entry.ensures.counted, c.read_callback_ref.ensures.rises, c.loop-i.invariant.rises)
-
-pub callbacks_of-returns-in-Err-clause-count : goal.callbacks_of-returns-in-Err-clause-count
-callbacks_of-returns-in-Err-clause-count t c =
-    let next = next_member c.args.members.now c.loop-i.i (c.entry_at.result.0.now, c.entry_at.result.1.now)
-    c.entry_at.ensures in
-    omega (
-      arith,
-      next.within,
-      ap size_of c.open-entry.ensures.shown,
-      c.open-entry.ensures.counted,
-      c.read_callback_ref.ensures.count,
-      c.loop-i.invariant.counted,
-    )
-
-pub callbacks_of-loop-i-preserved : goal.callbacks_of-loop-i-preserved
-callbacks_of-loop-i-preserved t c =
-    let ms = c.args.members.now in
-    let n = c.entry_at.result.0.now in
-    let u = c.entry_at.result.1.now in
-    let given = subst (λ v. Gives (reference_form callback_form) c.read_callback_ref.result callback_ref v)
-    c.open-entry.ensures.shown c.read_callback_ref.ensures.reads in
-    let next = next_member ms c.loop-i.i (n, u) c.entry_at.ensures in
-    record {
-      read = one_read (reference_form callback_form) callback_ref ms c.loop-i.i n u c.entry_at.ensures c.loop-i.values
-          c.put_read.new.values c.loop-i.invariant.read
-          (rw c.in-Ok.is at (c.put_read.ensures (reference_form callback_form) callback_ref u given));
-      rises = omega (
-        arith,
-        c.open-entry.ensures.counted,
-        c.read_callback_ref.ensures.rises,
-        c.loop-i.invariant.rises,
-      );
-      counted = omega (
-        arith,
-        next.adds,
-        ap size_of c.open-entry.ensures.shown,
-        c.open-entry.ensures.counted,
-        c.read_callback_ref.ensures.count,
-        c.loop-i.invariant.counted,
-      );
-    }
-
-pub callbacks_of-returns-clause-reads : goal.callbacks_of-returns-clause-reads
-callbacks_of-returns-clause-reads t c =
-    let ms = c.args.members.now in
-    let all = take_all c.loop-i.i ms (omega arith) in
-    all_read (reference_form callback_form) callback_ref ms c.loop-i.values
-    (subst (λ es. AreRead (reference_form callback_form) callback_ref es c.loop-i.values) all c.loop-i.invariant.read)
-
-pub callbacks_of-returns-clause-count : goal.callbacks_of-returns-clause-count
-callbacks_of-returns-clause-count t c =
-    let all = take_all c.loop-i.i c.args.members.now (omega arith) in
-    omega (arith, ap (λ es. members_size (members_of es)) all, c.loop-i.invariant.counted)
-
-pub read_callbacks-callbacks_in-requires : goal.read_callbacks-callbacks_in-requires
-read_callbacks-callbacks_in-requires t c = (
-  omega (
-    arith,
-    ap size_of c.open-entries.ensures.shown,
-    c.in-Some.ensures.smaller,
-    c.decreases,
-  ),
-  tt,
-)
-
-pub read_callbacks-returns-in-None-clause-reads : goal.read_callbacks-returns-in-None-clause-reads
-unfolding final_tables tables_with
-read_callbacks-returns-in-None-clause-reads t c =
-    none_listed (reference_form callback_form) (by operation) (codes "callbacks") callback_ref
-    (members_of c.args.members.now) refl c.new.result (sym c.in-None.ensures.found) c.new.ensures
-
-pub read_callbacks-returns-in-Some-clause-reads : goal.read_callbacks-returns-in-Some-clause-reads
-unfolding final_tables tables_with
-read_callbacks-returns-in-Some-clause-reads t c =
-    listed_read (reference_form callback_form) (by operation) (codes "callbacks") callback_ref
-    (members_of c.args.members.now) refl c.in-Some.node.now (sym c.in-Some.ensures.found) c.callbacks_in.result
-    c.at_name.result c.at_name.ensures
-    (subst (λ t. Gives (map_form (reference_form callback_form)) c.callbacks_in.result (map_of callback_ref) t)
-    c.open-entries.ensures.shown c.callbacks_in.ensures.reads)
-
-pub read_callbacks-returns-in-Some-clause-count : goal.read_callbacks-returns-in-Some-clause-count
-read_callbacks-returns-in-Some-clause-count t c =
-    omega (
-      arith,
-      ap size_of c.open-entries.ensures.shown,
-      c.open-entries.ensures.counted,
-      c.callbacks_in.ensures.count,
-      weight-found final_tables (codes "callbacks") listed (map_of callback_ref) (members_of c.args.members.now)
-          c.in-Some.node.now (sym c.in-Some.ensures.found),
-    )
 
 pub read_method-read_operation-requires : goal.read_method-read_operation-requires
 read_method-read_operation-requires t c = (omega (arith, c.in-Some.ensures.within, c.requires), tt)
@@ -276,12 +114,14 @@ read_method-returns-in-None-clause-reads t c =
     at c.in-None.ensures.is)
 
 pub read_method-returns-in-None-clause-count : goal.read_method-returns-in-None-clause-count
-read_method-returns-in-None-clause-count t c =
-    omega (
-      arith,
-      c.in-None.ensures.counted,
-      weight_of_name c.args.method.now optional optional (by operation) any_tree (members_of c.args.members.now),
-    )
+read_method-returns-in-None-clause-count t c = (
+  omega (arith, c.in-None.ensures.counted),
+  omega (
+    arith,
+    c.in-None.ensures.counted,
+    weight_of_name c.args.method.now optional optional (by operation) any_tree (members_of c.args.members.now),
+  ),
+)
 
 pub read_method-returns-in-Ok-clause-reads : goal.read_method-returns-in-Ok-clause-reads
 read_method-returns-in-Ok-clause-reads t c =
@@ -300,24 +140,28 @@ read_method-returns-in-Err-clause-reads t c =
     c.in-Some.ensures.is c.as_member.ensures c.read_operation.ensures.reads)
 
 pub read_method-returns-in-Ok-clause-count : goal.read_method-returns-in-Ok-clause-count
-read_method-returns-in-Ok-clause-count t c =
-    omega (
-      arith,
-      c.in-Some.ensures.counted,
-      c.in-Some.ensures.weighs,
-      c.read_operation.ensures.count,
-      weight_of_name c.args.method.now optional optional (by operation) any_tree (members_of c.args.members.now),
-    )
+read_method-returns-in-Ok-clause-count t c = (
+  omega (arith, c.read_operation.ensures.count.0, c.in-Some.ensures.counted),
+  omega (
+    arith,
+    c.in-Some.ensures.counted,
+    c.in-Some.ensures.weighs,
+    c.read_operation.ensures.count.1,
+    weight_of_name c.args.method.now optional optional (by operation) any_tree (members_of c.args.members.now),
+  ),
+)
 
 pub read_method-returns-in-Err-clause-count : goal.read_method-returns-in-Err-clause-count
-read_method-returns-in-Err-clause-count t c =
-    omega (
-      arith,
-      c.in-Some.ensures.counted,
-      c.in-Some.ensures.weighs,
-      c.read_operation.ensures.count,
-      weight_of_name c.args.method.now optional optional (by operation) any_tree (members_of c.args.members.now),
-    )
+read_method-returns-in-Err-clause-count t c = (
+  omega (arith, c.read_operation.ensures.count.0, c.in-Some.ensures.counted),
+  omega (
+    arith,
+    c.in-Some.ensures.counted,
+    c.in-Some.ensures.weighs,
+    c.read_operation.ensures.count.1,
+    weight_of_name c.args.method.now optional optional (by operation) any_tree (members_of c.args.members.now),
+  ),
+)
 
 pub read_methods-returns-clause-reads : goal.read_methods-returns-clause-reads
 read_methods-returns-clause-reads t c =
@@ -368,7 +212,7 @@ read_requests-returns-in-Err-clause-reads t c =
     let n = c.entry_at.result.0.now in
     let u = c.entry_at.result.1.now in
     let yes = ap not (sym c.contains.ensures ∙ c.if-contains.false) in
-    let given = subst (λ v. Gives path_item_form c.read_path_item.result (by path_item) v)
+    let given = subst (λ v. ReadAs path_item_form c.read_path_item.result (by path_item) v)
     c.open-entry.ensures.shown c.read_path_item.ensures.reads in
     class_gives callback_names (by path_item) (in_class callback_names) (λ m. refl) (λ m. refl) path_item_form
     (Err c.in-Err.fault) (by callback_object) ms refl
@@ -376,23 +220,21 @@ read_requests-returns-in-Err-clause-reads t c =
     c.loop-i.values yes c.in-Err.fault c.put_read.new.values
     (rw c.in-Err.is at (c.put_read.ensures path_item_form (by path_item) u given)))
 
-pub read_requests-returns-in-Err-clause-rises : goal.read_requests-returns-in-Err-clause-rises
-read_requests-returns-in-Err-clause-rises t c =
-    omega (arith, c.open-entry.ensures.counted, c.read_path_item.ensures.rises, c.loop-i.invariant.rises)
-
 pub read_requests-returns-in-Err-clause-count : goal.read_requests-returns-in-Err-clause-count
 read_requests-returns-in-Err-clause-count t c =
     let ms = c.args.members.now in
-    let yes = ap not (sym c.contains.ensures ∙ c.if-contains.false) in
-    omega (
-      arith,
-      next_within (in_class callback_names) ms c.loop-i.i c.entry_at.result.0.now c.entry_at.result.1.now
-          c.entry_at.ensures yes,
-      class_count callback_names (by path_item) (in_class callback_names) (λ m. refl) (λ m. refl) path_item_form ms,
-      ap size_of c.open-entry.ensures.shown,
-      c.open-entry.ensures.counted,
-      c.read_path_item.ensures.count,
-      c.loop-i.invariant.counted,
+    let yes = ap not (sym c.contains.ensures ∙ c.if-contains.false) in (
+      omega (arith, c.open-entry.ensures.counted, c.read_path_item.ensures.count.0, c.loop-i.invariant.rises),
+      omega (
+        arith,
+        next_within (in_class callback_names) ms c.loop-i.i c.entry_at.result.0.now c.entry_at.result.1.now
+            c.entry_at.ensures yes,
+        class_count callback_names (by path_item) (in_class callback_names) (λ m. refl) (λ m. refl) path_item_form ms,
+        ap size_of c.open-entry.ensures.shown,
+        c.open-entry.ensures.counted,
+        c.read_path_item.ensures.count.1,
+        c.loop-i.invariant.counted,
+      ),
     )
 
 pub read_requests-loop-i-preserved : goal.read_requests-loop-i-preserved
@@ -401,7 +243,7 @@ read_requests-loop-i-preserved t c =
     let n = c.entry_at.result.0.now in
     let u = c.entry_at.result.1.now in
     let yes = ap not (sym c.contains.ensures ∙ c.if-contains.false) in
-    let given = subst (λ v. Gives path_item_form c.read_path_item.result (by path_item) v)
+    let given = subst (λ v. ReadAs path_item_form c.read_path_item.result (by path_item) v)
     c.open-entry.ensures.shown c.read_path_item.ensures.reads in
     record {
       read = one_taken (in_class callback_names) path_item_form (by path_item) ms c.loop-i.i n u c.entry_at.ensures
@@ -410,7 +252,7 @@ read_requests-loop-i-preserved t c =
       rises = omega (
         arith,
         c.open-entry.ensures.counted,
-        c.read_path_item.ensures.rises,
+        c.read_path_item.ensures.count.0,
         c.loop-i.invariant.rises,
       );
       counted = omega (
@@ -418,7 +260,7 @@ read_requests-loop-i-preserved t c =
         next_size (in_class callback_names) ms c.loop-i.i n u c.entry_at.ensures yes,
         ap size_of c.open-entry.ensures.shown,
         c.open-entry.ensures.counted,
-        c.read_path_item.ensures.count,
+        c.read_path_item.ensures.count.1,
         c.loop-i.invariant.counted,
       );
     }
@@ -437,7 +279,7 @@ read_requests-returns-clause-reads t c =
 pub read_requests-returns-clause-count : goal.read_requests-returns-clause-count
 read_requests-returns-clause-count t c =
     let ms = c.args.members.now in
-    let all = take_all c.loop-i.i ms (omega arith) in
+    let all = take_all c.loop-i.i ms ((omega arith, omega arith)) in
     omega (
       arith,
       ap (λ es. entries_size (chosen (in_class callback_names) es)) all,
@@ -465,80 +307,57 @@ operation_of-returns-clause-reads t c =
     (texts.0, (texts.1.0, (texts.1.1.0, (settings.0, (texts.1.1.1.0, (messages.0, (messages.1.0, (messages.1.1.0, (c.in_ok-callbacks.ensures.reads, (texts.1.1.1.1.0, (settings.1.0, (settings.1.1.0, (c.in_ok-extensions.ensures.reads, tt)))))))))))))
 
 pub path_item_of-returns-in-Ok-clause-count : goal.path_item_of-returns-in-Ok-clause-count
-path_item_of-returns-in-Ok-clause-count t c =
-    omega (
-      arith,
-      path_item_weight (members_of c.args.members.now),
-      c.path_item_with.ensures.count,
-      c.read_methods.ensures.count,
-    )
+path_item_of-returns-in-Ok-clause-count t c = (
+  omega (arith, c.path_item_with.ensures.count.0, c.read_methods.ensures.count.0),
+  omega (
+    arith,
+    path_item_weight (members_of c.args.members.now),
+    c.path_item_with.ensures.count.1,
+    c.read_methods.ensures.count.1,
+  ),
+)
 
 pub path_item_of-returns-in-Err-clause-count : goal.path_item_of-returns-in-Err-clause-count
-path_item_of-returns-in-Err-clause-count t c =
-    omega (
-      arith,
-      path_item_weight (members_of c.args.members.now),
-      c.read_methods.ensures.count,
-    )
+path_item_of-returns-in-Err-clause-count t c = (
+  omega (arith, c.read_methods.ensures.count.0),
+  omega (
+    arith,
+    path_item_weight (members_of c.args.members.now),
+    c.read_methods.ensures.count.1,
+  ),
+)
 
-pub operation_of-returns-in_err-texts-clause-count : goal.operation_of-returns-in_err-texts-clause-count
-operation_of-returns-in_err-texts-clause-count t c =
-    omega (
-      arith,
-      operation_weight (members_of c.args.members.now),
-      c.in_err-texts.ensures.count,
-    )
+pub read_callback_ref-returns-in-Ok-Some-clause-reads : goal.read_callback_ref-returns-in-Ok-Some-clause-reads
+read_callback_ref-returns-in-Ok-Some-clause-reads t c =
+    reads_reference (by callback_object) callback_form (shown c.args.view.now) (string_bytes c.in-Ok-Some.reference)
+    (sym (rw c.in-Ok-Some.field-0-is at c.in-Ok-Some.ensures.reads))
 
-pub operation_of-returns-in_err-settings-clause-count : goal.operation_of-returns-in_err-settings-clause-count
-operation_of-returns-in_err-settings-clause-count t c =
-    omega (
-      arith,
-      operation_weight (members_of c.args.members.now),
-      c.in_ok-texts.ensures.count,
-      c.in_err-settings.ensures.count,
-    )
+pub read_callback_ref-returns-in-Ok-None-clause-reads : goal.read_callback_ref-returns-in-Ok-None-clause-reads
+read_callback_ref-returns-in-Ok-None-clause-reads t c =
+    c.as_item.ensures callback_form (by callback_object) (shown c.args.view.now) (sym (rw c.in-Ok-None.field-0-is at c.in-Ok-None.ensures.reads))
+    c.read_callback.ensures.reads
 
-pub operation_of-returns-in_err-callbacks-clause-count : goal.operation_of-returns-in_err-callbacks-clause-count
-operation_of-returns-in_err-callbacks-clause-count t c =
-    omega (
-      arith,
-      operation_weight (members_of c.args.members.now),
-      c.in_ok-texts.ensures.count,
-      c.in_ok-settings.ensures.count,
-      c.in_err-callbacks.ensures.count,
-    )
+pub read_callback_ref-returns-in-Err-clause-reads : goal.read_callback_ref-returns-in-Err-clause-reads
+read_callback_ref-returns-in-Err-clause-reads t c = memory_fails c.in-Err.fault callback_ref (shown c.args.view.now) c.in-Err.ensures.err
 
-pub operation_of-returns-in_err-extensions-clause-count : goal.operation_of-returns-in_err-extensions-clause-count
-operation_of-returns-in_err-extensions-clause-count t c =
-    omega (
-      arith,
-      operation_weight (members_of c.args.members.now),
-      c.in_ok-texts.ensures.count,
-      c.in_ok-settings.ensures.count,
-      c.in_ok-callbacks.ensures.count,
-      c.in_err-extensions.ensures.count,
-    )
+pub read_callbacks-callbacks_of-requires : goal.read_callbacks-callbacks_of-requires
+read_callbacks-callbacks_of-requires t c =
+    let there = rw c.in-Ok-Some.field-0-is at c.in-Ok-Some.ensures in
+    (omega (arith, there.within, c.decreases), tt)
 
-pub operation_of-returns-in_err-messages-clause-count : goal.operation_of-returns-in_err-messages-clause-count
-operation_of-returns-in_err-messages-clause-count t c =
-    omega (
-      arith,
-      operation_weight (members_of c.args.members.now),
-      c.in_ok-texts.ensures.count,
-      c.in_ok-settings.ensures.count,
-      c.in_ok-callbacks.ensures.count,
-      c.in_ok-extensions.ensures.count,
-      c.in_err-messages.ensures.count,
-    )
+pub read_callbacks-returns-in-Ok-None : goal.read_callbacks-returns-in-Ok-None
+unfolding final_tables tables_with
+read_callbacks-returns-in-Ok-None t c =
+    no_map (reference_form callback_form) (by operation) (codes "callbacks") callback_ref (members_of c.args.members.now) refl c.new.result _ _ c.new.ensures
+    (rw c.in-Ok-None.field-0-is at c.in-Ok-None.ensures)
 
-pub operation_of-returns-clause-count : goal.operation_of-returns-clause-count
-operation_of-returns-clause-count t c =
-    omega (
-      arith,
-      operation_weight (members_of c.args.members.now),
-      c.in_ok-texts.ensures.count,
-      c.in_ok-settings.ensures.count,
-      c.in_ok-callbacks.ensures.count,
-      c.in_ok-extensions.ensures.count,
-      c.in_ok-messages.ensures.count,
-    )
+pub read_callbacks-returns-in-Ok-Some : goal.read_callbacks-returns-in-Ok-Some
+unfolding final_tables tables_with
+read_callbacks-returns-in-Ok-Some t c =
+    map_at (reference_form callback_form) (by operation) (codes "callbacks") callback_ref (members_of c.args.members.now) refl c.callbacks_of.result c.at_name.result
+    (rw c.in-Ok-Some.field-0-is at c.in-Ok-Some.ensures) c.at_name.ensures c.callbacks_of.ensures
+
+pub read_callbacks-returns-in-Err : goal.read_callbacks-returns-in-Err
+unfolding final_tables tables_with
+read_callbacks-returns-in-Err t c =
+    no_map_at (reference_form callback_form) (by operation) (codes "callbacks") callback_ref (members_of c.args.members.now) refl c.in-Err.fault _ _ c.in-Err.ensures

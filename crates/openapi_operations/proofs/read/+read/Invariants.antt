@@ -4,8 +4,8 @@ use Rattle.openapi_node.specs.View.{shown}
 use Rattle.openapi_tables.specs.Kind.{by, callback_names, in_class, path_item}
 use Rattle.openapi_tables.specs.Tables.{callback_ref}
 use Rattle.openapi_values.specs.Reference.{reference_form}
-use Rattle.openapi_rows.specs.Entries.{chosen, entries_size}
-use Rattle.openapi_knots.proofs.EntryReading.{AreRead}
+use Rattle.openapi_fields.specs.Entries.{chosen, entries_size}
+use Rattle.openapi_fields.proofs.RecursiveReading.{SoFar}
 use Rattle.openapi_operations.specs.OperationForms.{callback_form, path_item_form}
 use Rattle.openapi_operations.proofs.ClassReading.{AreTaken}
 use Rattle.openapi_operations.proofs.read.+read.Given as goal
@@ -32,9 +32,6 @@ decreases-operation_of l = 8 * members_size (members_of l.members.now) + 5
 abbrev pub decreases-read_callbacks : goal.decreases-read_callbacks
 decreases-read_callbacks l = 8 * members_size (members_of l.members.now) + 4
 
-abbrev pub decreases-callbacks_in : goal.decreases-callbacks_in
-decreases-callbacks_in l = 8 * size_of (shown l.view.now) + 2
-
 abbrev pub decreases-callbacks_of : goal.decreases-callbacks_of
 decreases-callbacks_of l = 8 * members_size (members_of l.members.now) + 2
 
@@ -51,13 +48,7 @@ abbrev pub decreases-read_requests : goal.decreases-read_requests
 decreases-read_requests l = 8 * members_size (members_of l.members.now) + 4
 
 abbrev pub invariant-callbacks_of-loop-i : goal.invariant-callbacks_of-loop-i
-invariant-callbacks_of-loop-i l =
-    let done = take l.i l.members in
-    record {
-      read : AreRead (reference_form callback_form) callback_ref done l.values;
-      rises : l.initial.steps ≤ l.steps;
-      counted : l.steps ≤ l.initial.steps + 3 * members_size (members_of done);
-    }
+invariant-callbacks_of-loop-i l = SoFar (reference_form callback_form) callback_ref l.members l.initial.steps l.i l.values l.steps
 
 abbrev pub invariant-read_requests-loop-i : goal.invariant-read_requests-loop-i
 invariant-read_requests-loop-i l =

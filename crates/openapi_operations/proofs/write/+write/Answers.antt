@@ -7,21 +7,44 @@ use Rattle.openapi_tables.specs.Form.{fields, forms_of}
 use Rattle.openapi_tables.specs.Members.{plain}
 use Rattle.openapi_tables.proofs.SlotWriting.{none_written}
 use Rattle.openapi_values.specs.Reference.{reference_form}
-use Rattle.openapi_rows.specs.Entries.{all_whole, written_entries}
-use Rattle.openapi_rows.specs.Forms.{optional_form}
-use Rattle.openapi_rows.specs.Gives.{WrittenAs}
-use Rattle.openapi_rows.proofs.Classed.{class_loses, class_written}
-use Rattle.openapi_rows.proofs.Losing.{none_mapped}
-use Rattle.openapi_rows.proofs.Mapped.{map_loses, map_written}
-use Rattle.openapi_rows.proofs.Written.{entry_loses, name_loses, next_absent, next_named, next_whole, next_written}
-use Rattle.openapi_knots.specs.Reading.{any_name}
-use Rattle.openapi_knots.specs.Writing.{GivesWritten}
-use Rattle.openapi_knots.proofs.FormSizes.{rows_size, value_smaller}
+use Rattle.openapi_fields.specs.Entries.{all_whole, written_entries}
+use Rattle.openapi_fields.specs.Forms.{optional_form}
+use Rattle.openapi_fields.specs.Returned.{WrittenAs}
+use Rattle.openapi_fields.proofs.RecursiveWriting.{all_put, next_lost, next_put, unwritten}
+use Rattle.openapi_fields.proofs.Classed.{class_loses, class_written}
+use Rattle.openapi_fields.proofs.Losing.{none_mapped}
+use Rattle.openapi_fields.proofs.Written.{entry_loses, name_loses, next_absent, next_named, next_whole, next_written}
+use Rattle.openapi_fields.specs.Writing.{MemberWrittenAs}
+use Rattle.openapi_fields.proofs.FormSizes.{rows_size, value_smaller}
 use Rattle.openapi_operations.specs.Fields.{callback_fields, callback_slots, operation_fields, path_item_fields}
 use Rattle.openapi_operations.specs.OperationForms.{callback_form, operation_form, path_item_form}
 use Rattle.openapi_operations.specs.declared.callback.Callback.{out-Callback}
 use Rattle.openapi_operations.proofs.Opened.{callback_rows-out, operation_rows-out, path_item_rows-out}
 use Rattle.openapi_operations.proofs.write.+write.Goals as goal
+
+pub write_callbacks-put_written-requires : goal.write_callbacks-put_written-requires
+write_callbacks-put_written-requires t c =
+    unwritten (reference_form callback_form) callback_ref c.args.values.now c.loop-i.i c.loop-i.out c.entry_at.ensures c.loop-i.invariant
+    c.len-i-end.ensures.distinct
+
+pub write_callbacks-returns-in-Err : goal.write_callbacks-returns-in-Err
+write_callbacks-returns-in-Err t c =
+    next_lost (reference_form callback_form) callback_ref c.args.values.now c.loop-i.i c.loop-i.out c.entry_at.ensures c.loop-i.invariant c.put_written.new.out
+    c.write_callback_ref.result c.put_written.result c.write_callback_ref.ensures c.put_written.ensures c.in-Err.fault c.in-Err.is
+
+pub write_callbacks-loop-i-preserved : goal.write_callbacks-loop-i-preserved
+write_callbacks-loop-i-preserved t c =
+    next_put (reference_form callback_form) callback_ref c.args.values.now c.loop-i.i c.loop-i.out c.entry_at.ensures c.loop-i.invariant c.put_written.new.out
+    c.write_callback_ref.result c.put_written.result c.write_callback_ref.ensures c.put_written.ensures c.in-Ok.is
+
+pub write_callbacks-returns : goal.write_callbacks-returns
+write_callbacks-returns t c =
+    let whole = all_put (reference_form callback_form) callback_ref c.args.values.now c.loop-i.i c.loop-i.out c.object.result (omega arith) c.loop-i.invariant
+    c.object.ensures in (
+      sym (none_mapped (reference_form callback_form) c.is_empty.result c.args.values.now c.is_empty.ensures) ∙ c.if-is_empty.false,
+      whole.0,
+      whole.1,
+    )
 
 pub write_path_item-path_item_members-requires : goal.write_path_item-path_item_members-requires
 write_path_item-path_item_members-requires t c =
@@ -62,7 +85,7 @@ operation_members-put_before_callbacks-requires t c = none_written final_tables 
 
 pub write_method-returns-in-Some : goal.write_method-returns-in-Some
 write_method-returns-in-Some t c =
-    subst (λ o. GivesWritten optional (by operation) (optional_form operation_form o) c.as_some.result)
+    subst (λ o. MemberWrittenAs optional (by operation) (optional_form operation_form o) c.as_some.result)
     (sym c.in-Some.is)
     (c.as_some.ensures optional (by operation) (operation_form c.in-Some.operation) refl c.write_operation.ensures)
 
@@ -72,51 +95,10 @@ write_callbacks-write_callback_ref-requires t c =
     c.entry_at.result.1.now c.entry_at.ensures in
     (omega (arith, smaller, c.decreases), tt)
 
-pub write_callbacks-put_written-requires : goal.write_callbacks-put_written-requires
-write_callbacks-put_written-requires t c =
-    next_absent (reference_form callback_form) callback_ref c.args.values.now c.loop-i.i c.entry_at.result.0.now
-    c.entry_at.result.1.now c.entry_at.ensures [] c.loop-i.out refl c.len-i-end.ensures.distinct
-    c.loop-i.invariant.written
-
-pub write_callbacks-returns-in-Err : goal.write_callbacks-returns-in-Err
-write_callbacks-returns-in-Err t c =
-    let view = reference_form callback_form in
-    let x = c.entry_at.result.1.now in
-    let f = c.in-Err.fault in
-    let put = c.put_written.ensures callback_ref (view x) c.write_callback_ref.ensures in
-    map_loses view callback_ref c.args.values.now f
-    (entry_loses view callback_ref c.args.values.now c.loop-i.i c.entry_at.result.0.now x c.entry_at.ensures any_name f
-    (rw c.in-Err.is at put))
-
-pub write_callbacks-loop-i-preserved : goal.write_callbacks-loop-i-preserved
-write_callbacks-loop-i-preserved t c =
-    let view = reference_form callback_form in
-    let vs = c.args.values.now in
-    let n = c.entry_at.result.0.now in
-    let x = c.entry_at.result.1.now in
-    let put = rw c.in-Ok.is at (c.put_written.ensures callback_ref (view x) c.write_callback_ref.ensures) in
-    record {
-      written = next_written view callback_ref vs c.loop-i.i n x c.entry_at.ensures [] c.loop-i.out
-          c.put_written.new.out c.loop-i.invariant.written put.0;
-      whole = next_whole view callback_ref vs c.loop-i.i n x c.entry_at.ensures c.loop-i.invariant.whole put.1;
-    }
-
 pub write_callbacks-returns-then-is_empty : goal.write_callbacks-returns-then-is_empty
 write_callbacks-returns-then-is_empty t c =
     sym (none_mapped (reference_form callback_form) c.is_empty.result c.args.values.now c.is_empty.ensures)
     ∙ c.if-is_empty.true
-
-pub write_callbacks-returns : goal.write_callbacks-returns
-write_callbacks-returns t c =
-    let view = reference_form callback_form in
-    let all = take_all c.loop-i.i c.args.values.now (omega arith) in
-    let whole = map_written view callback_ref c.args.values.now c.loop-i.out c.object.result
-    (c.loop-i.invariant.written ∙ ap (written_entries view callback_ref) all)
-    (sym (ap (all_whole view callback_ref) all) ∙ c.loop-i.invariant.whole) c.object.ensures in (
-      sym (none_mapped view c.is_empty.result c.args.values.now c.is_empty.ensures) ∙ c.if-is_empty.false,
-      whole.0,
-      whole.1,
-    )
 
 pub request_members-write_path_item-requires : goal.request_members-write_path_item-requires
 request_members-write_path_item-requires t c =

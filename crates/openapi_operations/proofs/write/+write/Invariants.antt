@@ -3,9 +3,10 @@ use Rattle.openapi_tables.specs.Kind.{by, callback_names, in_class, path_item}
 use Rattle.openapi_tables.specs.Lists.{every}
 use Rattle.openapi_tables.specs.Tables.{callback_ref}
 use Rattle.openapi_values.specs.Reference.{reference_form}
-use Rattle.openapi_rows.specs.Entries.{all_whole, written_entries}
-use Rattle.openapi_rows.specs.Forms.{map_form, optional_form}
-use Rattle.openapi_knots.proofs.FormSizes.{form_size, rows_size}
+use Rattle.openapi_fields.proofs.RecursiveWriting.{WrittenSoFar}
+use Rattle.openapi_fields.specs.Entries.{all_whole, written_entries}
+use Rattle.openapi_fields.specs.Forms.{map_form, optional_form}
+use Rattle.openapi_fields.proofs.FormSizes.{form_size, rows_size}
 use Rattle.openapi_operations.specs.Fields.{callback_fields, operation_fields, path_item_fields}
 use Rattle.openapi_operations.specs.OperationForms.{callback_form, operation_form, path_item_form}
 use Rattle.openapi_operations.specs.declared.callback.Callback.{out-Callback}
@@ -46,12 +47,7 @@ abbrev pub decreases-request_members : goal.decreases-request_members
 decreases-request_members l = 8 * rows_size (callback_fields l.callback.now) + 3
 
 abbrev pub invariant-write_callbacks-loop-i : goal.invariant-write_callbacks-loop-i
-invariant-write_callbacks-loop-i l =
-    let done = take l.i l.values in
-    record {
-      written : l.out ≡ written_entries (reference_form callback_form) callback_ref done;
-      whole : all_whole (reference_form callback_form) callback_ref done ≡ true;
-    }
+invariant-write_callbacks-loop-i l = WrittenSoFar (reference_form callback_form) callback_ref l.values l.i l.out
 
 abbrev pub invariant-request_members-loop-i : goal.invariant-request_members-loop-i
 invariant-request_members-loop-i l =

@@ -3,7 +3,7 @@ use Rattle.std.proofs.lemmas.Result.{err_from_is_err_and}
 use Rattle.openapi_node.specs.Tree.{members_of}
 use Rattle.openapi_tables.specs.Kind.{query_parameter}
 use Rattle.openapi_tables.specs.Tables.{final_tables, tables_with}
-use Rattle.openapi_rows.specs.Forms.{flag_form, optional_form}
+use Rattle.openapi_fields.specs.Forms.{flag_form, optional_form}
 use Rattle.openapi_values.specs.Words.{word_form, query_style_word}
 use Rattle.openapi_parameters.proofs.SharedRows.{data_fails, data_reads}
 use Rattle.openapi_parameters.proofs.read.read_query.Goals as goal

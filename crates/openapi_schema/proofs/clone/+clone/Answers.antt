@@ -5,16 +5,16 @@ use Rattle.openapi_tables.specs.Form.{absent, leaf}
 use Rattle.openapi_tables.specs.Lists.{each, join}
 use Rattle.openapi_tables.specs.Members.{string_sort, number_sort, integer_sort, boolean_sort, object_sort}
 use Rattle.openapi_tables.specs.Members.{one_of_sort, all_of_sort, any_of_sort, any_sort}
-use Rattle.openapi_rows.specs.Forms.{text_form, flag_form, number_form, size_form, optional_form, list_form}
+use Rattle.openapi_fields.specs.Forms.{text_form, flag_form, number_form, size_form, optional_form, list_form}
 use Rattle.openapi_schema.specs.KindNames.{any_last_rows}
 use Rattle.openapi_schema.specs.Reading.{ref_form, inner_box_form}
 use Rattle.openapi_schema.specs.SchemaForms.{Sorted, schema_kind_rows, schema_type_rows}
 use Rattle.openapi_schema.specs.declared.any_schema.AnySchema.{out-AnySchema}
 use Rattle.openapi_schema.specs.declared.composite_types.ObjectType.{out-ObjectType}
 use Rattle.openapi_schema.specs.declared.schema.Schema.{out-Schema}
-use Rattle.openapi_knots.proofs.CloneForms.{IsSame, IsTextClone, get-absent, list-clone, pairs-next, text-clone}
+use Rattle.openapi_fields.proofs.CloneForms.{IsSame, IsTextClone, get-absent, list-clone, pairs-next, text-clone}
 use Rattle.openapi_schema.proofs.CombinedForms.{one_of_rows-kind, all_of_rows-kind, any_of_rows-kind}
-use Rattle.openapi_knots.proofs.FormSizes.{element_smaller, rows_size, value_smaller}
+use Rattle.openapi_fields.proofs.FormSizes.{element_smaller, rows_size, value_smaller}
 use Rattle.openapi_schema.proofs.KindForms.{any_rows-kind, object_rows-roll}
 use Rattle.openapi_schema.proofs.OpenedForms.{any_rows-out, object_rows-out, object_rows-type, schema-same}
 use Rattle.openapi_schema.proofs.OpenedForms.{string_rows-type, number_rows-type, integer_rows-type, boolean_rows-type}

@@ -1,11 +1,11 @@
 use Rattle.std.proofs.Common.{◌≡◌, ◌+◌, ◌*◌, take}
 use Rattle.openapi_tables.specs.Lists.{each}
 use Rattle.openapi_tables.specs.Slots.{pairs_of}
-use Rattle.openapi_rows.specs.Forms.{list_form, map_form, optional_form}
+use Rattle.openapi_fields.specs.Forms.{list_form, map_form, optional_form}
 use Rattle.openapi_schema.specs.Fields.{any_fields, array_fields, object_fields}
 use Rattle.openapi_schema.specs.Reading.{ref_form, inner_box_form, outer_box_form}
 use Rattle.openapi_schema.specs.SchemaForms.{additional_form, schema_form, schema_kind_rows, schema_type_rows}
-use Rattle.openapi_knots.proofs.FormSizes.{form_size, rows_size}
+use Rattle.openapi_fields.proofs.FormSizes.{form_size, rows_size}
 use Rattle.openapi_schema.proofs.clone.+clone.Given as goal
 
 -- the size of the form that is left to clone; and for the same form, the caller above what it calls

@@ -1,6 +1,6 @@
 use Rattle.std.proofs.Common.{[], ◌∷◌, ◌∙◌, refl}
-use Rattle.openapi_parts.specs.Masks.{mask_of}
-use Rattle.openapi_rows.specs.Forms.{text_form, flag_form, number_form, size_form, list_form, map_form}
+use Rattle.openapi_schema_types.specs.Masks.{mask_of}
+use Rattle.openapi_fields.specs.Forms.{text_form, flag_form, number_form, size_form, list_form, map_form}
 use Rattle.openapi_schema.specs.KindNames.{trees_form}
 use Rattle.openapi_schema.specs.Present.{additional_there, ref_there}
 use Rattle.openapi_schema.specs.Reading.{ref_form, inner_box_form, outer_box_form}

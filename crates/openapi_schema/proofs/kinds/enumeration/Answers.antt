@@ -1,6 +1,6 @@
 use Rattle.std.proofs.Common.{arith}
 use Rattle.openapi_schema.proofs.FormatSlots.{entries_given}
-use Rattle.openapi_parts.proofs.ItemSizes.{length-items_size}
+use Rattle.openapi_schema_types.proofs.ItemSizes.{length-items_size}
 use Rattle.openapi_schema.proofs.kinds.enumeration.Goals as goal
 
 pub returns-in-Some-clause-reads : goal.returns-in-Some-clause-reads
@@ -10,4 +10,4 @@ returns-in-Some-clause-reads g c =
 
 pub returns-in-Some-clause-count : goal.returns-in-Some-clause-count
 returns-in-Some-clause-count g c =
-    rw c.in-Some.is (omega (arith, length-items_size c.in-Some.nodes.now, c.entries.ensures.count))
+    rw c.in-Some.is ((omega (arith, c.entries.ensures.count.0), omega (arith, length-items_size c.in-Some.nodes.now, c.entries.ensures.count.1)))

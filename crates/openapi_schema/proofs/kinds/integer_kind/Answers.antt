@@ -2,7 +2,7 @@ use Rattle.std.proofs.Common.{[], ◌∷◌, ap, ◌∙◌}
 use Rattle.openapi_tables.specs.Form.{absent}
 use Rattle.openapi_tables.specs.Members.{integer_sort, kind_names, sort_rows}
 use Rattle.openapi_tables.specs.Tables.{any_rows, integer_formats}
-use Rattle.openapi_rows.specs.Forms.{optional_form}
+use Rattle.openapi_fields.specs.Forms.{optional_form}
 use Rattle.openapi_values.specs.Words.{integer_format_word}
 use Rattle.openapi_schema.specs.RawSlots.{sort_slots}
 use Rattle.openapi_schema.specs.SchemaForms.{flag_form, number_form}

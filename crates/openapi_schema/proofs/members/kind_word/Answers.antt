@@ -9,7 +9,7 @@ use Rattle.openapi_tables.specs.Members.{
   any_sort,
 }
 use Rattle.openapi_tables.specs.Tables.{any_rows}
-use Rattle.openapi_rows.specs.Forms.{list_form}
+use Rattle.openapi_fields.specs.Forms.{list_form}
 use Rattle.openapi_schema.specs.Reading.{ref_form, outer_box_form}
 use Rattle.openapi_schema.specs.SchemaForms.{schema_kind_rows, any_schema_rows}
 use Rattle.openapi_schema.specs.Writing.{kind_slots, untagged}

@@ -2,7 +2,7 @@ use Rattle.std.proofs.Common.{ℕ, List, [], ◌∷◌, ◌++◌, codes, refl, s
 use Rattle.openapi_map.specs.Entries.{Entries}
 use Rattle.openapi_node.specs.Tree.{Tree, text}
 use Rattle.openapi_tables.proofs.SlotLists.{append_nil}
-use Rattle.openapi_knots.specs.Writing.{AreNew}
+use Rattle.openapi_fields.specs.Writing.{AreNew}
 use Rattle.openapi_schema.proofs.members.put_tagged.Goals as goal
 
 pub append-requires : goal.append-requires

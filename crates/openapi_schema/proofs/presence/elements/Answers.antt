@@ -2,7 +2,7 @@ use Rattle.std.proofs.Common.{arith}
 use Rattle.openapi_node.specs.View.{shown}
 use Rattle.openapi_node.specs.declared.fault.Expected.TheVariants as words
 use Rattle.openapi_tables.specs.Kind.{any_tree, list_of}
-use Rattle.openapi_rows.proofs.Below.{wrong_here, not_list}
+use Rattle.openapi_fields.proofs.Below.{wrong_here, not_list}
 use Rattle.openapi_schema.proofs.LentEntries.{trees_read}
 use Rattle.openapi_schema.proofs.presence.elements.Goals as goal
 

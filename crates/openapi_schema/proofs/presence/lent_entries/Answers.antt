@@ -6,10 +6,10 @@ use Rattle.openapi_tables.specs.Kind.{a_schema_kind, any_tree, list_of, optional
 use Rattle.openapi_tables.specs.Tables.{any_rows}
 use Rattle.openapi_tables.specs.Members.{checked_rows}
 use Rattle.openapi_tables.specs.ByRow.{row_weight}
-use Rattle.openapi_rows.proofs.Below.{size-positive}
-use Rattle.openapi_rows.proofs.RowReading.{weight_of_name}
+use Rattle.openapi_fields.proofs.Below.{size-positive}
+use Rattle.openapi_fields.proofs.RowReading.{weight_of_name}
 use Rattle.openapi_schema.specs.KindNames.{trees_form}
-use Rattle.openapi_knots.proofs.PresentRows.{row_gone, row_read}
+use Rattle.openapi_fields.proofs.PresentRows.{row_gone, row_read}
 use Rattle.openapi_schema.proofs.LentEntries.{entries_left}
 use Rattle.openapi_schema.proofs.presence.lent_entries.Goals as goal
 
@@ -20,12 +20,14 @@ returns-in-None-clause-reads c =
     c.in-None.ensures.is
 
 pub returns-in-None-clause-count : goal.returns-in-None-clause-count
-returns-in-None-clause-count c =
-    omega (
-      arith,
-      c.in-None.ensures.counted,
-      weight_of_name (codes "enum") optional optional (list_of any_tree) any_tree (members_of c.args.members.now),
-    )
+returns-in-None-clause-count c = (
+  c.in-None.ensures.rises,
+  omega (
+    arith,
+    c.in-None.ensures.counted,
+    weight_of_name (codes "enum") optional optional (list_of any_tree) any_tree (members_of c.args.members.now),
+  ),
+)
 
 pub returns-in-None-clause-left : goal.returns-in-None-clause-left
 returns-in-None-clause-left c =
@@ -43,14 +45,16 @@ returns-in-Some-clause-reads c =
     c.elements.ensures.reads
 
 pub returns-in-Some-clause-count : goal.returns-in-Some-clause-count
-returns-in-Some-clause-count c =
-    omega (
-      arith,
-      c.in-Some.ensures.counted,
-      c.in-Some.ensures.weighs,
-      size-positive (shown c.in-Some.view),
-      weight_of_name (codes "enum") optional optional (list_of any_tree) any_tree (members_of c.args.members.now),
-    )
+returns-in-Some-clause-count c = (
+  omega (arith, c.in-Some.ensures.counted),
+  omega (
+    arith,
+    c.in-Some.ensures.counted,
+    c.in-Some.ensures.weighs,
+    size-positive (shown c.in-Some.view),
+    weight_of_name (codes "enum") optional optional (list_of any_tree) any_tree (members_of c.args.members.now),
+  ),
+)
 
 pub returns-in-Some-clause-left : goal.returns-in-Some-clause-left
 returns-in-Some-clause-left c =

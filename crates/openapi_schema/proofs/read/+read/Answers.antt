@@ -1,64 +1,150 @@
-use Rattle.std.proofs.Common.{◌≡◌, ◌+◌, ◌≤◌, ◌∙◌, ◌++◌, ◌∷◌, [], Some, take, codes, string_bytes, refl, sym, ap, subst, arith, rules, inr}
+use Rattle.std.proofs.Common.{◌≡◌, ◌+◌, ◌≤◌, ◌∙◌, ◌++◌, ◌∷◌, [], Some, take, codes, string_bytes, refl, sym, ap, subst, arith, rules}
 use Rattle.std.proofs.lemmas.List.{take_all}
-use Rattle.openapi_node.specs.Place.{named, indexed}
+use Rattle.openapi_node.specs.Place.{indexed}
 use Rattle.openapi_node.specs.Tree.{list, items_of, members_of, members_size, size_of}
 use Rattle.openapi_node.specs.View.{shown}
 use Rattle.openapi_node.specs.declared.fault.Expected.TheVariants as words
 use Rattle.openapi_node.proofs.TreeLemmas.{next_item, next_member}
 use Rattle.openapi_tables.specs.Lists.{each, every}
-use Rattle.openapi_tables.specs.Kind.{any_tree, ref_to, a_schema, a_schema_kind, flag_or_schema, list_of, map_of, by}
+use Rattle.openapi_tables.specs.Kind.{ref_to, a_schema, a_schema_kind, flag_or_schema, list_of, map_of, by}
 use Rattle.openapi_tables.specs.Kind.{optional, row, schema_data}
 use Rattle.openapi_tables.specs.ByRow.{is_named, row_where, rows_asked, rows_weight}
 use Rattle.openapi_tables.specs.Tables.{final_tables, any_rows}
 use Rattle.openapi_tables.specs.Members.{checked_rows}
 use Rattle.openapi_tables.specs.Conforms.{conforms}
 use Rattle.openapi_tables.specs.Read.{form}
-use Rattle.openapi_tables.specs.Slots.{pairs_of}
-use Rattle.openapi_rows.specs.Entries.{chosen, entries_size}
-use Rattle.openapi_rows.specs.Forms.{list_form, map_form}
-use Rattle.openapi_rows.specs.Gives.{Gives}
-use Rattle.openapi_rows.specs.References.{reference_in}
-use Rattle.openapi_rows.proofs.Below.{fails_above, refuses, size-positive, step_ok, step_err}
-use Rattle.openapi_rows.proofs.Below.{wrong_here, not_list, not_map}
-use Rattle.openapi_rows.proofs.Chosen.{entry_fails, next_within, next_size, next_holds, next_same, next_new}
-use Rattle.openapi_rows.proofs.Elements.{list_gives, every-more, each-more, item_leads, next_here}
-use Rattle.openapi_rows.proofs.Mapped.{map_gives, all_chosen, all_size}
-use Rattle.openapi_rows.proofs.Referring.{reads_reference}
-use Rattle.openapi_rows.proofs.RowReading.{weight_of_name}
+use Rattle.openapi_fields.specs.Forms.{list_form, map_form}
+use Rattle.openapi_fields.specs.Returned.{ReadAs}
+use Rattle.openapi_fields.specs.References.{reference_in}
+use Rattle.openapi_fields.proofs.Below.{fails_above, refuses, size-positive}
+use Rattle.openapi_fields.proofs.Below.{wrong_here, not_list, not_map}
+use Rattle.openapi_fields.proofs.Elements.{list_gives, every-more, each-more, item_leads, next_here}
+use Rattle.openapi_fields.proofs.Referring.{reads_reference}
 use Rattle.openapi_schema.specs.RawSlots.{optional_rows}
-use Rattle.openapi_knots.specs.Reading.{any_name}
 use Rattle.openapi_schema.specs.Reading.{ref_form, inner_box_form, outer_box_form}
 use Rattle.openapi_schema.specs.SchemaForms.{additional_form, schema_form}
 use Rattle.openapi_schema.proofs.KindGives.{schema_weight-le}
-use Rattle.openapi_schema.proofs.PartRows.{first_whole, first_weight, last_whole, last_weight}
-use Rattle.openapi_knots.proofs.PresentRows.{row_gone, row_read}
+use Rattle.openapi_schema.proofs.PartRows.{first_whole, last_whole, last_weight}
+use Rattle.openapi_fields.proofs.RecursiveReading.{all_so_far, map_read, next_refused, next_so_far, none_present, none_so_far, read_present}
+use Rattle.openapi_fields.proofs.EntryReading.{name_unread}
 use Rattle.openapi_schema.proofs.Refusals.{not_object_fails, not_flag_or_object}
 use Rattle.openapi_schema.proofs.SchemaReads.{entries_left-le, names_weight, none_referred}
 use Rattle.openapi_schema.proofs.SchemaReads.{additional-any}
 use Rattle.openapi_schema.proofs.read.+read.Goals as goal
 
+pub read_inner_box-returns-in-None : goal.read_inner_box-returns-in-None
+read_inner_box-returns-in-None t c =
+    let at : row_where (is_named c.args.name.now) (rows_asked final_tables a_schema_kind) ≡ Some (row c.args.name.now optional (ref_to a_schema)) =
+    search rules in
+    none_present inner_box_form a_schema_kind c.args.name.now (ref_to a_schema) (members_of c.args.members.now) at _ _ c.in-None.ensures
+
+pub read_inner_box-returns-in-Some : goal.read_inner_box-returns-in-Some
+read_inner_box-returns-in-Some t c =
+    let at : row_where (is_named c.args.name.now) (rows_asked final_tables a_schema_kind) ≡ Some (row c.args.name.now optional (ref_to a_schema)) =
+    search rules in
+    read_present inner_box_form a_schema_kind c.args.name.now (ref_to a_schema) (members_of c.args.members.now) at c.read_boxed_schema_ref.result c.as_member.result
+    c.in-Some.ensures c.as_member.ensures c.read_boxed_schema_ref.ensures.reads c.read_boxed_schema_ref.ensures.count
+
+pub read_outer_box-returns-in-None : goal.read_outer_box-returns-in-None
+read_outer_box-returns-in-None t c =
+    let at : row_where (is_named c.args.name.now) (rows_asked final_tables a_schema_kind) ≡ Some (row c.args.name.now optional (ref_to a_schema)) =
+    search rules in
+    none_present outer_box_form a_schema_kind c.args.name.now (ref_to a_schema) (members_of c.args.members.now) at _ _ c.in-None.ensures
+
+pub read_outer_box-returns-in-Some : goal.read_outer_box-returns-in-Some
+read_outer_box-returns-in-Some t c =
+    let at : row_where (is_named c.args.name.now) (rows_asked final_tables a_schema_kind) ≡ Some (row c.args.name.now optional (ref_to a_schema)) =
+    search rules in
+    read_present outer_box_form a_schema_kind c.args.name.now (ref_to a_schema) (members_of c.args.members.now) at c.read_boxed_ref.result c.as_member.result
+    c.in-Some.ensures c.as_member.ensures c.read_boxed_ref.ensures.reads c.read_boxed_ref.ensures.count
+
+pub read_listed-returns-in-None : goal.read_listed-returns-in-None
+read_listed-returns-in-None t c =
+    let at : row_where (is_named c.args.name.now) (rows_asked final_tables a_schema_kind) ≡ Some (row c.args.name.now optional (list_of (ref_to a_schema))) =
+    search rules in
+    none_present (list_form ref_form) a_schema_kind c.args.name.now (list_of (ref_to a_schema)) (members_of c.args.members.now) at _ _ c.in-None.ensures
+
+pub read_listed-returns-in-Some : goal.read_listed-returns-in-Some
+read_listed-returns-in-Some t c =
+    let at : row_where (is_named c.args.name.now) (rows_asked final_tables a_schema_kind) ≡ Some (row c.args.name.now optional (list_of (ref_to a_schema))) =
+    search rules in
+    read_present (list_form ref_form) a_schema_kind c.args.name.now (list_of (ref_to a_schema)) (members_of c.args.members.now) at c.read_refs_in.result c.as_member.result
+    c.in-Some.ensures c.as_member.ensures c.read_refs_in.ensures.reads (c.read_refs_in.ensures.count.0, omega (arith, c.read_refs_in.ensures.count.1))
+
+pub read_properties-returns-in-None : goal.read_properties-returns-in-None
+unfolding checked_rows any_rows
+read_properties-returns-in-None t c =
+    none_present (map_form inner_box_form) a_schema_kind (codes "properties") (map_of (ref_to a_schema)) (members_of c.args.members.now) refl _ _ c.in-None.ensures
+
+pub read_properties-returns-in-Some : goal.read_properties-returns-in-Some
+unfolding checked_rows any_rows
+read_properties-returns-in-Some t c =
+    read_present (map_form inner_box_form) a_schema_kind (codes "properties") (map_of (ref_to a_schema)) (members_of c.args.members.now) refl c.read_properties_in.result c.as_member.result
+    c.in-Some.ensures c.as_member.ensures c.read_properties_in.ensures.reads (c.read_properties_in.ensures.count.0, omega (arith, c.read_properties_in.ensures.count.1))
+
+pub read_additional-returns-in-None : goal.read_additional-returns-in-None
+unfolding checked_rows any_rows
+read_additional-returns-in-None t c =
+    none_present additional_form a_schema_kind (codes "additionalProperties") flag_or_schema (members_of c.args.members.now) refl _ _ c.in-None.ensures
+
+pub read_additional-returns-in-Some : goal.read_additional-returns-in-Some
+unfolding checked_rows any_rows
+read_additional-returns-in-Some t c =
+    read_present additional_form a_schema_kind (codes "additionalProperties") flag_or_schema (members_of c.args.members.now) refl c.read_additional_in.result c.as_member.result
+    c.in-Some.ensures c.as_member.ensures c.read_additional_in.ensures.reads c.read_additional_in.ensures.count
+
+pub read_properties_in-returns-in-Object : goal.read_properties_in-returns-in-Object
+read_properties_in-returns-in-Object t c =
+    rw c.in-Object.is (map_read (map_form inner_box_form) (map_of (ref_to a_schema)) c.read_named.result
+    (members_of c.in-Object.members.now) _ _ _ refl c.read_named.ensures)
+
+pub read_named-read_boxed_schema_ref-requires : goal.read_named-read_boxed_schema_ref-requires
+read_named-read_boxed_schema_ref-requires t c =
+    let next = next_member c.args.members.now c.loop-i.i (c.entry_at.result.0.now, c.entry_at.result.1.now)
+    c.entry_at.ensures in
+    (omega (arith, next.within, ap size_of c.open-entry.ensures.shown, c.decreases), tt)
+
+pub read_named-put_read-requires : goal.read_named-put_read-requires
+read_named-put_read-requires t c =
+    name_unread inner_box_form (ref_to a_schema) c.args.members.now c.loop-i.i c.entry_at.result.0.now c.entry_at.result.1.now
+    c.entry_at.ensures c.loop-i.values c.len-i-end.ensures.distinct c.loop-i.invariant.read
+
+pub read_named-returns-in-Err : goal.read_named-returns-in-Err
+read_named-returns-in-Err t c =
+    next_refused inner_box_form (ref_to a_schema) c.args.members.now c.args.steps.now c.loop-i.i c.put_read.new.values c.read_boxed_schema_ref.result c.put_read.result
+    c.entry_at.ensures c.loop-i.invariant c.open-entry.ensures c.read_boxed_schema_ref.ensures.reads c.read_boxed_schema_ref.ensures.count c.put_read.ensures c.in-Err.fault c.in-Err.is
+
+pub read_named-loop-i-preserved : goal.read_named-loop-i-preserved
+read_named-loop-i-preserved t c =
+    next_so_far inner_box_form (ref_to a_schema) c.args.members.now c.args.steps.now c.loop-i.i c.put_read.new.values c.read_boxed_schema_ref.result c.put_read.result
+    c.entry_at.ensures c.loop-i.invariant c.open-entry.ensures c.read_boxed_schema_ref.ensures.reads c.read_boxed_schema_ref.ensures.count c.put_read.ensures c.in-Ok-put_read.is
+
+pub read_named-returns : goal.read_named-returns
+read_named-returns t c =
+    all_so_far inner_box_form (ref_to a_schema) c.args.members.now c.args.steps.now c.loop-i.i c.loop-i.values c.loop-i.steps (omega arith)
+    c.loop-i.invariant
+
 pub schema_ref_from_node-returns-clause-reads : goal.schema_ref_from_node-returns-clause-reads
 schema_ref_from_node-returns-clause-reads t c =
-    subst (λ u. Gives ref_form c.read_schema_ref.result (ref_to a_schema) u) c.open-view.ensures.shown
+    subst (λ u. ReadAs ref_form c.read_schema_ref.result (ref_to a_schema) u) c.open-view.ensures.shown
     c.read_schema_ref.ensures.reads
 
 pub schema_ref_from_node-returns-clause-refuses : goal.schema_ref_from_node-returns-clause-refuses
 schema_ref_from_node-returns-clause-refuses t c =
     refuses (ref_to a_schema) c.args.node.now refl ref_form c.read_schema_ref.result
-    (subst (λ u. Gives ref_form c.read_schema_ref.result (ref_to a_schema) u) c.open-view.ensures.shown
+    (subst (λ u. ReadAs ref_form c.read_schema_ref.result (ref_to a_schema) u) c.open-view.ensures.shown
     c.read_schema_ref.ensures.reads)
 
 pub schema_ref_from_node-returns-clause-count : goal.schema_ref_from_node-returns-clause-count
 schema_ref_from_node-returns-clause-count t c =
-    omega (arith, c.open-view.ensures.counted, ap size_of c.open-view.ensures.shown, c.read_schema_ref.ensures.count)
+    omega (arith, c.open-view.ensures.counted, ap size_of c.open-view.ensures.shown, c.read_schema_ref.ensures.count.1)
 
 pub read_schema_ref-returns-in_default : goal.read_schema_ref-returns-in_default
 read_schema_ref-returns-in_default t c =
     record {
       reads = not_object_fails c.new.result c.args.view.now c.in_default.not-Object c.new.ensures.place
           c.new.ensures.cause;
-      rises = omega arith;
-      count = omega (arith, size-positive (shown c.args.view.now));
+      count = (omega arith, omega (arith, size-positive (shown c.args.view.now)));
     }
 
 pub read_schema_ref-returns-in-Some-clause-reads : goal.read_schema_ref-returns-in-Some-clause-reads
@@ -68,7 +154,7 @@ read_schema_ref-returns-in-Some-clause-reads t c =
 
 pub read_schema_ref-returns-in-Some-clause-count : goal.read_schema_ref-returns-in-Some-clause-count
 read_schema_ref-returns-in-Some-clause-count t c =
-    rw c.in-Object.is (omega (arith, c.in_ok-reference.ensures.count))
+    rw c.in-Object.is ((omega (arith, c.in_ok-reference.ensures.count.0), omega (arith, c.in_ok-reference.ensures.count.1)))
 
 pub read_schema_ref-returns-clause-reads : goal.read_schema_ref-returns-clause-reads
 read_schema_ref-returns-clause-reads t c =
@@ -81,12 +167,15 @@ read_schema_ref-returns-clause-count t c =
     let ms = members_of c.in-Object.members.now in
     let w : rows_weight (rows_asked final_tables (by schema_data)) ms + rows_weight optional_rows ms ≤ members_size ms =
     schema_weight-le ms in
-    rw c.in-Object.is (omega (
-      arith,
-      w,
-      c.in_ok-reference.ensures.count,
-      c.read_kind.ensures.count,
-      c.item_with.ensures.count,
+    rw c.in-Object.is ((
+      omega (arith, c.in_ok-reference.ensures.count.0, c.read_kind.ensures.count.0, c.item_with.ensures.count.0),
+      omega (
+        arith,
+        w,
+        c.in_ok-reference.ensures.count.1,
+        c.read_kind.ensures.count.1,
+        c.item_with.ensures.count.1,
+      ),
     ))
 
 pub read_boxed_schema_ref-returns-clause-reads : goal.read_boxed_schema_ref-returns-clause-reads
@@ -99,60 +188,24 @@ read_boxed_ref-returns-clause-reads t c =
 
 pub read_kind-returns-in_err-first-clause-count : goal.read_kind-returns-in_err-first-clause-count
 read_kind-returns-in_err-first-clause-count t c =
-    omega (arith, names_weight (members_of c.args.members.now), c.in_err-first.ensures.count)
+    (omega (arith, c.in_err-first.ensures.count.0), omega (arith, names_weight (members_of c.args.members.now), c.in_err-first.ensures.count.1))
 
 pub read_kind-returns-clause-reads : goal.read_kind-returns-clause-reads
 read_kind-returns-clause-reads t c =
     c.kind_with.ensures.reads (members_of c.args.members.now) c.in_ok-first.ensures.reads c.read_last_names.ensures.reads
 
 pub read_kind-returns-clause-count : goal.read_kind-returns-clause-count
-read_kind-returns-clause-count t c =
-    omega (
-      arith,
-      names_weight (members_of c.args.members.now),
-      c.in_ok-first.ensures.count,
-      entries_left-le c.read_last_names.result c.read_last_names.new.steps _ c.read_last_names.ensures.count
-          c.read_last_names.ensures.left,
-      c.kind_with.ensures.count,
-    )
-
-pub read_first_names-returns-in_err-plain-clause-count : goal.read_first_names-returns-in_err-plain-clause-count
-read_first_names-returns-in_err-plain-clause-count t c =
-    omega (
-      arith,
-      first_weight (members_of c.args.members.now),
-      c.in_err-plain.ensures.count,
-    )
-
-pub read_first_names-returns-in_err-properties-clause-count : goal.read_first_names-returns-in_err-properties-clause-count
-read_first_names-returns-in_err-properties-clause-count t c =
-    omega (
-      arith,
-      first_weight (members_of c.args.members.now),
-      c.in_ok-plain.ensures.count,
-      c.in_err-properties.ensures.count,
-    )
-
-pub read_first_names-returns-in_err-required-clause-count : goal.read_first_names-returns-in_err-required-clause-count
-read_first_names-returns-in_err-required-clause-count t c =
-    omega (
-      arith,
-      first_weight (members_of c.args.members.now),
-      c.in_ok-plain.ensures.count,
-      c.in_ok-properties.ensures.count,
-      c.in_err-required.ensures.count,
-    )
-
-pub read_first_names-returns-in_err-additional_properties-clause-count : goal.read_first_names-returns-in_err-additional_properties-clause-count
-read_first_names-returns-in_err-additional_properties-clause-count t c =
-    omega (
-      arith,
-      first_weight (members_of c.args.members.now),
-      c.in_ok-plain.ensures.count,
-      c.in_ok-properties.ensures.count,
-      c.in_ok-required.ensures.count,
-      c.in_err-additional_properties.ensures.count,
-    )
+read_kind-returns-clause-count t c = (
+  omega (arith, c.in_ok-first.ensures.count.0, c.read_last_names.ensures.count.0, c.kind_with.ensures.count.0),
+  omega (
+    arith,
+    names_weight (members_of c.args.members.now),
+    c.in_ok-first.ensures.count.1,
+    entries_left-le c.read_last_names.result c.read_last_names.new.steps _ c.read_last_names.ensures.count.1
+        c.read_last_names.ensures.left,
+    c.kind_with.ensures.count.1,
+  ),
+)
 
 pub read_first_names-returns-clause-reads : goal.read_first_names-returns-clause-reads
 read_first_names-returns-clause-reads t c =
@@ -163,94 +216,6 @@ read_first_names-returns-clause-reads t c =
       additional_properties = c.in_ok-additional_properties.additional_properties;
     }) (members_of c.args.members.now) c.in_ok-plain.ensures.reads c.in_ok-properties.ensures.reads
     c.in_ok-required.ensures.reads c.in_ok-additional_properties.ensures.reads
-
-pub read_first_names-returns-clause-count : goal.read_first_names-returns-clause-count
-read_first_names-returns-clause-count t c =
-    omega (
-      arith,
-      first_weight (members_of c.args.members.now),
-      c.in_ok-plain.ensures.count,
-      c.in_ok-properties.ensures.count,
-      c.in_ok-required.ensures.count,
-      c.in_ok-additional_properties.ensures.count,
-    )
-
-pub read_last_names-returns-in_err-enumeration-clause-count : goal.read_last_names-returns-in_err-enumeration-clause-count
-read_last_names-returns-in_err-enumeration-clause-count t c =
-    omega (
-      arith,
-      last_weight (members_of c.args.members.now),
-      c.in_err-enumeration.ensures.count,
-    )
-
-pub read_last_names-returns-in_err-plain-clause-count : goal.read_last_names-returns-in_err-plain-clause-count
-read_last_names-returns-in_err-plain-clause-count t c =
-    omega (
-      arith,
-      last_weight (members_of c.args.members.now),
-      c.in_ok-enumeration.ensures.count,
-      c.in_err-plain.ensures.count,
-    )
-
-pub read_last_names-returns-in_err-items-clause-count : goal.read_last_names-returns-in_err-items-clause-count
-read_last_names-returns-in_err-items-clause-count t c =
-    omega (
-      arith,
-      last_weight (members_of c.args.members.now),
-      c.in_ok-enumeration.ensures.count,
-      c.in_ok-plain.ensures.count,
-      c.in_err-items.ensures.count,
-    )
-
-pub read_last_names-returns-in_err-one_of-clause-count : goal.read_last_names-returns-in_err-one_of-clause-count
-read_last_names-returns-in_err-one_of-clause-count t c =
-    omega (
-      arith,
-      last_weight (members_of c.args.members.now),
-      c.in_ok-enumeration.ensures.count,
-      c.in_ok-plain.ensures.count,
-      c.in_ok-items.ensures.count,
-      c.in_err-one_of.ensures.count,
-    )
-
-pub read_last_names-returns-in_err-all_of-clause-count : goal.read_last_names-returns-in_err-all_of-clause-count
-read_last_names-returns-in_err-all_of-clause-count t c =
-    omega (
-      arith,
-      last_weight (members_of c.args.members.now),
-      c.in_ok-enumeration.ensures.count,
-      c.in_ok-plain.ensures.count,
-      c.in_ok-items.ensures.count,
-      c.in_ok-one_of.ensures.count,
-      c.in_err-all_of.ensures.count,
-    )
-
-pub read_last_names-returns-in_err-any_of-clause-count : goal.read_last_names-returns-in_err-any_of-clause-count
-read_last_names-returns-in_err-any_of-clause-count t c =
-    omega (
-      arith,
-      last_weight (members_of c.args.members.now),
-      c.in_ok-enumeration.ensures.count,
-      c.in_ok-plain.ensures.count,
-      c.in_ok-items.ensures.count,
-      c.in_ok-one_of.ensures.count,
-      c.in_ok-all_of.ensures.count,
-      c.in_err-any_of.ensures.count,
-    )
-
-pub read_last_names-returns-in_err-not-clause-count : goal.read_last_names-returns-in_err-not-clause-count
-read_last_names-returns-in_err-not-clause-count t c =
-    omega (
-      arith,
-      last_weight (members_of c.args.members.now),
-      c.in_ok-enumeration.ensures.count,
-      c.in_ok-plain.ensures.count,
-      c.in_ok-items.ensures.count,
-      c.in_ok-one_of.ensures.count,
-      c.in_ok-all_of.ensures.count,
-      c.in_ok-any_of.ensures.count,
-      c.in_err-not.ensures.count,
-    )
 
 pub read_last_names-returns-clause-reads : goal.read_last_names-returns-clause-reads
 read_last_names-returns-clause-reads t c =
@@ -266,200 +231,35 @@ read_last_names-returns-clause-reads t c =
     c.in_ok-enumeration.ensures.reads c.in_ok-one_of.ensures.reads c.in_ok-all_of.ensures.reads
     c.in_ok-any_of.ensures.reads c.in_ok-not.ensures.reads
 
-pub read_last_names-returns-clause-count : goal.read_last_names-returns-clause-count
-read_last_names-returns-clause-count t c =
-    omega (
-      arith,
-      last_weight (members_of c.args.members.now),
-      c.in_ok-enumeration.ensures.count,
-      c.in_ok-plain.ensures.count,
-      c.in_ok-items.ensures.count,
-      c.in_ok-one_of.ensures.count,
-      c.in_ok-all_of.ensures.count,
-      c.in_ok-any_of.ensures.count,
-      c.in_ok-not.ensures.count,
-    )
-
 pub read_last_names-returns-clause-left : goal.read_last_names-returns-clause-left
 read_last_names-returns-clause-left t c =
     omega (
       arith,
       last_weight (members_of c.args.members.now),
       c.in_ok-enumeration.ensures.left,
-      c.in_ok-plain.ensures.count,
-      c.in_ok-items.ensures.count,
-      c.in_ok-one_of.ensures.count,
-      c.in_ok-all_of.ensures.count,
-      c.in_ok-any_of.ensures.count,
-      c.in_ok-not.ensures.count,
-    )
-
-pub read_inner_box-returns-in-None-clause-reads : goal.read_inner_box-returns-in-None-clause-reads
-read_inner_box-returns-in-None-clause-reads t c =
-    let at : row_where (is_named c.args.name.now) (rows_asked final_tables a_schema_kind) ≡ Some (row c.args.name.now optional (ref_to a_schema)) = search
-    rules in
-    row_gone inner_box_form a_schema_kind c.args.name.now (ref_to a_schema) (members_of c.args.members.now) at c.in-None.ensures.is
-
-pub read_inner_box-returns-in-None-clause-count : goal.read_inner_box-returns-in-None-clause-count
-read_inner_box-returns-in-None-clause-count t c =
-    omega (arith, c.in-None.ensures.counted, weight_of_name c.args.name.now optional optional (ref_to a_schema) any_tree (members_of c.args.members.now))
-
-pub read_inner_box-returns-in-Some-clause-reads : goal.read_inner_box-returns-in-Some-clause-reads
-read_inner_box-returns-in-Some-clause-reads t c =
-    let at : row_where (is_named c.args.name.now) (rows_asked final_tables a_schema_kind) ≡ Some (row c.args.name.now optional (ref_to a_schema)) = search
-    rules in
-    row_read inner_box_form a_schema_kind c.args.name.now (ref_to a_schema) (members_of c.args.members.now) at (shown c.in-Some.view) c.read_boxed_schema_ref.result
-    c.as_member.result c.in-Some.ensures.is c.as_member.ensures c.read_boxed_schema_ref.ensures.reads
-
-pub read_inner_box-returns-in-Some-clause-rises : goal.read_inner_box-returns-in-Some-clause-rises
-read_inner_box-returns-in-Some-clause-rises t c =
-    omega (arith, c.in-Some.ensures.counted, c.read_boxed_schema_ref.ensures.rises)
-
-pub read_inner_box-returns-in-Some-clause-count : goal.read_inner_box-returns-in-Some-clause-count
-read_inner_box-returns-in-Some-clause-count t c =
-    omega (
-      arith,
-      c.in-Some.ensures.counted,
-      c.in-Some.ensures.weighs,
-      c.read_boxed_schema_ref.ensures.count,
-      weight_of_name c.args.name.now optional optional (ref_to a_schema) any_tree (members_of c.args.members.now),
+      c.in_ok-plain.ensures.count.1,
+      c.in_ok-items.ensures.count.1,
+      c.in_ok-one_of.ensures.count.1,
+      c.in_ok-all_of.ensures.count.1,
+      c.in_ok-any_of.ensures.count.1,
+      c.in_ok-not.ensures.count.1,
     )
 
 pub read_inner_box-read_boxed_schema_ref-requires : goal.read_inner_box-read_boxed_schema_ref-requires
 read_inner_box-read_boxed_schema_ref-requires t c =
     (omega (arith, c.in-Some.ensures.within, c.requires), tt)
 
-pub read_outer_box-returns-in-None-clause-reads : goal.read_outer_box-returns-in-None-clause-reads
-read_outer_box-returns-in-None-clause-reads t c =
-    let at : row_where (is_named c.args.name.now) (rows_asked final_tables a_schema_kind) ≡ Some (row c.args.name.now optional (ref_to a_schema)) = search
-    rules in
-    row_gone outer_box_form a_schema_kind c.args.name.now (ref_to a_schema) (members_of c.args.members.now) at c.in-None.ensures.is
-
-pub read_outer_box-returns-in-None-clause-count : goal.read_outer_box-returns-in-None-clause-count
-read_outer_box-returns-in-None-clause-count t c =
-    omega (arith, c.in-None.ensures.counted, weight_of_name c.args.name.now optional optional (ref_to a_schema) any_tree (members_of c.args.members.now))
-
-pub read_outer_box-returns-in-Some-clause-reads : goal.read_outer_box-returns-in-Some-clause-reads
-read_outer_box-returns-in-Some-clause-reads t c =
-    let at : row_where (is_named c.args.name.now) (rows_asked final_tables a_schema_kind) ≡ Some (row c.args.name.now optional (ref_to a_schema)) = search
-    rules in
-    row_read outer_box_form a_schema_kind c.args.name.now (ref_to a_schema) (members_of c.args.members.now) at (shown c.in-Some.view) c.read_boxed_ref.result
-    c.as_member.result c.in-Some.ensures.is c.as_member.ensures c.read_boxed_ref.ensures.reads
-
-pub read_outer_box-returns-in-Some-clause-rises : goal.read_outer_box-returns-in-Some-clause-rises
-read_outer_box-returns-in-Some-clause-rises t c =
-    omega (arith, c.in-Some.ensures.counted, c.read_boxed_ref.ensures.rises)
-
-pub read_outer_box-returns-in-Some-clause-count : goal.read_outer_box-returns-in-Some-clause-count
-read_outer_box-returns-in-Some-clause-count t c =
-    omega (
-      arith,
-      c.in-Some.ensures.counted,
-      c.in-Some.ensures.weighs,
-      c.read_boxed_ref.ensures.count,
-      weight_of_name c.args.name.now optional optional (ref_to a_schema) any_tree (members_of c.args.members.now),
-    )
-
 pub read_outer_box-read_boxed_ref-requires : goal.read_outer_box-read_boxed_ref-requires
 read_outer_box-read_boxed_ref-requires t c =
     (omega (arith, c.in-Some.ensures.within, c.requires), tt)
-
-pub read_listed-returns-in-None-clause-reads : goal.read_listed-returns-in-None-clause-reads
-read_listed-returns-in-None-clause-reads t c =
-    let at : row_where (is_named c.args.name.now) (rows_asked final_tables a_schema_kind) ≡ Some (row c.args.name.now optional (list_of (ref_to a_schema))) = search
-    rules in
-    row_gone (list_form ref_form) a_schema_kind c.args.name.now (list_of (ref_to a_schema)) (members_of c.args.members.now) at c.in-None.ensures.is
-
-pub read_listed-returns-in-None-clause-count : goal.read_listed-returns-in-None-clause-count
-read_listed-returns-in-None-clause-count t c =
-    omega (arith, c.in-None.ensures.counted, weight_of_name c.args.name.now optional optional (list_of (ref_to a_schema)) any_tree (members_of c.args.members.now))
-
-pub read_listed-returns-in-Some-clause-reads : goal.read_listed-returns-in-Some-clause-reads
-read_listed-returns-in-Some-clause-reads t c =
-    let at : row_where (is_named c.args.name.now) (rows_asked final_tables a_schema_kind) ≡ Some (row c.args.name.now optional (list_of (ref_to a_schema))) = search
-    rules in
-    row_read (list_form ref_form) a_schema_kind c.args.name.now (list_of (ref_to a_schema)) (members_of c.args.members.now) at (shown c.in-Some.view) c.read_refs_in.result
-    c.as_member.result c.in-Some.ensures.is c.as_member.ensures c.read_refs_in.ensures.reads
-
-pub read_listed-returns-in-Some-clause-rises : goal.read_listed-returns-in-Some-clause-rises
-read_listed-returns-in-Some-clause-rises t c =
-    omega (arith, c.in-Some.ensures.counted, c.read_refs_in.ensures.rises)
-
-pub read_listed-returns-in-Some-clause-count : goal.read_listed-returns-in-Some-clause-count
-read_listed-returns-in-Some-clause-count t c =
-    omega (
-      arith,
-      c.in-Some.ensures.counted,
-      c.in-Some.ensures.weighs,
-      c.read_refs_in.ensures.count,
-      weight_of_name c.args.name.now optional optional (list_of (ref_to a_schema)) any_tree (members_of c.args.members.now),
-    )
 
 pub read_listed-read_refs_in-requires : goal.read_listed-read_refs_in-requires
 read_listed-read_refs_in-requires t c =
     (omega (arith, c.in-Some.ensures.within, c.requires), tt)
 
-pub read_properties-returns-in-None-clause-reads : goal.read_properties-returns-in-None-clause-reads
-unfolding checked_rows any_rows
-read_properties-returns-in-None-clause-reads t c =
-    row_gone (map_form inner_box_form) a_schema_kind (codes "properties") (map_of (ref_to a_schema)) (members_of c.args.members.now) refl c.in-None.ensures.is
-
-pub read_properties-returns-in-None-clause-count : goal.read_properties-returns-in-None-clause-count
-read_properties-returns-in-None-clause-count t c =
-    omega (arith, c.in-None.ensures.counted, weight_of_name (codes "properties") optional optional (map_of (ref_to a_schema)) any_tree (members_of c.args.members.now))
-
-pub read_properties-returns-in-Some-clause-reads : goal.read_properties-returns-in-Some-clause-reads
-unfolding checked_rows any_rows
-read_properties-returns-in-Some-clause-reads t c =
-    row_read (map_form inner_box_form) a_schema_kind (codes "properties") (map_of (ref_to a_schema)) (members_of c.args.members.now) refl (shown c.in-Some.view) c.read_properties_in.result
-    c.as_member.result c.in-Some.ensures.is c.as_member.ensures c.read_properties_in.ensures.reads
-
-pub read_properties-returns-in-Some-clause-rises : goal.read_properties-returns-in-Some-clause-rises
-read_properties-returns-in-Some-clause-rises t c =
-    omega (arith, c.in-Some.ensures.counted, c.read_properties_in.ensures.rises)
-
-pub read_properties-returns-in-Some-clause-count : goal.read_properties-returns-in-Some-clause-count
-read_properties-returns-in-Some-clause-count t c =
-    omega (
-      arith,
-      c.in-Some.ensures.counted,
-      c.in-Some.ensures.weighs,
-      c.read_properties_in.ensures.count,
-      weight_of_name (codes "properties") optional optional (map_of (ref_to a_schema)) any_tree (members_of c.args.members.now),
-    )
-
 pub read_properties-read_properties_in-requires : goal.read_properties-read_properties_in-requires
 read_properties-read_properties_in-requires t c =
     (omega (arith, c.in-Some.ensures.within, c.decreases), tt)
-
-pub read_additional-returns-in-None-clause-reads : goal.read_additional-returns-in-None-clause-reads
-unfolding checked_rows any_rows
-read_additional-returns-in-None-clause-reads t c =
-    row_gone additional_form a_schema_kind (codes "additionalProperties") flag_or_schema (members_of c.args.members.now) refl c.in-None.ensures.is
-
-pub read_additional-returns-in-None-clause-count : goal.read_additional-returns-in-None-clause-count
-read_additional-returns-in-None-clause-count t c =
-    omega (arith, c.in-None.ensures.counted, weight_of_name (codes "additionalProperties") optional optional flag_or_schema any_tree (members_of c.args.members.now))
-
-pub read_additional-returns-in-Some-clause-reads : goal.read_additional-returns-in-Some-clause-reads
-unfolding checked_rows any_rows
-read_additional-returns-in-Some-clause-reads t c =
-    row_read additional_form a_schema_kind (codes "additionalProperties") flag_or_schema (members_of c.args.members.now) refl (shown c.in-Some.view) c.read_additional_in.result
-    c.as_member.result c.in-Some.ensures.is c.as_member.ensures c.read_additional_in.ensures.reads
-
-pub read_additional-returns-in-Some-clause-rises : goal.read_additional-returns-in-Some-clause-rises
-read_additional-returns-in-Some-clause-rises t c =
-    omega (arith, c.in-Some.ensures.counted, c.read_additional_in.ensures.rises)
-
-pub read_additional-returns-in-Some-clause-count : goal.read_additional-returns-in-Some-clause-count
-read_additional-returns-in-Some-clause-count t c =
-    omega (
-      arith,
-      c.in-Some.ensures.counted,
-      c.in-Some.ensures.weighs,
-      c.read_additional_in.ensures.count,
-      weight_of_name (codes "additionalProperties") optional optional flag_or_schema any_tree (members_of c.args.members.now),
-    )
 
 pub read_additional-read_additional_in-requires : goal.read_additional-read_additional_in-requires
 read_additional-read_additional_in-requires t c =
@@ -471,34 +271,22 @@ read_refs_in-returns-in-List-clause-reads t c =
 
 pub read_refs_in-returns-in-List-clause-count : goal.read_refs_in-returns-in-List-clause-count
 read_refs_in-returns-in-List-clause-count t c =
-    rw c.in-List.is (omega (arith, c.read_refs.ensures.count))
+    rw c.in-List.is ((omega (arith, c.read_refs.ensures.count.0), omega (arith, c.read_refs.ensures.count.1)))
 
 pub read_refs_in-returns-in_default : goal.read_refs_in-returns-in_default
 read_refs_in-returns-in_default t c =
     record {
       reads = wrong_here c.new.result words.List (list_of (ref_to a_schema)) (shown c.args.view.now) c.new.ensures.place
           c.new.ensures.cause (not_list (ref_to a_schema) c.args.view.now c.in_default.not-List);
-      rises = omega arith;
-      count = omega (arith, size-positive (shown c.args.view.now));
+      count = (omega arith, omega (arith, size-positive (shown c.args.view.now)));
     }
-
-pub read_properties_in-returns-in-Object-clause-reads : goal.read_properties_in-returns-in-Object-clause-reads
-read_properties_in-returns-in-Object-clause-reads t c =
-    rw c.in-Object.is (map_gives inner_box_form (ref_to a_schema) c.read_named.result c.in-Object.members.now
-    c.read_named.ensures.reads)
-
-pub read_properties_in-returns-in-Object-clause-count : goal.read_properties_in-returns-in-Object-clause-count
-read_properties_in-returns-in-Object-clause-count t c =
-    let ms = c.in-Object.members.now in
-    rw c.in-Object.is (omega (arith, c.read_named.ensures.count, ap entries_size (all_chosen ms), all_size ms))
 
 pub read_properties_in-returns-in_default : goal.read_properties_in-returns-in_default
 read_properties_in-returns-in_default t c =
     record {
       reads = wrong_here c.new.result words.Object (map_of (ref_to a_schema)) (shown c.args.view.now) c.new.ensures.place
           c.new.ensures.cause (not_map (ref_to a_schema) c.args.view.now c.in_default.not-Object);
-      rises = omega arith;
-      count = omega (arith, size-positive (shown c.args.view.now));
+      count = (omega arith, omega (arith, size-positive (shown c.args.view.now)));
     }
 
 pub read_additional_in-returns-in-Flag-clause-reads : goal.read_additional_in-returns-in-Flag-clause-reads
@@ -507,7 +295,7 @@ read_additional_in-returns-in-Flag-clause-reads t c =
 
 pub read_additional_in-returns-in-Flag-clause-count : goal.read_additional_in-returns-in-Flag-clause-count
 read_additional_in-returns-in-Flag-clause-count t c =
-    omega (arith, size-positive (shown c.args.view.now))
+    (omega arith, omega (arith, size-positive (shown c.args.view.now)))
 
 pub read_additional_in-returns-in-Object-clause-reads : goal.read_additional_in-returns-in-Object-clause-reads
 read_additional_in-returns-in-Object-clause-reads t c =
@@ -519,8 +307,7 @@ read_additional_in-returns-in_default t c =
     record {
       reads = wrong_here c.new.result words.FlagOrObject flag_or_schema (shown c.args.view.now) c.new.ensures.place
           c.new.ensures.cause (not_flag_or_object c.args.view.now c.in_default.not-Flag c.in_default.not-Object);
-      rises = omega arith;
-      count = omega (arith, size-positive (shown c.args.view.now));
+      count = (omega arith, omega (arith, size-positive (shown c.args.view.now)));
     }
 
 pub read_refs-schema_ref_from_node-requires : goal.read_refs-schema_ref_from_node-requires
@@ -531,12 +318,12 @@ read_refs-schema_ref_from_node-requires t c =
 pub read_refs-returns-in_err-push-in-Ok-schema_ref_from_node-clause-count : goal.read_refs-returns-in_err-push-in-Ok-schema_ref_from_node-clause-count
 read_refs-returns-in_err-push-in-Ok-schema_ref_from_node-clause-count t c =
     let next = next_item c.args.nodes.now c.loop-i.i c.index-nodes-i.result c.loop-i-test.true c.index-nodes-i.is in
-    omega (arith, next.within, c.schema_ref_from_node.ensures.count, c.loop-i.invariant.counted)
+    (omega (arith, c.loop-i.invariant.rises), omega (arith, next.within, c.schema_ref_from_node.ensures.count, c.loop-i.invariant.counted))
 
 pub read_refs-returns-in-Err-clause-count : goal.read_refs-returns-in-Err-clause-count
 read_refs-returns-in-Err-clause-count t c =
     let next = next_item c.args.nodes.now c.loop-i.i c.index-nodes-i.result c.loop-i-test.true c.index-nodes-i.is in
-    omega (arith, next.within, c.schema_ref_from_node.ensures.count, c.loop-i.invariant.counted)
+    (omega (arith, c.loop-i.invariant.rises), omega (arith, next.within, c.schema_ref_from_node.ensures.count, c.loop-i.invariant.counted))
 
 pub read_refs-returns-in-Err-clause-reads : goal.read_refs-returns-in-Err-clause-reads
 read_refs-returns-in-Err-clause-reads t c =
@@ -577,89 +364,3 @@ read_refs-returns-clause-reads t c =
     list_gives k ts (each ref_form c.loop-i.values.items)
     (sym (ap (every (conforms final_tables k)) whole) ∙ c.loop-i.invariant.holds)
     (sym (ap (each (form final_tables k)) whole) ∙ c.loop-i.invariant.same)
-
-pub read_named-schema_ref_from_node-requires : goal.read_named-schema_ref_from_node-requires
-read_named-schema_ref_from_node-requires t c =
-    let next = next_member c.args.members.now c.loop-i.i (c.entry_at.result.0.now, c.entry_at.result.1.now)
-    c.entry_at.ensures in
-    (omega (arith, next.within, c.decreases), tt)
-
-pub read_named-returns-in-Err-clause-reads : goal.read_named-returns-in-Err-clause-reads
-read_named-returns-in-Err-clause-reads t c =
-    let n = c.entry_at.result.0.now in
-    let u = c.entry_at.result.1.now in
-    let k = ref_to a_schema in
-    let ms = c.args.members.now in
-    let i = c.loop-i.i in
-    inr (entry_fails any_name ms i n u k c.in-Err.fault c.entry_at.ensures refl
-    (step_err inner_box_form (named n) k u c.in_inner_box.result c.in-Err.fault c.in-Err.ensures
-    (c.in_inner_box.ensures schema_form k u c.schema_ref_from_node.ensures.reads)))
-
-pub read_named-returns-in-Err-clause-count : goal.read_named-returns-in-Err-clause-count
-read_named-returns-in-Err-clause-count t c =
-    let n = c.entry_at.result.0.now in
-    let u = c.entry_at.result.1.now in
-    let k = ref_to a_schema in
-    let ms = c.args.members.now in
-    let i = c.loop-i.i in
-    omega (
-      arith,
-      c.loop-i.invariant.counted,
-      c.schema_ref_from_node.ensures.count,
-      next_within any_name ms i n u c.entry_at.ensures refl,
-    )
-
-pub read_named-returns-in_err-put-in-Ok-at_name-clause-count : goal.read_named-returns-in_err-put-in-Ok-at_name-clause-count
-read_named-returns-in_err-put-in-Ok-at_name-clause-count t c =
-    let n = c.entry_at.result.0.now in
-    let u = c.entry_at.result.1.now in
-    let k = ref_to a_schema in
-    let ms = c.args.members.now in
-    let i = c.loop-i.i in
-    omega (
-      arith,
-      c.loop-i.invariant.counted,
-      c.schema_ref_from_node.ensures.count,
-      next_within any_name ms i n u c.entry_at.ensures refl,
-    )
-
-pub read_named-put-requires : goal.read_named-put-requires
-read_named-put-requires t c =
-    let n = c.entry_at.result.0.now in
-    let u = c.entry_at.result.1.now in
-    let k = ref_to a_schema in
-    let ms = c.args.members.now in
-    let i = c.loop-i.i in
-    next_new any_name ms i n u c.entry_at.ensures refl inner_box_form k c.loop-i.values c.len-i-end.ensures.distinct
-    c.loop-i.invariant.same
-
-pub read_named-loop-i-preserved : goal.read_named-loop-i-preserved
-read_named-loop-i-preserved t c =
-    let n = c.entry_at.result.0.now in
-    let u = c.entry_at.result.1.now in
-    let k = ref_to a_schema in
-    let ms = c.args.members.now in
-    let i = c.loop-i.i in
-    let read = step_ok inner_box_form (named n) k u c.in_inner_box.result c.in-Ok-at_name.value c.in-Ok-at_name.ensures
-    (c.in_inner_box.ensures schema_form k u c.schema_ref_from_node.ensures.reads) in
-    record {
-      holds = next_holds any_name ms i n u c.entry_at.ensures refl k c.loop-i.invariant.holds read.0;
-      same = next_same any_name ms i n u c.entry_at.ensures refl inner_box_form k c.loop-i.values c.put.new.out
-          c.in-Ok-at_name.value c.loop-i.invariant.same read.1 c.in_ok-put-in-Ok-at_name.ensures.ok;
-      rises = omega (arith, c.loop-i.invariant.rises, c.schema_ref_from_node.ensures.rises);
-      counted = omega (
-        arith,
-        c.loop-i.invariant.counted,
-        c.schema_ref_from_node.ensures.count,
-        next_size any_name ms i n u c.entry_at.ensures refl,
-      );
-    }
-
-pub read_named-returns-clause-reads : goal.read_named-returns-clause-reads
-read_named-returns-clause-reads t c =
-    let ms = c.args.members.now in
-    let k = ref_to a_schema in
-    let whole = take_all c.loop-i.i ms (omega arith) in (
-      sym (ap (λ l. every (λ e. conforms final_tables k e.1) (chosen any_name l)) whole) ∙ c.loop-i.invariant.holds,
-      sym (ap (λ l. pairs_of (form final_tables k) (chosen any_name l)) whole) ∙ c.loop-i.invariant.same,
-    )

@@ -6,9 +6,7 @@ use Rattle.openapi_tables.specs.Kind.{ref_to, a_schema}
 use Rattle.openapi_tables.specs.Tables.{final_tables}
 use Rattle.openapi_tables.specs.Conforms.{conforms}
 use Rattle.openapi_tables.specs.Read.{form}
-use Rattle.openapi_rows.specs.Entries.{chosen, entries_size}
-use Rattle.openapi_tables.specs.Slots.{pairs_of}
-use Rattle.openapi_knots.specs.Reading.{any_name}
+use Rattle.openapi_fields.proofs.RecursiveReading.{SoFar}
 use Rattle.openapi_schema.specs.Reading.{ref_form, inner_box_form}
 use Rattle.openapi_schema.proofs.read.+read.Given as goal
 
@@ -75,12 +73,4 @@ invariant-read_refs-loop-i l =
     }
 
 abbrev pub invariant-read_named-loop-i : goal.invariant-read_named-loop-i
-invariant-read_named-loop-i l =
-    let k = ref_to a_schema in
-    let done = chosen any_name (take l.i l.members) in
-    record {
-      holds : every (λ e. conforms final_tables k e.1) done ≡ true;
-      same : pairs_of (form final_tables k) done ≡ pairs_of inner_box_form l.values;
-      rises : l.initial.steps ≤ l.steps;
-      counted : l.steps ≤ l.initial.steps + 3 * entries_size done;
-    }
+invariant-read_named-loop-i l = SoFar inner_box_form (ref_to a_schema) l.members l.initial.steps l.i l.values l.steps

@@ -3,7 +3,7 @@ use Rattle.openapi_tables.specs.Kind.{ref_to, a_schema}
 use Rattle.openapi_tables.specs.Members.{not_sort, kind_names, sort_rows}
 use Rattle.openapi_tables.specs.Tables.{any_rows}
 use Rattle.openapi_tables.specs.Tree.{members_list}
-use Rattle.openapi_rows.specs.Forms.{optional_form}
+use Rattle.openapi_fields.specs.Forms.{optional_form}
 use Rattle.openapi_schema.specs.RawSlots.{optional_rows, sort_slots}
 use Rattle.openapi_schema.specs.Reading.{outer_box_form}
 use Rattle.openapi_schema.proofs.CombinedForms.{not_rows-kind}

@@ -4,7 +4,7 @@ use Rattle.openapi_tables.specs.Members.{object_sort, array_sort, one_of_sort, a
 use Rattle.openapi_tables.specs.Members.{kind_names, sort_rows}
 use Rattle.openapi_tables.specs.Tables.{any_rows}
 use Rattle.openapi_tables.specs.Tree.{members_list}
-use Rattle.openapi_rows.specs.Forms.{list_form}
+use Rattle.openapi_fields.specs.Forms.{list_form}
 use Rattle.openapi_schema.specs.RawSlots.{optional_rows, sort_slots}
 use Rattle.openapi_schema.specs.Reading.{ref_form}
 use Rattle.openapi_schema.proofs.CombinedForms.{one_of_rows-kind, all_of_rows-kind, any_of_rows-kind}

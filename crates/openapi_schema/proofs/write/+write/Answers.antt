@@ -1,4 +1,4 @@
-use Rattle.std.proofs.Common.{◌≡◌, ◌∙◌, ◌∷◌, [], length, refl, sym, ap, subst, arith, rules}
+use Rattle.std.proofs.Common.{◌≡◌, ◌∙◌, ◌∷◌, length, sym, ap, subst, arith, rules}
 use Rattle.std.specs.Prelude.{◌==◌}
 use Rattle.std.proofs.lemmas.List.{take_all}
 use Rattle.openapi_tables.specs.Kind.{a_schema, flag_or_schema, list_of, listed, map_of, optional, ref_to}
@@ -8,21 +8,18 @@ use Rattle.openapi_tables.specs.Tables.{final_tables, tables_with, any_rows, arr
 use Rattle.openapi_tables.specs.Form.{absent, sequence, forms_of}
 use Rattle.openapi_tables.specs.Unwritable.{unwritable}
 use Rattle.openapi_tables.proofs.SlotWriting.{none_written}
-use Rattle.openapi_rows.specs.Entries.{written_entries, all_whole}
-use Rattle.openapi_rows.specs.Forms.{list_form, map_form}
-use Rattle.openapi_rows.specs.Gives.{Loses, WrittenAs}
-use Rattle.openapi_rows.proofs.Elements.{written, is_whole, list_written, item_loses}
-use Rattle.openapi_rows.proofs.Losing.{none_listed, none_mapped, not_silent}
-use Rattle.openapi_rows.proofs.Mapped.{map_written, map_loses}
-use Rattle.openapi_rows.proofs.Written.{entry_loses, next_absent, next_whole, next_written}
+use Rattle.openapi_fields.specs.Forms.{list_form, map_form}
+use Rattle.openapi_fields.specs.Returned.{NotWritable, WrittenAs}
+use Rattle.openapi_fields.proofs.RecursiveWriting.{all_put, next_lost, next_put, unwritten}
+use Rattle.openapi_fields.proofs.Elements.{written, is_whole, list_written, item_loses}
+use Rattle.openapi_fields.proofs.Losing.{none_listed, none_mapped, not_silent}
 use Rattle.openapi_schema.specs.Present.{additional_there, ref_there}
-use Rattle.openapi_knots.specs.Reading.{any_name}
 use Rattle.openapi_schema.specs.Reading.{ref_form, inner_box_form, outer_box_form}
 use Rattle.openapi_schema.specs.SchemaForms.{Sorted, additional_form, schema_form, schema_kind_rows, schema_type_rows}
-use Rattle.openapi_knots.specs.Writing.{RowsWritten}
+use Rattle.openapi_fields.specs.Writing.{RowsWritten}
 use Rattle.openapi_schema.specs.Writing.{kind_slots, sorted_slots, type_slots, untagged}
 use Rattle.openapi_schema.proofs.CombinedForms.{one_of_rows-kind, all_of_rows-kind, any_of_rows-kind, not_rows-kind}
-use Rattle.openapi_knots.proofs.FormSizes.{element_smaller, rows_size, value_smaller}
+use Rattle.openapi_fields.proofs.FormSizes.{element_smaller, rows_size, value_smaller}
 use Rattle.openapi_schema.proofs.KindForms.{any_rows-kind}
 use Rattle.openapi_schema.proofs.OpenedForms.{any_rows-out, array_rows-out, object_rows-out}
 use Rattle.openapi_schema.proofs.OpenedForms.{array_rows-type, boolean_rows-type, integer_rows-type, number_rows-type, object_rows-type}
@@ -30,6 +27,26 @@ use Rattle.openapi_schema.proofs.OpenedForms.{string_rows-type}
 use Rattle.openapi_schema.proofs.WholeSchemas.{data_loses}
 use Rattle.openapi_schema.proofs.WrittenForms.{kind_loses}
 use Rattle.openapi_schema.proofs.write.+write.Goals as goal
+
+pub write_named-put_written-requires : goal.write_named-put_written-requires
+write_named-put_written-requires t c =
+    unwritten inner_box_form (ref_to a_schema) c.args.values.now c.loop-i.i c.loop-i.out c.entry_at.ensures c.loop-i.invariant
+    c.len-i-end.ensures.distinct
+
+pub write_named-returns-in-Err : goal.write_named-returns-in-Err
+write_named-returns-in-Err t c =
+    next_lost inner_box_form (ref_to a_schema) c.args.values.now c.loop-i.i c.loop-i.out c.entry_at.ensures c.loop-i.invariant c.put_written.new.out
+    c.boxed_schema_ref_to_node.result c.put_written.result c.boxed_schema_ref_to_node.ensures c.put_written.ensures c.in-Err.fault c.in-Err.is
+
+pub write_named-loop-i-preserved : goal.write_named-loop-i-preserved
+write_named-loop-i-preserved t c =
+    next_put inner_box_form (ref_to a_schema) c.args.values.now c.loop-i.i c.loop-i.out c.entry_at.ensures c.loop-i.invariant c.put_written.new.out
+    c.boxed_schema_ref_to_node.result c.put_written.result c.boxed_schema_ref_to_node.ensures c.put_written.ensures c.in-Ok-put_written.is
+
+pub write_named-returns : goal.write_named-returns
+write_named-returns t c =
+    all_put inner_box_form (ref_to a_schema) c.args.values.now c.loop-i.i c.loop-i.out c.object.result (omega arith) c.loop-i.invariant
+    c.object.ensures
 
 pub any_rows-put_first-requires : goal.any_rows-put_first-requires
 any_rows-put_first-requires t c =
@@ -208,7 +225,7 @@ pub write_refs-returns-in-Err : goal.write_refs-returns-in-Err
 write_refs-returns-in-Err t c =
     let k = ref_to a_schema in
     let f = c.at_index.result in
-    subst (λ xs. Loses f (unwritable final_tables (list_of k) (sequence (forms_of (each ref_form xs)))))
+    subst (λ xs. NotWritable f (unwritable final_tables (list_of k) (sequence (forms_of (each ref_form xs)))))
     c.deref-value-items.ensures.value
     (item_loses ref_form k c.deref-value-items.result.now c.loop-i.i c.value-item.result f c.loop-i-test.true
     c.value-item.is
@@ -232,42 +249,6 @@ write_named-boxed_schema_ref_to_node-requires t c =
     let smaller = value_smaller inner_box_form c.args.values.now c.loop-i.i c.entry_at.result.0.now
     c.entry_at.result.1.now c.entry_at.ensures in
     (omega (arith, smaller, c.decreases), tt)
-
-pub write_named-put_written-requires : goal.write_named-put_written-requires
-write_named-put_written-requires t c =
-    next_absent inner_box_form (ref_to a_schema) c.args.values.now c.loop-i.i c.entry_at.result.0.now
-    c.entry_at.result.1.now c.entry_at.ensures [] c.loop-i.out refl c.len-i-end.ensures.distinct
-    c.loop-i.invariant.written
-
-pub write_named-returns-in-Err : goal.write_named-returns-in-Err
-write_named-returns-in-Err t c =
-    let k = ref_to a_schema in
-    let x = c.entry_at.result.1.now in
-    let put = c.put_written.ensures k (inner_box_form x) c.boxed_schema_ref_to_node.ensures in
-    map_loses inner_box_form k c.args.values.now c.in-Err.fault
-    (entry_loses inner_box_form k c.args.values.now c.loop-i.i c.entry_at.result.0.now x c.entry_at.ensures any_name
-    c.in-Err.fault (rw c.in-Err.is at put))
-
-pub write_named-loop-i-preserved : goal.write_named-loop-i-preserved
-write_named-loop-i-preserved t c =
-    let k = ref_to a_schema in
-    let vs = c.args.values.now in
-    let n = c.entry_at.result.0.now in
-    let x = c.entry_at.result.1.now in
-    let put = rw c.in-Ok-put_written.is at (c.put_written.ensures k (inner_box_form x) c.boxed_schema_ref_to_node.ensures) in
-    record {
-      written = next_written inner_box_form k vs c.loop-i.i n x c.entry_at.ensures [] c.loop-i.out
-          c.put_written.new.out c.loop-i.invariant.written put.0;
-      whole = next_whole inner_box_form k vs c.loop-i.i n x c.entry_at.ensures c.loop-i.invariant.whole put.1;
-    }
-
-pub write_named-returns : goal.write_named-returns
-write_named-returns t c =
-    let k = ref_to a_schema in
-    let all = take_all c.loop-i.i c.args.values.now (omega arith) in
-    map_written inner_box_form k c.args.values.now c.loop-i.out c.object.result
-    (c.loop-i.invariant.written ∙ ap (written_entries inner_box_form k) all)
-    (sym (ap (all_whole inner_box_form k) all) ∙ c.loop-i.invariant.whole) c.object.ensures
 
 pub write_schema-returns-in-Err : goal.write_schema-returns-in-Err
 write_schema-returns-in-Err t c = data_loses c.args.schema.now c.in-Err.fault c.in-Err.ensures

@@ -1,13 +1,13 @@
 use Rattle.std.proofs.Common.{◌≡◌, ◌+◌, ◌*◌, take, true}
 use Rattle.openapi_tables.specs.Lists.{each, every}
 use Rattle.openapi_tables.specs.Kind.{ref_to, a_schema}
-use Rattle.openapi_rows.proofs.Elements.{written, is_whole}
-use Rattle.openapi_rows.specs.Entries.{written_entries, all_whole}
-use Rattle.openapi_rows.specs.Forms.{list_form, map_form, optional_form}
+use Rattle.openapi_fields.proofs.RecursiveWriting.{WrittenSoFar}
+use Rattle.openapi_fields.proofs.Elements.{written, is_whole}
+use Rattle.openapi_fields.specs.Forms.{list_form, map_form, optional_form}
 use Rattle.openapi_schema.specs.Fields.{any_fields, array_fields, object_fields}
 use Rattle.openapi_schema.specs.Reading.{ref_form, inner_box_form, outer_box_form}
 use Rattle.openapi_schema.specs.SchemaForms.{additional_form, schema_form, schema_kind_rows, schema_type_rows}
-use Rattle.openapi_knots.proofs.FormSizes.{form_size, rows_size}
+use Rattle.openapi_fields.proofs.FormSizes.{form_size, rows_size}
 use Rattle.openapi_schema.proofs.write.+write.Given as goal
 
 -- the size of the form that is left to write; and for the same form, the caller above what it calls
@@ -73,9 +73,4 @@ invariant-write_refs-loop-i l =
     }
 
 abbrev pub invariant-write_named-loop-i : goal.invariant-write_named-loop-i
-invariant-write_named-loop-i l =
-    let done = take l.i l.values in
-    record {
-      written : l.out ≡ written_entries inner_box_form (ref_to a_schema) done;
-      whole : all_whole inner_box_form (ref_to a_schema) done ≡ true;
-    }
+invariant-write_named-loop-i l = WrittenSoFar inner_box_form (ref_to a_schema) l.values l.i l.out

@@ -1,45 +1,15 @@
-use Rattle.std.proofs.Common.{◌≡◌, ◌+◌, ◌≤◌, ◌∙◌, true, Result, IfOk, ap, refl, arith, codes}
-use Rattle.openapi_node.specs.Tree.{object, text, Members, members_of, members_size}
+use Rattle.std.proofs.Common.{◌∙◌, ap, refl, arith, codes}
+use Rattle.openapi_node.specs.Tree.{text, members_of}
 use Rattle.openapi_node.specs.View.{shown}
 use Rattle.openapi_node.specs.declared.fault.Expected.TheVariants as words
-use Rattle.openapi_node.specs.declared.fault.Fault.{Fault}
-use Rattle.openapi_tables.specs.Kind.{by, one_of, required, row}
-use Rattle.openapi_tables.specs.Tree.{members_list}
-use Rattle.openapi_tables.specs.Tables.{final_tables, parameter}
-use Rattle.openapi_tables.specs.Members.{held, is_case}
-use Rattle.openapi_tables.specs.Faults.{tag_table}
-use Rattle.openapi_tables.specs.ByRow.{row_weight, rows_weight}
-use Rattle.openapi_rows.specs.Gives.{Gives, GivesRows}
-use Rattle.openapi_rows.proofs.Below.{wrong_here, size-positive}
-use Rattle.openapi_rows.proofs.Tagging.{tagged_gives, tagged_weight, tag_weight, not_tagged, parameter_sound}
-use Rattle.openapi_parameters.specs.Parameters.{parameter_cases, parameter_form, parameter_location_word}
+use Rattle.openapi_tables.specs.Kind.{one_of}
+use Rattle.openapi_tables.specs.Tables.{parameter}
+use Rattle.openapi_fields.proofs.Below.{wrong_here, size-positive}
+use Rattle.openapi_fields.proofs.Tagging.{not_tagged, parameter_sound, tag_weight, tagged_read}
+use Rattle.openapi_parameters.specs.Parameters.{parameter_cases, parameter_location_word}
 use Rattle.openapi_parameters.specs.Parameters.{parameter_locations, parameter_rows, parameter_word}
-use Rattle.openapi_parameters.specs.declared.location.ParameterLocation.{ParameterLocation}
 use Rattle.openapi_parameters.specs.declared.location.ParameterLocation.TheVariants as locations
-use Rattle.openapi_parameters.specs.declared.parameter.Parameter.{Parameter}
 use Rattle.openapi_parameters.proofs.parameter.ParameterFromNode.from_view.Goals as goal
-
-location_known : (l : ParameterLocation) → is_case parameter_cases (parameter_location_word l) ≡ true
-location_known locations.Query = refl
-location_known locations.Header = refl
-location_known locations.Path = refl
-location_known locations.Cookie = refl
-
--- an object whose `in` is known
-module _ (l : ParameterLocation) (ms : Members)
-    (at : held (codes "in") (members_list ms) ≡ text (parameter_location_word l)) where
-  gives : (r : Result Parameter Fault) → IfOk r (λ x. parameter_word x ≡ parameter_location_word l)
-      → GivesRows parameter_rows r (by (tag_table parameter_cases (parameter_location_word l))) ms
-      → Gives parameter_form r parameter (object ms)
-  gives r word rows =
-      tagged_gives (codes "in") parameter_cases (parameter_location_word l) ms at (location_known l) parameter_word
-      parameter_rows r word rows
-
-  weighs : row_weight (row (codes "in") required (one_of parameter_locations)) ms
-      + rows_weight (final_tables (tag_table parameter_cases (parameter_location_word l))) ms ≤ members_size ms
-  weighs =
-      tagged_weight (codes "in") parameter_cases (parameter_location_word l) ms at (location_known l)
-      (one_of parameter_locations) parameter_sound
 
 pub returns-in_default-clause-reads : goal.returns-in_default-clause-reads
 returns-in_default-clause-reads c =
@@ -47,76 +17,39 @@ returns-in_default-clause-reads c =
     (not_tagged (codes "in") parameter_cases c.args.view.now c.in_default.not-Object)
 
 pub returns-in_default-clause-count : goal.returns-in_default-clause-count
-returns-in_default-clause-count c = omega (arith, size-positive (shown c.args.view.now))
+returns-in_default-clause-count c = (omega arith, omega (arith, size-positive (shown c.args.view.now)))
 
 pub returns-in-Err-clause-count : goal.returns-in-Err-clause-count
 returns-in-Err-clause-count c =
-    rw c.in-Object.is (omega (
-      arith,
-      c.tag.ensures.count,
-      tag_weight (codes "in") (one_of parameter_locations) (members_of c.in-Object.members.now),
+    rw c.in-Object.is ((
+      omega (arith, c.tag.ensures.count.0),
+      omega (
+        arith,
+        c.tag.ensures.count.1,
+        tag_weight (codes "in") (one_of parameter_locations) (members_of c.in-Object.members.now),
+      ),
     ))
 
-pub returns-in-Ok-Query-clause-reads : goal.returns-in-Ok-Query-clause-reads
-returns-in-Ok-Query-clause-reads c =
-    rw c.in-Object.is (gives locations.Query (members_of c.in-Object.members.now)
-    (c.in-Ok-Query.ensures.reads ∙ ap (λ l. text (parameter_location_word l)) c.in-Ok-Query.field-0-is)
-    c.read_query.result c.read_query.ensures.word c.read_query.ensures.reads)
+pub returns-in-Ok-Query : goal.returns-in-Ok-Query
+returns-in-Ok-Query c =
+    rw c.in-Object.is (tagged_read (codes "in") parameter_cases (codes "query") (members_of c.in-Object.members.now)
+    (c.in-Ok-Query.ensures.reads ∙ ap (λ l. text (parameter_location_word l)) c.in-Ok-Query.field-0-is) refl parameter_word
+    parameter_rows (one_of parameter_locations) c.read_query.result parameter_sound c.tag.ensures.count c.read_query.ensures)
 
-pub returns-in-Ok-Query-clause-count : goal.returns-in-Ok-Query-clause-count
-returns-in-Ok-Query-clause-count c =
-    rw c.in-Object.is (omega (
-      arith,
-      c.tag.ensures.count,
-      c.read_query.ensures.count,
-      weighs locations.Query (members_of c.in-Object.members.now)
-          (c.in-Ok-Query.ensures.reads ∙ ap (λ l. text (parameter_location_word l)) c.in-Ok-Query.field-0-is),
-    ))
+pub returns-in-Ok-Header : goal.returns-in-Ok-Header
+returns-in-Ok-Header c =
+    rw c.in-Object.is (tagged_read (codes "in") parameter_cases (codes "header") (members_of c.in-Object.members.now)
+    (c.in-Ok-Header.ensures.reads ∙ ap (λ l. text (parameter_location_word l)) c.in-Ok-Header.field-0-is) refl parameter_word
+    parameter_rows (one_of parameter_locations) c.read_header.result parameter_sound c.tag.ensures.count c.read_header.ensures)
 
-pub returns-in-Ok-Header-clause-reads : goal.returns-in-Ok-Header-clause-reads
-returns-in-Ok-Header-clause-reads c =
-    rw c.in-Object.is (gives locations.Header (members_of c.in-Object.members.now)
-    (c.in-Ok-Header.ensures.reads ∙ ap (λ l. text (parameter_location_word l)) c.in-Ok-Header.field-0-is)
-    c.read_header.result c.read_header.ensures.word c.read_header.ensures.reads)
+pub returns-in-Ok-Path : goal.returns-in-Ok-Path
+returns-in-Ok-Path c =
+    rw c.in-Object.is (tagged_read (codes "in") parameter_cases (codes "path") (members_of c.in-Object.members.now)
+    (c.in-Ok-Path.ensures.reads ∙ ap (λ l. text (parameter_location_word l)) c.in-Ok-Path.field-0-is) refl parameter_word
+    parameter_rows (one_of parameter_locations) c.read_path.result parameter_sound c.tag.ensures.count c.read_path.ensures)
 
-pub returns-in-Ok-Header-clause-count : goal.returns-in-Ok-Header-clause-count
-returns-in-Ok-Header-clause-count c =
-    rw c.in-Object.is (omega (
-      arith,
-      c.tag.ensures.count,
-      c.read_header.ensures.count,
-      weighs locations.Header (members_of c.in-Object.members.now)
-          (c.in-Ok-Header.ensures.reads ∙ ap (λ l. text (parameter_location_word l)) c.in-Ok-Header.field-0-is),
-    ))
-
-pub returns-in-Ok-Path-clause-reads : goal.returns-in-Ok-Path-clause-reads
-returns-in-Ok-Path-clause-reads c =
-    rw c.in-Object.is (gives locations.Path (members_of c.in-Object.members.now)
-    (c.in-Ok-Path.ensures.reads ∙ ap (λ l. text (parameter_location_word l)) c.in-Ok-Path.field-0-is)
-    c.read_path.result c.read_path.ensures.word c.read_path.ensures.reads)
-
-pub returns-in-Ok-Path-clause-count : goal.returns-in-Ok-Path-clause-count
-returns-in-Ok-Path-clause-count c =
-    rw c.in-Object.is (omega (
-      arith,
-      c.tag.ensures.count,
-      c.read_path.ensures.count,
-      weighs locations.Path (members_of c.in-Object.members.now)
-          (c.in-Ok-Path.ensures.reads ∙ ap (λ l. text (parameter_location_word l)) c.in-Ok-Path.field-0-is),
-    ))
-
-pub returns-in-Ok-Cookie-clause-reads : goal.returns-in-Ok-Cookie-clause-reads
-returns-in-Ok-Cookie-clause-reads c =
-    rw c.in-Object.is (gives locations.Cookie (members_of c.in-Object.members.now)
-    (c.in-Ok-Cookie.ensures.reads ∙ ap (λ l. text (parameter_location_word l)) c.in-Ok-Cookie.field-0-is)
-    c.read_cookie.result c.read_cookie.ensures.word c.read_cookie.ensures.reads)
-
-pub returns-in-Ok-Cookie-clause-count : goal.returns-in-Ok-Cookie-clause-count
-returns-in-Ok-Cookie-clause-count c =
-    rw c.in-Object.is (omega (
-      arith,
-      c.tag.ensures.count,
-      c.read_cookie.ensures.count,
-      weighs locations.Cookie (members_of c.in-Object.members.now)
-          (c.in-Ok-Cookie.ensures.reads ∙ ap (λ l. text (parameter_location_word l)) c.in-Ok-Cookie.field-0-is),
-    ))
+pub returns-in-Ok-Cookie : goal.returns-in-Ok-Cookie
+returns-in-Ok-Cookie c =
+    rw c.in-Object.is (tagged_read (codes "in") parameter_cases (codes "cookie") (members_of c.in-Object.members.now)
+    (c.in-Ok-Cookie.ensures.reads ∙ ap (λ l. text (parameter_location_word l)) c.in-Ok-Cookie.field-0-is) refl parameter_word
+    parameter_rows (one_of parameter_locations) c.read_cookie.result parameter_sound c.tag.ensures.count c.read_cookie.ensures)

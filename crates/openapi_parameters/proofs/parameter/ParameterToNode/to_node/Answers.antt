@@ -1,8 +1,8 @@
 use Rattle.std.proofs.Common.{subst, codes}
 use Rattle.openapi_tables.specs.Tables.{final_tables}
 use Rattle.openapi_tables.proofs.SlotWriting.{none_written}
-use Rattle.openapi_rows.specs.Gives.{Loses}
-use Rattle.openapi_rows.proofs.Tagging.{tagged_writes, tagged_loses}
+use Rattle.openapi_fields.specs.Returned.{NotWritable}
+use Rattle.openapi_fields.proofs.Tagging.{tagged_writes, tagged_loses}
 use Rattle.openapi_parameters.specs.Parameters.{parameter_cases, parameter_known, parameter_rows, parameter_word}
 use Rattle.openapi_parameters.proofs.parameter.ParameterToNode.to_node.Goals as goal
 
@@ -21,7 +21,7 @@ pub returns-in-Err : goal.returns-in-Err
 returns-in-Err c =
     let x = c.args.self.now in
     record {
-      written = subst (λ ps. Loses c.in-Err.fault ps)
+      written = subst (λ ps. NotWritable c.in-Err.fault ps)
           (tagged_loses (codes "in") parameter_cases parameter_word parameter_rows x (parameter_known x))
           c.in-Err.ensures.err;
     }

@@ -8,7 +8,7 @@ pub returns-in_err-read_format-clause-reads : goal.returns-in_err-read_format-cl
 unfolding final_tables tables_with
 returns-in_err-read_format-clause-reads c =
     let p = err_from_is_err_and c.from_residual-in_err-read_format.result c.from_residual-in_err-read_format.ensures.1 in
-    rw (p.1, p.2) (c.in_err-read_format.ensures.reads (by parameter_data) refl refl)
+    rw (p.1, p.2) (c.in_err-read_format.ensures.reads parameter_data refl)
 
 pub returns-clause-reads : goal.returns-clause-reads
 unfolding final_tables tables_with
@@ -21,7 +21,7 @@ returns-clause-reads c = (
       (
         c.in_ok-deprecated.ensures.reads,
         (
-          c.in_ok-read_format.ensures.reads (by parameter_data) refl refl,
+          c.in_ok-read_format.ensures.reads parameter_data refl,
           (
             c.in_ok-optional-2.ensures.reads,
             (

@@ -1,8 +1,8 @@
 use Rattle.std.proofs.Common.{refl}
 use Rattle.openapi_tables.specs.Kind.{parameter_data}
 use Rattle.openapi_tables.specs.Tables.{final_tables, tables_with}
-use Rattle.openapi_rows.specs.Forms.{record_slots}
-use Rattle.openapi_contents.proofs.Opened.{format_held}
+use Rattle.openapi_fields.specs.Forms.{record_slots}
+use Rattle.openapi_media_types.proofs.Opened.{format_held}
 use Rattle.openapi_parameters.specs.Parameters.{parameter_data_rows}
 use Rattle.openapi_parameters.proofs.parameter_data.ParameterDataRecord.put_rows.Goals as goal
 

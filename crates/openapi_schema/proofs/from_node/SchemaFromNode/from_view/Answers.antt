@@ -3,7 +3,7 @@ use Rattle.openapi_node.specs.Tree.{members_of}
 use Rattle.openapi_node.specs.View.{shown}
 use Rattle.openapi_node.specs.declared.fault.Expected.TheVariants as words
 use Rattle.openapi_tables.specs.Kind.{a_schema}
-use Rattle.openapi_rows.proofs.Below.{wrong_here, size-positive}
+use Rattle.openapi_fields.proofs.Below.{wrong_here, size-positive}
 use Rattle.openapi_schema.proofs.KindGives.{schema_weight-le}
 use Rattle.openapi_schema.proofs.Refusals.{not_schema}
 use Rattle.openapi_schema.proofs.from_node.SchemaFromNode.from_view.Goals as goal
@@ -13,11 +13,14 @@ returns-in-Object-clause-reads c = rw c.in-Object.is (c.schema_with.ensures.read
 
 pub returns-in-Object-clause-count : goal.returns-in-Object-clause-count
 returns-in-Object-clause-count c =
-    rw c.in-Object.is (omega (
-      arith,
-      schema_weight-le (members_of c.in-Object.members.now),
-      c.read_kind.ensures.count,
-      c.schema_with.ensures.count,
+    rw c.in-Object.is ((
+      omega (arith, c.read_kind.ensures.count.0, c.schema_with.ensures.count.0),
+      omega (
+        arith,
+        schema_weight-le (members_of c.in-Object.members.now),
+        c.read_kind.ensures.count.1,
+        c.schema_with.ensures.count.1,
+      ),
     ))
 
 pub returns-in_default-clause-reads : goal.returns-in_default-clause-reads
@@ -26,4 +29,4 @@ returns-in_default-clause-reads c =
     (not_schema c.args.view.now c.in_default.not-Object)
 
 pub returns-in_default-clause-count : goal.returns-in_default-clause-count
-returns-in_default-clause-count c = omega (arith, size-positive (shown c.args.view.now))
+returns-in_default-clause-count c = (omega arith, omega (arith, size-positive (shown c.args.view.now)))

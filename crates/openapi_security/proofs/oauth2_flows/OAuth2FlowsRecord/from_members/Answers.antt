@@ -1,5 +1,5 @@
 use Rattle.openapi_tables.specs.Tables.{final_tables, tables_with}
-use Rattle.openapi_rows.proofs.Joining.{joined_ok}
+use Rattle.openapi_fields.proofs.Joining.{joined_ok}
 use Rattle.openapi_security.proofs.oauth2_flows.OAuth2FlowsRecord.from_members.Goals as goal
 
 pub returns-clause-reads : goal.returns-clause-reads

@@ -1,8 +1,8 @@
 use Rattle.std.proofs.Common.{subst, codes}
 use Rattle.openapi_tables.specs.Tables.{final_tables}
 use Rattle.openapi_tables.proofs.SlotWriting.{none_written}
-use Rattle.openapi_rows.specs.Gives.{Loses}
-use Rattle.openapi_rows.proofs.Tagging.{tagged_writes, tagged_loses}
+use Rattle.openapi_fields.specs.Returned.{NotWritable}
+use Rattle.openapi_fields.proofs.Tagging.{tagged_writes, tagged_loses}
 use Rattle.openapi_security.specs.Schemes.{scheme_cases, security_scheme_word, security_scheme_rows}
 use Rattle.openapi_security.specs.Schemes.{security_scheme_known}
 use Rattle.openapi_security.proofs.security_scheme.SecuritySchemeToNode.to_node.Goals as goal
@@ -22,7 +22,7 @@ pub returns-in-Err : goal.returns-in-Err
 returns-in-Err c =
     let x = c.args.self.now in
     record {
-      written = subst (λ ps. Loses c.in-Err.fault ps)
+      written = subst (λ ps. NotWritable c.in-Err.fault ps)
           (tagged_loses (codes "type") scheme_cases security_scheme_word security_scheme_rows x
           (security_scheme_known x)) c.in-Err.ensures.err;
     }

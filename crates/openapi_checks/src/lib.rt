@@ -1,4 +1,0 @@
-//! What tests and cases share: trees from JSON text, with their members in order.
-#![tactic(auto)]
-
-pub mod trees;

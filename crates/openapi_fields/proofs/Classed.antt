@@ -1,0 +1,248 @@
+-- The row of a class of names, by what is read and written of its entries.
+use Rattle.std.proofs.Common.{◌≡◌, ℕ, suc, ◌+◌, Bool, true, false, cond, ◌&&◌, List, [], ◌∷◌, ◌++◌, slice_get, Some, None, Result, Ok, Err, OnOk, IfErr, refl, sym, ap, ◌∙◌, subst, inl, inr, ⊎_elim}
+use Rattle.std.proofs.lemmas.Bool.{and_parts, and_from}
+use Rattle.openapi_map.specs.Entries.{Entries, get}
+use Rattle.openapi_node.specs.Fault.{place_of}
+use Rattle.openapi_node.specs.Place.{Place, named}
+use Rattle.openapi_node.specs.Tree.{Tree, object, members_of, size_of}
+use Rattle.openapi_node.specs.declared.fault.Fault.{Fault}
+use Rattle.openapi_tables.specs.Kind.{Kind, Class, extensions, callback_names, path_names, status_names, class, in_class}
+use Rattle.openapi_tables.specs.Lists.{every, is_empty}
+use Rattle.openapi_tables.specs.Tables.{final_tables}
+use Rattle.openapi_tables.specs.Tree.{Entry, of_tree, of_members, members_list}
+use Rattle.openapi_tables.specs.Members.{own}
+use Rattle.openapi_tables.specs.Conforms.{conforms, root_conforms}
+use Rattle.openapi_tables.specs.Form.{Form, name, Pair, named as named_form, named_of}
+use Rattle.openapi_tables.specs.Read.{form, root_form, key_in, pairs_as, gather, same_key}
+use Rattle.openapi_tables.specs.Faults.{Asks, root_asks, asked, asks_row, asks_members, below}
+use Rattle.openapi_tables.specs.Laws.{Among}
+use Rattle.openapi_tables.specs.Print.{print}
+use Rattle.openapi_tables.specs.Unwritable.{unwritable}
+use Rattle.openapi_tables.specs.Proper.{is_written}
+use Rattle.openapi_tables.specs.ByRow.{
+  is_class,
+  row_where,
+  rows_asked,
+  row_conforms,
+  row_form,
+  row_weight,
+  weight,
+  asking,
+  StepsTo,
+}
+use Rattle.openapi_tables.specs.Slots.{Slot, slot_where, before, through, slots_apart, slots_lost, IsWritten, pairs_of}
+use Rattle.openapi_tables.proofs.ByRowLaws.{among_left, among_right, among_below, among_flat, rows_ask}
+use Rattle.openapi_tables.proofs.ListLaws.{same_text-refl}
+use Rattle.openapi_tables.proofs.SlotWriting.{prints, is_kept, is_new, class_put, class_key_loses, class_value_loses}
+use Rattle.openapi_fields.specs.Entries.{
+  chosen,
+  entries_size,
+  EntriesReadAs,
+  written_entries,
+  all_whole,
+  EntryNotWritable,
+  EntriesNotWritable,
+}
+use Rattle.openapi_fields.specs.Forms.{map_form}
+use Rattle.openapi_fields.specs.Returned.{FailsBelow, RowReadAs, NotWritableBy, NotWritable}
+use Rattle.openapi_fields.proofs.Below.{memory_fails, fails_above}
+use Rattle.openapi_fields.proofs.Losing.{memory_loses, loses_above}
+
+chosen_same : {X : Type 0} (p q : List ℕ → Bool) → ((n : List ℕ) → p n ≡ q n) → (es : Entries X) → chosen p es
+    ≡ chosen q es
+chosen_same p q h [] = refl
+chosen_same p q h (e ∷ es) = λ j. cond (h e.0 j) (e ∷ chosen_same p q h es j) (chosen_same p q h es j)
+
+-- the members that a class takes, as the definitions see them
+module _ (c : Class) (k : Kind) where
+  class_conforms : (ms : Entries Tree) → row_conforms final_tables (class c k) (members_of ms)
+      ≡ every (λ (e : List ℕ × Tree). conforms final_tables k e.1) (chosen (in_class c) ms)
+  unfolding row_conforms
+  class_conforms [] = refl
+  class_conforms (m ∷ ms) = go (in_class c m.0) (class_conforms ms)
+    where
+      go : (b : Bool) → every (λ e. e.value.answer k) (own (class c k) (of_members (root_conforms final_tables)
+          (members_of ms)))
+          ≡ every (λ (e : List ℕ × Tree). conforms final_tables k e.1) (chosen (in_class c) ms)
+          → every (λ e. e.value.answer k) (cond b (record {
+            name = m.0;
+            value = record {
+              tree = m.1;
+              answer = of_tree
+                  (root_conforms final_tables) m.1;
+            };
+          }
+          ∷ own (class c k) (of_members (root_conforms final_tables) (members_of ms))) (own (class c k) (of_members
+          (root_conforms final_tables) (members_of ms))))
+          ≡ every (λ (e : List ℕ × Tree). conforms final_tables k e.1) (cond b (m ∷ chosen (in_class c) ms) (chosen
+          (in_class c) ms))
+      go true h = ap (λ b. conforms final_tables k m.1 && b) h
+      go false h = h
+
+  class_pairs : ((n : List ℕ) → key_in c n ≡ name n) → (ms : Entries Tree)
+      → pairs_as (key_in c) k (own (class c k) (of_members (root_form final_tables) (members_of ms)))
+      ≡ pairs_of (form final_tables k) (chosen (in_class c) ms)
+  class_pairs keys [] = refl
+  class_pairs keys (m ∷ ms) = go (in_class c m.0) (class_pairs keys ms)
+    where
+      go : (b : Bool) → pairs_as (key_in c) k (own (class c k) (of_members (root_form final_tables) (members_of ms)))
+          ≡ pairs_of (form final_tables k) (chosen (in_class c) ms)
+          → pairs_as (key_in c) k (cond b (record {
+            name = m.0;
+            value = record {
+              tree = m.1;
+              answer = of_tree
+                  (root_form final_tables) m.1;
+            };
+          }
+          ∷ own (class c k) (of_members (root_form final_tables) (members_of ms))) (own (class c k) (of_members
+          (root_form final_tables) (members_of ms))))
+          ≡ pairs_of (form final_tables k) (cond b (m ∷ chosen (in_class c) ms) (chosen (in_class c) ms))
+      go true h = λ j. record { key = keys m.0 j; value = form final_tables k m.1 } ∷ h j
+      go false h = h
+
+  gathered : ((n : List ℕ) → key_in c n ≡ name n) → (es : List (Pair Form)) → gather c es ≡ es
+  gathered keys es = go c keys
+    where
+      go : (c : Class) → ((n : List ℕ) → key_in c n ≡ name n) → gather c es ≡ es
+      go extensions h = refl
+      go callback_names h = refl
+      go path_names h = refl
+      go status_names h = let no = h (50 ∷ 48 ∷ 48 ∷ []) in cc
+
+  pub class_size : (ms : Entries Tree) → row_weight (class c k) (members_of ms) ≡ entries_size (chosen (in_class c) ms)
+  unfolding row_weight
+  class_size [] = refl
+  class_size (m ∷ ms) = go (in_class c m.0) (class_size ms)
+    where
+      go : (b : Bool) → weight (own (class c k) (members_list (members_of ms))) ≡ entries_size (chosen (in_class c) ms)
+          → weight (cond b (record { name = m.0; value = m.1 } ∷ own (class c k) (members_list (members_of ms)))
+          (own (class c k) (members_list (members_of ms))))
+          ≡ entries_size (cond b (m ∷ chosen (in_class c) ms) (chosen (in_class c) ms))
+      go true h = ap (λ s. size_of m.1 + s) h
+      go false h = h
+
+  -- what an entry is asked
+  entry_asked : (ms : Entries Tree) (e : List ℕ × Tree) (p : Place) (j : Kind) (v : Tree)
+      → Among e (chosen (in_class c) ms)
+      → Among (asking p j v) (asked final_tables k e.1)
+      → Among (asking (named e.0 ∷ p) j v) (asks_row (of_members (root_asks final_tables) (members_of ms)) (class c k))
+  entry_asked [] e p j v h a = absurd h
+  entry_asked (m ∷ ms) e p j v h a = go (in_class c m.0) h (λ g. entry_asked ms e p j v g a)
+    where
+      rest : List (Entry Asks)
+      rest = own (class c k) (of_members (root_asks final_tables) (members_of ms))
+
+      go : (b : Bool) → Among e (cond b (m ∷ chosen (in_class c) ms) (chosen (in_class c) ms))
+          → (Among e (chosen (in_class c) ms) → Among (asking (named e.0 ∷ p) j v) (asks_members k rest))
+          → Among (asking (named e.0 ∷ p) j v) (asks_members k (cond b (record {
+            name = m.0;
+            value = record { tree = m.1; answer = of_tree (root_asks final_tables) m.1 };
+          } ∷ rest) rest))
+      go true (inl s) more =
+          among_left (asking (named e.0 ∷ p) j v) (below (named m.0) (asked final_tables k m.1)) (asks_members k rest)
+          (subst (λ (x : List ℕ × Tree). Among (asking (named e.0 ∷ p) j v) (below (named x.0) (asked final_tables k
+          x.1))) s
+          (among_below (named e.0) p j v (asked final_tables k e.1) a))
+      go true (inr s) more =
+          among_right (asking (named e.0 ∷ p) j v) (below (named m.0) (asked final_tables k m.1)) (asks_members k
+          rest) (more s)
+      go false s more = more s
+
+  class_asks : (o : Kind) (ms : Entries Tree) (e : List ℕ × Tree)
+      → row_where (is_class c) (rows_asked final_tables o) ≡ Some (class c k) → Among e (chosen (in_class c) ms)
+      → StepsTo final_tables o (object (members_of ms)) (named e.0) k e.1
+  class_asks o ms e at h p j v a =
+      rows_ask final_tables o (members_of ms) (asking (named e.0 ∷ p) j v)
+      (among_flat (asking (named e.0 ∷ p) j v) (asks_row (of_members (root_asks final_tables) (members_of ms)))
+      (is_class c)
+      (class c k) (rows_asked final_tables o) at (entry_asked ms e p j v h a))
+
+  module _ (test : List ℕ → Bool) (tests : (n : List ℕ) → test n ≡ in_class c n) (keys : (n : List ℕ) → key_in c n
+      ≡ name n)
+      {X : Type 0} (view : X → Form) where
+    -- what the class gives
+    pub class_gives : (r : Result (Entries X) Fault) (o : Kind) (ms : Entries Tree)
+        → row_where (is_class c) (rows_asked final_tables o) ≡ Some (class c k) → EntriesReadAs view r k (chosen test ms)
+        → RowReadAs (map_form view) r o (class c k) (members_of ms)
+    unfolding row_form
+    class_gives (Ok m) o ms at h =
+        let same = chosen_same test (in_class c) tests ms in (
+          class_conforms ms ∙ sym (ap (every (λ (e : List ℕ × Tree). conforms final_tables k e.1)) same) ∙ h.0,
+          ap (λ l. named_form (named_of l)) (gathered keys (pairs_as (key_in c) k
+              (own (class c k) (of_members (root_form final_tables) (members_of ms))))
+              ∙ class_pairs keys ms ∙ sym (ap (pairs_of (form final_tables k)) same) ∙ h.1),
+        )
+    class_gives (Err f) o ms at h =
+        ⊎_elim (λ m. memory_fails f o (object (members_of ms)) m)
+        (λ (x : (e : List ℕ × Tree) × Among e (chosen test ms) × FailsBelow (named e.0) f k e.1).
+        fails_above (named (x.0).0) f o k (object (members_of ms)) (x.0).1
+        (class_asks o ms x.0 at (subst (λ l. Among x.0 l) (chosen_same test (in_class c) tests ms) x.1)) x.2) h
+
+    pub class_count : (ms : Entries Tree) → row_weight (class c k) (members_of ms) ≡ entries_size (chosen test ms)
+    class_count ms = class_size ms ∙ sym (ap entries_size (chosen_same test (in_class c) tests ms))
+
+    -- what the class is written as
+    pairs_print : (vs : Entries X) → prints final_tables c k (pairs_of view vs) ≡ written_entries view k vs
+    pairs_print [] = refl
+    pairs_print (e ∷ vs) = ap (λ l. (e.0, print final_tables k (view e.1)) ∷ l) (pairs_print vs)
+
+    name_written : (n : List ℕ) → is_written c (name n) ≡ test n
+    name_written n = (λ j. same_key (keys n j) (name n) && sym (tests n) j) ∙ ap (λ b. b && test n) (same_text-refl n)
+
+    pairs_kept : (vs : Entries X) → every (λ (e : List ℕ × X). test e.0) vs ≡ true → all_whole view k vs ≡ true
+        → every (is_kept final_tables c k) (pairs_of view vs) ≡ true
+    pairs_kept [] h g = refl
+    pairs_kept (e ∷ vs) h g =
+        let p = and_parts (test e.0) (every (λ (e : List ℕ × X). test e.0) vs) h in
+        let q = and_parts (is_empty (unwritable final_tables k (view e.1))) (all_whole view k vs) g in
+        and_from _ _ (and_from _ _ (name_written e.0 ∙ p.0) q.0) (pairs_kept vs p.1 q.1)
+
+    index_of : (vs : Entries X) (e : List ℕ × X) → Among e vs
+        → (j : ℕ) × (slice_get (pairs_of view vs) j ≡ Some (record { key = name e.0; value = view e.1 }))
+    index_of [] e h = absurd h
+    index_of (v ∷ vs) e (inl s) = (
+      0,
+      ap (λ (x : List ℕ × X). Some (record { key = name x.0; value = view x.1 }))
+          (sym s),
+    )
+    index_of (v ∷ vs) e (inr h) = let r = index_of vs e h in (suc r.0, r.1)
+
+    module _ (ss : List Slot) (vs : Entries X) (at : slot_where (is_class c) ss ≡ Some (class c k, map_form view vs))
+        (out : Entries Tree) (done : IsWritten final_tables (before (is_class c) ss) out) where
+      pub class_new : slots_apart ss ≡ true → (n : List ℕ) → test n ≡ true → get n out ≡ None
+      class_new a n h = is_new final_tables ss (is_class c) (class c k, map_form view vs) at out done a n (sym (tests
+          n) ∙ h)
+
+      pub class_written : {A : Type 0} (r : Result A Fault) (new : Entries Tree)
+          → OnOk r (new ≡ out ++ written_entries view k vs) → OnOk r (every (λ (e : List ℕ × X). test e.0) vs ≡ true)
+          → OnOk r (all_whole view k vs ≡ true) → OnOk r (IsWritten final_tables (through (is_class c) ss) new)
+      class_written (Ok x) new e h g =
+          class_put final_tables c k ss (pairs_of view vs) at out done new (e
+          ∙ ap (λ l. out ++ l) (sym (pairs_print vs)))
+          (pairs_kept vs h g)
+      class_written (Err f) new e h g = tt
+
+      one_loses : (f : Fault) (e : List ℕ × X) → Among e vs → EntryNotWritable test view k f e
+          → NotWritable f (slots_lost final_tables ss)
+      one_loses f e a (inl h) =
+          let i = index_of vs e a in
+          let lost = class_key_loses final_tables c k ss (pairs_of view vs) at out done i.0 (record {
+            key = name e.0;
+            value = view e.1;
+          })
+          i.1 (name_written e.0 ∙ h.0) in
+          subst (λ d. NotWritableBy d (place_of f) (slots_lost final_tables ss)) (sym h.1)
+          (subst (λ q. Among q (slots_lost final_tables ss)) (sym h.2) lost)
+      one_loses f e a (inr h) =
+          let i = index_of vs e a in
+          loses_above (named e.0) f (unwritable final_tables k (view e.1)) (slots_lost final_tables ss)
+          (λ q g. class_value_loses final_tables c k ss (pairs_of view vs) at out done i.0
+          (record { key = name e.0; value = view e.1 }) q i.1 g) h
+
+      pub class_loses : {A : Type 0} (r : Result A Fault) → IfErr r (λ f. EntriesNotWritable test view k f vs)
+          → IfErr r (λ f. NotWritable f (slots_lost final_tables ss))
+      class_loses (Ok x) h = tt
+      class_loses (Err f) h =
+          ⊎_elim (λ m. memory_loses f (slots_lost final_tables ss) m)
+          (λ (x : (e : List ℕ × X) × Among e vs × EntryNotWritable test view k f e). one_loses f x.0 x.1 x.2) h

@@ -1,0 +1,30 @@
+-- Members that are there and not null, by the looks at them.
+use Rattle.std.proofs.Common.{◌≡◌, ℕ, false, List, Option, Some, None, Result, Ok, Err, refl, ap, ◌∙◌}
+use Rattle.openapi_node.specs.Tree.{Tree}
+use Rattle.openapi_node.specs.View.{shown}
+use Rattle.openapi_node.specs.declared.fault.Fault.{Fault}
+use Rattle.openapi_node.specs.declared.node.View.{View}
+use Rattle.openapi_node.specs.declared.node.View.TheVariants as v
+use Rattle.openapi_tables.specs.Kind.{Kind}
+use Rattle.openapi_tables.specs.Members.{is_null}
+use Rattle.openapi_tables.specs.Form.{Form}
+use Rattle.openapi_fields.specs.Returned.{ReadAs, MemberReadAs}
+use Rattle.openapi_fields.specs.Presence.{AtMember}
+
+-- what was read of a tree is what is read of the member that it is
+pub at_member : {X : Type 0} → (view : X → Form) (n : List ℕ) (k : Kind) (t : Tree) (r : Result X Fault)
+    (s : Result (Option X) Fault) → AtMember n r s → ReadAs view r k t → MemberReadAs view s k n (Some t)
+at_member view n k t (Ok x) (Ok (Some y)) e h = (h.0, h.1 ∙ ap view e)
+at_member view n k t (Ok x) (Ok None) e h = absurd e
+at_member view n k t (Ok x) (Err f) e h = absurd e
+at_member view n k t (Err d) (Ok y) e h = absurd e
+at_member view n k t (Err d) (Err f) e h = (d, e, h)
+
+-- a look that shows something other than null
+pub shown_there : (w : View) → (w ≡ v.Null → ⊥) → is_null (shown w) ≡ false
+shown_there v.Null h = absurd (h refl)
+shown_there (v.Flag b) h = refl
+shown_there (v.Whole z) h = refl
+shown_there (v.Text s) h = refl
+shown_there (v.List ts) h = refl
+shown_there (v.Object m) h = refl

@@ -1,0 +1,43 @@
+-- Objects by a table: what their rows give, and what they are written as.
+use Rattle.std.proofs.Common.{◌≡◌, ◌≤◌, List, [], Result, Ok, Err, refl, sym, ap, ◌∙◌}
+use Rattle.openapi_map.specs.Entries.{Entries}
+use Rattle.openapi_node.specs.Tree.{Tree, object, Members, members_of, members_size}
+use Rattle.openapi_node.specs.declared.fault.Fault.{Fault}
+use Rattle.openapi_tables.specs.Kind.{by, TableName}
+use Rattle.openapi_tables.specs.Tables.{final_tables}
+use Rattle.openapi_tables.specs.Members.{plain, rows_of}
+use Rattle.openapi_tables.specs.Form.{Form}
+use Rattle.openapi_tables.specs.Print.{print}
+use Rattle.openapi_tables.specs.Unwritable.{unwritable}
+use Rattle.openapi_tables.specs.ByRow.{rows_weight}
+use Rattle.openapi_tables.specs.Slots.{slots_lost, IsWritten}
+use Rattle.openapi_tables.proofs.ByRowLaws.{object_gives, table_weight-le}
+use Rattle.openapi_tables.proofs.SlotWriting.{fields_print, fields_lost}
+use Rattle.openapi_tables.proofs.WellMade.{final_sound}
+use Rattle.openapi_fields.specs.Forms.{record_form, record_slots}
+use Rattle.openapi_fields.specs.Returned.{ReadAs, RowsReadAs}
+
+-- what the rows give is what the object gives
+pub record_gives : {X : Type 0} (rows : X → List Form) (r : Result X Fault) (i : TableName) (ms : Members)
+    → RowsReadAs rows r (by i) ms → ReadAs (record_form rows) r (by i) (object ms)
+record_gives rows (Ok x) i ms h = object_gives final_tables i (rows x) ms h
+record_gives rows (Err f) i ms h = h
+
+-- the rows weigh at most what the members do
+pub record_weight : (i : TableName) (ms : Members) → rows_weight (final_tables i) ms ≤ members_size ms
+record_weight i ms = table_weight-le final_tables final_sound i ms
+
+-- an object that is written as its rows
+pub record_writes : {X : Type 0} (rows : X → List Form) (x : X) (i : TableName) (node : Tree) (out : Entries Tree)
+    → IsWritten final_tables (record_slots i rows x) out → node ≡ object (members_of out)
+    → (node ≡ print final_tables (by i) (record_form rows x)) × (unwritable final_tables (by i) (record_form rows x) ≡ [])
+unfolding rows_of
+record_writes rows x i node out g e = (
+  e ∙ ap (λ es. object (members_of es)) g.members ∙ sym (fields_print final_tables (by i) plain [] (rows x) refl),
+  fields_lost final_tables (by i) plain [] (rows x) refl ∙ g.nothing_lost,
+)
+
+pub record_loses : {X : Type 0} (rows : X → List Form) (x : X) (i : TableName)
+    → slots_lost final_tables (record_slots i rows x) ≡ unwritable final_tables (by i) (record_form rows x)
+unfolding rows_of
+record_loses rows x i = sym (fields_lost final_tables (by i) plain [] (rows x) refl)

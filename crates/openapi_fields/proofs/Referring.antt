@@ -1,0 +1,143 @@
+-- What is read of a tree where a reference may stand: the reference, or what is read of the tree itself.
+use Rattle.std.proofs.Common.{◌≡◌, ℕ, true, List, Some, None, refl, sym, ap, ◌∙◌, subst, inr}
+use Rattle.std.specs.Borrow.{Bor}
+use Rattle.openapi_map.specs.declared.OrderedMap.{OrderedMap}
+use Rattle.openapi_node.specs.Fault.{place_of}
+use Rattle.openapi_node.specs.Place.{Place}
+use Rattle.openapi_node.specs.Tree.{Tree, null, flag, whole, text, list, object, Members, find}
+use Rattle.openapi_node.specs.View.{shown}
+use Rattle.openapi_node.specs.declared.fault.Cause.{Cause}
+use Rattle.openapi_node.specs.declared.fault.Cause.TheVariants.{
+  Missing,
+  MissingEither,
+  WrongKind,
+  NotAllowed,
+  UnknownVariant,
+  NameNotWritable,
+  NotWhole,
+  Memory,
+}
+use Rattle.openapi_node.specs.declared.fault.Fault.{Fault}
+use Rattle.openapi_node.specs.declared.node.Node.{Node}
+use Rattle.openapi_node.specs.declared.node.View.{View}
+use Rattle.openapi_node.specs.declared.node.View.TheVariants as view
+use Rattle.openapi_tables.specs.Kind.{Kind, any_tree, ref_to, required}
+use Rattle.openapi_tables.specs.Tables.{final_tables}
+use Rattle.openapi_tables.specs.Tree.{members_list}
+use Rattle.openapi_tables.specs.Members.{held, first_tree}
+use Rattle.openapi_tables.specs.Conforms.{conforms, reference_or, root_conforms, text_in}
+use Rattle.openapi_tables.specs.Form.{Form, reference}
+use Rattle.openapi_tables.specs.Read.{form, reference_or_item, root_form}
+use Rattle.openapi_tables.specs.Faults as faults
+use Rattle.openapi_tables.specs.Faults.{Asking, asked, root_asks, unless_reference}
+use Rattle.openapi_tables.specs.Laws.{Among}
+use Rattle.openapi_tables.specs.ByRow.{Broken, asking}
+use Rattle.openapi_tables.proofs.ByRowLaws.{own-found, own-missing}
+use Rattle.openapi_tables.proofs.AskedLaws.{reference_of}
+use Rattle.openapi_values.specs.Reference.{reference_form}
+use Rattle.openapi_values.specs.declared.reference.ReferenceOr.TheVariants as v
+use Rattle.openapi_fields.specs.Returned.{FailsBy, Fails, Reads}
+use Rattle.openapi_fields.specs.References.{reference_in}
+
+-- a refusal moves to where all that is broken there is broken too
+pub fails_moved : (f : Fault) (k l : Kind) (t u : Tree)
+    → ((p : Place) (c : faults.Cause) → Broken final_tables k t p c → Broken final_tables l u p c) → Fails f k t
+    → Fails f l u
+fails_moved f k l t u move h = go f.cause h
+  where
+    go : (c : Cause) → FailsBy c (place_of f) k t → FailsBy c (place_of f) l u
+    go (Missing n) b = move (place_of f) (faults.missing n.now) b
+    go (MissingEither n m) b = move (place_of f) (faults.missing_either n.now m.now) b
+    go (WrongKind w) b = move (place_of f) (faults.wrong_kind w) b
+    go NotAllowed b = move (place_of f) faults.not_allowed b
+    go UnknownVariant b = move (place_of f) faults.unknown_variant b
+    go NameNotWritable b = b
+    go NotWhole b = b
+    go Memory b = b
+
+-- as where another kind asks of a tree all that the kind asks of it
+pub fails_wider : (f : Fault) (k l : Kind) (t : Tree)
+    → ((a : Asking) → Among a (asked final_tables k t) → Among a (asked final_tables l t)) → Fails f k t → Fails f l t
+fails_wider f k l t leads h =
+    fails_moved f k l t t (λ p c b. record {
+      kind = b.kind;
+      tree = b.tree;
+      is_asked = leads (asking p b.kind b.tree) b.is_asked;
+      breaks = b.breaks;
+    }) h
+
+module _ (k : Kind) where
+  conforms_or : (t : Tree)
+      → conforms final_tables (ref_to k) t ≡ reference_or (reference_in t) (conforms final_tables k t)
+  conforms_or null = refl
+  conforms_or (flag b) = refl
+  conforms_or (whole z) = refl
+  conforms_or (text s) = refl
+  conforms_or (list ts) = refl
+  conforms_or (object ms) =
+      ap (λ r. reference_or r (conforms final_tables k (object ms))) (reference_of (root_conforms final_tables) ms)
+
+  form_or : (t : Tree) → form final_tables (ref_to k) t ≡ reference_or_item (reference_in t) (form final_tables k t)
+  form_or null = refl
+  form_or (flag b) = refl
+  form_or (whole z) = refl
+  form_or (text s) = refl
+  form_or (list ts) = refl
+  form_or (object ms) =
+      ap (λ r. reference_or_item r (form final_tables k (object ms))) (reference_of (root_form final_tables) ms)
+
+  asked_or : (t : Tree) → reference_in t ≡ None → (a : Asking) → Among a (asked final_tables k t)
+      → Among a (asked final_tables (ref_to k) t)
+  asked_or null n a h = inr h
+  asked_or (flag b) n a h = inr h
+  asked_or (whole z) n a h = inr h
+  asked_or (text s) n a h = inr h
+  asked_or (list ts) n a h = inr h
+  asked_or (object ms) n a h =
+      inr (subst (λ r. Among a (unless_reference r (asked final_tables k (object ms))))
+      (sym (reference_of (root_asks final_tables) ms ∙ n)) h)
+
+  module _ {X : Type 0} (form_of : X → Form) (t : Tree) where
+    -- a reference
+    pub reads_reference : (s : List ℕ) → reference_in t ≡ Some s
+        → (conforms final_tables (ref_to k) t ≡ true) × (form final_tables (ref_to k) t ≡ reference s)
+    reads_reference s e = (
+      conforms_or t ∙ ap (λ r. reference_or r (conforms final_tables k t)) e,
+      form_or t ∙ ap (λ r. reference_or_item r (form final_tables k t)) e,
+    )
+
+    -- an item
+    pub reads_item : (x : X) → reference_in t ≡ None → Reads form_of x k t
+        → Reads (reference_form form_of) (v.Item x) (ref_to k) t
+    reads_item x e h = (
+      conforms_or t ∙ (λ i. reference_or (e i) (h.0 i)),
+      form_or t ∙ (λ i. reference_or_item (e i) (h.1 i)),
+    )
+
+    pub fails_item : (f : Fault) → reference_in t ≡ None → Fails f k t → Fails f (ref_to k) t
+    fails_item f e h = fails_wider f k (ref_to k) t (asked_or t e) h
+
+-- a look that shows no object shows no reference
+pub no_reference : (w : View) → ((m : Bor (OrderedMap Node)) → w ≡ view.Object m → ⊥) → reference_in (shown w) ≡ None
+no_reference view.Null h = refl
+no_reference (view.Flag b) h = refl
+no_reference (view.Whole z) h = refl
+no_reference (view.Text s) h = refl
+no_reference (view.List ts) h = refl
+no_reference (view.Object m) h = absurd (h m refl)
+
+-- what stands under a name
+pub held_found : (n : List ℕ) (ms : Members) (u : Tree) → find n ms ≡ Some u → held n (members_list ms) ≡ u
+held_found n ms u e = ap first_tree (own-found n required any_tree ms u e).is
+
+pub held_missing : (n : List ℕ) (ms : Members) → find n ms ≡ None → held n (members_list ms) ≡ null
+held_missing n ms e = ap first_tree (own-missing n required any_tree ms e)
+
+-- a look that shows no text
+pub no_text_in : (w : View) → ((s : Bor (List ℕ)) → w ≡ view.Text s → ⊥) → text_in (shown w) ≡ None
+no_text_in view.Null h = refl
+no_text_in (view.Flag b) h = refl
+no_text_in (view.Whole z) h = refl
+no_text_in (view.Text s) h = absurd (h s refl)
+no_text_in (view.List ts) h = refl
+no_text_in (view.Object m) h = refl

@@ -1,0 +1,78 @@
+-- The forms of values, and the slots that an object is written as.
+use Rattle.std.specs.Prelude.{ℕ, ℤ, pos, Bool, ◌||◌, List, ◌∷◌, Option, Some, None, String, string_bytes}
+use Rattle.std.specs.Global.{Vec}
+use Rattle.std.specs.declared.alloc.Global.{Global}
+use Rattle.openapi_map.specs.Entries.{Entries}
+use Rattle.openapi_node.specs.Tree.{Tree, null, flag, whole, text}
+use Rattle.openapi_tables.specs.Lists.{each, same_text}
+use Rattle.openapi_tables.specs.Kind.{TableName, Case, constant}
+use Rattle.openapi_tables.specs.Tables.{final_tables}
+use Rattle.openapi_tables.specs.Members.{plain, tag, case_rows}
+use Rattle.openapi_tables.specs.Form.{Form, absent, leaf, sequence, named, deciding, fields, forms_of, named_of}
+use Rattle.openapi_tables.specs.Slots.{Slot, slots, pairs_of}
+use Rattle.openapi_fields.specs.declared.either.Either.{Either}
+use Rattle.openapi_fields.specs.declared.either.Either.TheVariants.{First, Second}
+
+-- a text
+abbrev pub text_form : String Global → Form
+text_form s = leaf (text (string_bytes s))
+
+-- a flag
+abbrev pub flag_form : Bool → Form
+flag_form b = leaf (flag b)
+
+-- a value that may not be there
+abbrev pub optional_form : {X : Type 0} → (X → Form) → Option X → Form
+optional_form view None = absent
+optional_form view (Some x) = view x
+
+-- a value in whose place null may stand
+abbrev pub nullable_form : {X : Type 0} → (X → Form) → Option X → Form
+nullable_form view None = leaf null
+nullable_form view (Some x) = view x
+
+-- a list, in order
+abbrev pub list_form : {X : Type 0} → (X → Form) → Vec X → Form
+list_form view v = sequence (forms_of (each view v.items))
+
+-- a map by names, in order
+abbrev pub map_form : {X : Type 0} → (X → Form) → Entries X → Form
+map_form view m = named (named_of (pairs_of view m))
+
+-- the extensions of an object
+abbrev pub extensions_form : Entries Tree → Form
+extensions_form = map_form leaf
+
+-- an object by a table, with the forms of its rows
+abbrev pub record_form : {X : Type 0} → (X → List Form) → X → Form
+record_form rows x = fields plain (forms_of (rows x))
+
+-- the slots of an object by a table
+abbrev pub record_slots : {X : Type 0} → TableName → (X → List Form) → X → List Slot
+record_slots i rows x = slots (final_tables i) (rows x)
+
+-- a whole number
+abbrev pub number_form : ℤ → Form
+number_form z = leaf (whole z)
+
+-- a size
+abbrev pub size_form : ℕ → Form
+size_form n = leaf (whole (pos n))
+
+-- whether a name is one of two
+abbrev pub is_either : List ℕ → List ℕ → List ℕ → Bool
+is_either a b n = same_text a n || same_text b n
+
+-- what stands under the one of two names that decides
+abbrev pub either_form : {X Y : Type 0} → List ℕ → (X → Form) → List ℕ → (Y → Form) → Either X Y → Form
+either_form a f b g (First x) = deciding a (f x)
+either_form a f b g (Second y) = deciding b (g y)
+
+-- an object by the table of its tag, with the word of the tag and the forms of the rows
+abbrev pub tagged_form : {X : Type 0} → (X → List ℕ) → (X → List Form) → X → Form
+tagged_form word rows x = fields (tag (word x)) (forms_of (absent ∷ rows x))
+
+-- the slots of an object by the table of its tag
+abbrev pub tagged_slots : {X : Type 0} → List ℕ → List Case → (X → List ℕ) → (X → List Form) → X → List Slot
+tagged_slots n cs word rows x =
+    (constant n (word x), absent) ∷ slots (case_rows final_tables cs (word x)) (rows x)

@@ -1,0 +1,10 @@
+pub mod Forms
+pub mod Returned
+pub mod Entries
+pub mod References
+pub mod Presence
+pub mod Decided
+pub mod Joined
+pub mod Reading
+pub mod Writing
+pub mod Settled

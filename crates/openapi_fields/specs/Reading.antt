@@ -1,0 +1,58 @@
+-- What mutually recursive readers return, beside what the tables say.
+use Rattle.std.specs.Prelude.{◌≡◌, ℕ, ◌+◌, ◌≤◌, Bool, true, false, List, [], ◌∷◌, ◌++◌, Option, Some, None, Result, Ok, Err, ◌⊎◌}
+use Rattle.std.specs.Borrow.{Bor}
+use Rattle.openapi_map.specs.Entries.{Entries}
+use Rattle.openapi_node.specs.Fault.{IsMemory}
+use Rattle.openapi_node.specs.Place.{named}
+use Rattle.openapi_node.specs.Tree.{Tree, object, Members, members_of, members_size, size_of, find}
+use Rattle.openapi_node.specs.declared.fault.Fault.{Fault}
+use Rattle.openapi_tables.specs.Kind.{Kind, Row, by, map_of}
+use Rattle.openapi_tables.specs.Tables.{final_tables}
+use Rattle.openapi_tables.specs.Form.{Form}
+use Rattle.openapi_tables.specs.ByRow.{AreRows}
+use Rattle.openapi_fields.specs.Returned.{Fails, FailsBelow, Reads}
+
+-- what some of the rows of an object of a kind give, or a refusal of the whole object
+abbrev pub PartReadAs : {X : Type 0} → (X → List Form) → Result X Fault → Kind → List Row → Members → Type 0
+PartReadAs rows (Ok x) k ws ms = AreRows final_tables ws (rows x) ms
+PartReadAs rows (Err f) k ws ms = Fails f k (object ms)
+
+-- every name
+abbrev pub any_name : List ℕ → Bool
+any_name n = true
+
+-- whether a kind is an object by a table, or a map
+abbrev pub is_object : Kind → Bool
+is_object (by i) = true
+is_object (map_of k) = true
+is_object _ = false
+
+-- the members of an object, or a refusal of each kind that is one
+abbrev pub MembersShown : Result (Bor (Entries Tree)) Fault → Tree → Type 0
+MembersShown (Ok ms) t = t ≡ object (members_of ms.now)
+MembersShown (Err f) t = (k : Kind) → is_object k ≡ true → Fails f k t
+
+-- an object stands under a name, with these members, and was looked at
+pub record IsMapAt (n : List ℕ) (ms : Members) (old new : ℕ) (es : Members) : Type 0 where
+  pub is : find n ms ≡ Some (object es)
+  pub counted : new ≡ old + 1
+  pub within : size_of (object es) ≤ members_size ms
+
+-- another value stands under a name, and was looked at: what asks for an object or a map there refuses it
+pub record NoMapAt (n : List ℕ) (ms : Members) (old new : ℕ) (f : Fault) : Type 0 where
+  pub value : Tree
+  pub is : find n ms ≡ Some value
+  pub counted : new ≡ old + 1
+  pub within : size_of value ≤ members_size ms
+  pub fails : (k : Kind) → is_object k ≡ true → FailsBelow (named n) f k value
+
+-- the members of the object under a name, if the name is there, or a refusal
+abbrev pub MembersShownAt : Result (Option (Bor (Entries Tree))) Fault → List ℕ → Members → ℕ → ℕ → Type 0
+MembersShownAt (Ok None) n ms old new = (find n ms ≡ None) × (new ≡ old)
+MembersShownAt (Ok (Some es)) n ms old new = IsMapAt n ms old new (members_of es.now)
+MembersShownAt (Err f) n ms old new = NoMapAt n ms old new f
+
+-- what was read of an entry was put last; or it was refused, or memory ran out
+abbrev pub PutRead : {X : Type 0} → (X → Form) → Kind → Tree → List ℕ → Result (Unit {0}) Fault → Entries X → Entries X → Type 0
+PutRead {X} view k u n (Ok done) old new = (x : X) × (new ≡ old ++ (n, x) ∷ []) × Reads view x k u
+PutRead view k u n (Err f) old new = IsMemory f ⊎ FailsBelow (named n) f k u

@@ -1,0 +1,63 @@
+//! The entries of a map or of a class of names, one after another.
+ghost use Rattle.std.specs.Prelude.{◌≡◌, ◌+◌, ◌≤◌, ◌*◌, ℕ, true, None, List, ◌++◌, OnOk, IfErr};
+ghost use Rattle.openapi_map.specs.Entries.{get};
+ghost use Rattle.openapi_tables.specs.Lists.{every};
+ghost use Rattle.openapi_fields.specs.Entries.{chosen, entries_size, EntriesReadAs};
+ghost use Rattle.openapi_fields.specs.Entries.{written_entries, all_whole, EntriesNotWritable};
+ghost use Rattle.openapi_fields.specs.Returned.{RisesBy};
+
+use crate::from_node::FromNode;
+use crate::names::Names;
+use crate::place::at_name;
+use crate::put_rows::{put, put_value};
+use crate::to_node::ToNode;
+use openapi_node::{Cause, Fault, Node, OrderedMap, Steps};
+use std::alloc::Global;
+
+/// Reads the members whose names are in a set, in order.
+pub fn read_entries<N: Names, T: FromNode + Drop>(
+    alloc: Global,
+    members: &OrderedMap<Node>,
+    steps: &mut Steps,
+) -> Result<OrderedMap<T>, Fault>
+    ensures reads { EntriesReadAs T.form_of result T.kind (chosen N.test members.now) }
+    ensures count { RisesBy steps.old steps.new (3 * entries_size (chosen N.test members.now)) }
+{
+    let mut values = OrderedMap::new(alloc);
+    for i in 0..members.len() {
+        let (name, node) = members.entry_at(i);
+        if !N::contains(name) {
+            continue;
+        }
+        match at_name(alloc, name, T::from_node(alloc, node, steps)) {
+            Ok(value) => put(alloc, &mut values, name, value)?,
+            Err(fault) => return Err(fault),
+        }
+    }
+    Ok(values)
+}
+
+/// Writes entries whose names are all to be in a set, in order, behind the members that are there.
+pub fn put_entries<N: Names, T: ToNode>(
+    alloc: Global,
+    out: &mut OrderedMap<Node>,
+    values: &OrderedMap<T>,
+) -> Result<(), Fault>
+    requires { (n : List ℕ) → N.test n ≡ true → get n out.old ≡ None }
+    ensures ok { OnOk result (out.new ≡ out.old ++ written_entries T.form_of T.kind values.now) }
+    ensures names { OnOk result (every (λ e. N.test e.0) values.now ≡ true) }
+    ensures whole { OnOk result (all_whole T.form_of T.kind values.now ≡ true) }
+    ensures err { IfErr result (λ f. EntriesNotWritable N.test T.form_of T.kind f values.now) }
+{
+    for i in 0..values.len() {
+        let (name, value) = values.entry_at(i);
+        if !N::contains(name) {
+            return Err(Fault::new(alloc, Cause::NameNotWritable).at_name(alloc, name));
+        }
+        match put_value(alloc, out, name, value) {
+            Ok(()) => {}
+            Err(fault) => return Err(fault),
+        }
+    }
+    Ok(())
+}

@@ -1,0 +1,26 @@
+//! Results of one step below, with the places of their faults led on.
+ghost use Rattle.openapi_node.specs.Place.{named, indexed};
+ghost use Rattle.openapi_fields.specs.Returned.{AtStep};
+
+use openapi_node::Fault;
+use std::alloc::Global;
+
+/// What was read at the member of a name, seen from the object.
+pub fn at_name<T>(alloc: Global, name: &str, read: Result<T, Fault>) -> Result<T, Fault>
+    ensures { AtStep (named name.now) read result }
+{
+    match read {
+        Ok(value) => Ok(value),
+        Err(fault) => Err(fault.at_name(alloc, name)),
+    }
+}
+
+/// What was read at the element of an index, seen from the list.
+pub(crate) fn at_index<T>(alloc: Global, index: usize, read: Result<T, Fault>) -> Result<T, Fault>
+    ensures { AtStep (indexed index) read result }
+{
+    match read {
+        Ok(value) => Ok(value),
+        Err(fault) => Err(fault.at_index(alloc, index)),
+    }
+}

@@ -1,0 +1,35 @@
+//! Members that are there and not null.
+ghost use Rattle.openapi_node.specs.Tree.{members_of};
+ghost use Rattle.openapi_fields.specs.Presence.{AtMember, ViewFound};
+
+use crate::place::at_name;
+use openapi_node::{Fault, Node, OrderedMap, Steps, View, find_member};
+use std::alloc::Global;
+
+/// A look at the member of a name, where it is there and not null.
+pub fn present_view<'a>(
+    members: &'a OrderedMap<Node>,
+    name: &str,
+    steps: &mut Steps,
+) -> Option<View<'a>>
+    ensures { ViewFound result name.now (members_of members.now) steps.old steps.new }
+{
+    let Some(node) = find_member(members, name) else {
+        return None;
+    };
+    let view = node.open(steps);
+    match view {
+        View::Null => None,
+        _ => Some(view),
+    }
+}
+
+/// What was read of the member of a name, seen from the object.
+pub fn as_member<T>(alloc: Global, name: &str, read: Result<T, Fault>) -> Result<Option<T>, Fault>
+    ensures { AtMember name.now read result }
+{
+    match at_name(alloc, name, read) {
+        Ok(value) => Ok(Some(value)),
+        Err(fault) => Err(fault),
+    }
+}

@@ -1,0 +1,62 @@
+//! Items and references to them, and the boxes in which other items hold them.
+ghost use Rattle.std.specs.Prelude.{◌≡◌, None};
+ghost use Rattle.openapi_node.specs.Tree.{Tree};
+ghost use Rattle.openapi_tables.specs.Form.{Form};
+ghost use Rattle.openapi_tables.specs.Kind.{Kind, ref_to};
+ghost use Rattle.openapi_fields.specs.Returned.{ReadAs};
+ghost use Rattle.openapi_fields.specs.References.{reference_in};
+ghost use Rattle.openapi_values.specs.Reference.{reference_form};
+
+use crate::boxed;
+use openapi_node::Fault;
+use openapi_values::ReferenceOr;
+use std::alloc::Global;
+
+/// What was read of a tree that is no reference, where one might stand. It stands in a function of its own, as the boxes
+/// below do, so that no mutually recursive function makes room for a second copy of what may be large.
+#[inline(never)]
+pub fn as_item<T: Drop>(read: Result<T, Fault>) -> Result<ReferenceOr<T>, Fault>
+    ensures { (view : T → Form) (k : Kind) (t : Tree) → reference_in t ≡ None → ReadAs view read k t
+        → ReadAs (reference_form view) result (ref_to k) t }
+{
+    match read {
+        Ok(value) => Ok(ReferenceOr::Item(value)),
+        Err(fault) => Err(fault),
+    }
+}
+
+/// What was read, with an item in a box; or want of memory.
+#[inline(never)]
+pub fn in_inner_box<T: Drop>(
+    alloc: Global,
+    read: Result<ReferenceOr<T>, Fault>,
+) -> Result<ReferenceOr<Box<T>>, Fault>
+    ensures { (view : T → Form) (k : Kind) (t : Tree) → ReadAs (reference_form view) read k t
+        → ReadAs (reference_form (λ b. view b.value)) result k t }
+{
+    match read {
+        Ok(value) => match value {
+            ReferenceOr::Reference { reference } => Ok(ReferenceOr::Reference { reference }),
+            ReferenceOr::Item(item) => match boxed(alloc, item) {
+                Ok(item) => Ok(ReferenceOr::Item(item)),
+                Err(fault) => Err(fault),
+            },
+        },
+        Err(fault) => Err(fault),
+    }
+}
+
+/// What was read, in a box; or want of memory.
+#[inline(never)]
+pub fn in_outer_box<T: Drop>(
+    alloc: Global,
+    read: Result<ReferenceOr<T>, Fault>,
+) -> Result<Box<ReferenceOr<T>>, Fault>
+    ensures { (view : T → Form) (k : Kind) (t : Tree) → ReadAs (reference_form view) read k t
+        → ReadAs (λ b. reference_form view b.value) result k t }
+{
+    match read {
+        Ok(value) => boxed(alloc, value),
+        Err(fault) => Err(fault),
+    }
+}

@@ -1,0 +1,109 @@
+//! The rows of a table, read among the members of an object.
+ghost use Rattle.std.specs.Prelude.{◌≡◌, ◌+◌, ◌≤◌, ◌*◌, Some};
+ghost use Rattle.openapi_node.specs.Tree.{members_of, find};
+ghost use Rattle.openapi_tables.specs.ByRow.{row_where, is_named, row_weight, rows_asked};
+ghost use Rattle.openapi_tables.specs.Kind as kinds;
+ghost use Rattle.openapi_tables.specs.Tables.{final_tables};
+ghost use Rattle.openapi_fields.specs.Forms.{optional_form};
+ghost use Rattle.openapi_fields.specs.Returned.{MemberReadAs, RowReadAs, RisesBy, unless_null};
+
+use crate::from_node::FromNode;
+use crate::object::HasSlots;
+use crate::presence::{as_member, present_view};
+use openapi_node::{Cause, Fault, Node, OrderedMap, Steps, find_member};
+use std::alloc::Global;
+
+/// The member of a name, where it is there.
+pub(crate) fn found<T: FromNode>(
+    alloc: Global,
+    members: &OrderedMap<Node>,
+    name: &str,
+    steps: &mut Steps,
+) -> Result<Option<T>, Fault>
+    ensures reads { MemberReadAs T.form_of result T.kind name.now (find name.now (members_of members.now)) }
+    ensures count { RisesBy steps.old steps.new
+        (3 * row_weight (kinds.row name.now kinds.required T.kind) (members_of members.now)) }
+{
+    let Some(node) = find_member(members, name) else {
+        return Ok(None);
+    };
+    as_member(alloc, name, T::from_node(alloc, node, steps))
+}
+
+/// The member of a name, where it is there and not null.
+fn present<T: FromNode>(
+    alloc: Global,
+    members: &OrderedMap<Node>,
+    name: &str,
+    steps: &mut Steps,
+) -> Result<Option<T>, Fault>
+    ensures reads { MemberReadAs T.form_of result T.kind name.now (unless_null (find name.now
+        (members_of members.now))) }
+    ensures count { RisesBy steps.old steps.new
+        (3 * row_weight (kinds.row name.now kinds.optional T.kind) (members_of members.now)) }
+{
+    match present_view(members, name, steps) {
+        None => Ok(None),
+        Some(view) => as_member(alloc, name, T::from_view(alloc, &view, steps)),
+    }
+}
+
+/// A member that has to be there.
+pub fn required<R: HasSlots, T: FromNode>(
+    alloc: Global,
+    members: &OrderedMap<Node>,
+    name: &'static str,
+    steps: &mut Steps,
+) -> Result<T, Fault>
+    requires row { row_where (is_named name.now) (rows_asked final_tables R.object) ≡ Some
+        (kinds.row name.now kinds.required T.kind) }
+    ensures reads { RowReadAs T.form_of result R.object (kinds.row name.entry.now kinds.required T.kind)
+        (members_of members.now) }
+    ensures rises { steps.old ≤ steps.new }
+    ensures count { steps.new ≤ steps.old + 3 * row_weight (kinds.row name.entry.now kinds.required T.kind)
+        (members_of members.now) }
+{
+    match found(alloc, members, name, steps) {
+        Ok(member) => match member {
+            Some(value) => Ok(value),
+            None => Err(Fault::new(alloc, Cause::Missing(name))),
+        },
+        Err(fault) => Err(fault),
+    }
+}
+
+/// A member that may be missing or null.
+pub fn optional<R: HasSlots, T: FromNode>(
+    alloc: Global,
+    members: &OrderedMap<Node>,
+    name: &'static str,
+    steps: &mut Steps,
+) -> Result<Option<T>, Fault>
+    requires row { row_where (is_named name.now) (rows_asked final_tables R.object) ≡ Some
+        (kinds.row name.now kinds.optional T.kind) }
+    ensures reads { RowReadAs (optional_form T.form_of) result R.object
+        (kinds.row name.entry.now kinds.optional T.kind) (members_of members.now) }
+    ensures rises { steps.old ≤ steps.new }
+    ensures count { steps.new ≤ steps.old + 3 * row_weight (kinds.row name.entry.now kinds.optional T.kind)
+        (members_of members.now) }
+{
+    present(alloc, members, name, steps)
+}
+
+/// A member that may be missing or null, and is written as null where it is.
+pub fn nullable<R: HasSlots, T: FromNode>(
+    alloc: Global,
+    members: &OrderedMap<Node>,
+    name: &'static str,
+    steps: &mut Steps,
+) -> Result<Option<T>, Fault>
+    requires row { row_where (is_named name.now) (rows_asked final_tables R.object) ≡ Some
+        (kinds.row name.now kinds.nullable T.kind) }
+    ensures reads { RowReadAs (optional_form T.form_of) result R.object
+        (kinds.row name.entry.now kinds.nullable T.kind) (members_of members.now) }
+    ensures rises { steps.old ≤ steps.new }
+    ensures count { steps.new ≤ steps.old + 3 * row_weight (kinds.row name.entry.now kinds.nullable T.kind)
+        (members_of members.now) }
+{
+    present(alloc, members, name, steps)
+}

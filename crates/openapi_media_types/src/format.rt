@@ -1,0 +1,63 @@
+//! How a parameter or a header is described: by a schema or by its content.
+ghost use Rattle.std.specs.Prelude.{◌≡◌};
+ghost use Rattle.openapi_tables.specs.Kind.{schema_or_content};
+ghost use Rattle.openapi_media_types.specs.ContentForms.{deciding_name, format_form};
+ghost use Rattle.openapi_media_types.specs.Fields.{format_fields};
+
+use crate::media_type::Content;
+use crate::read::read_format;
+use crate::write::write_format;
+use openapi_fields::{Object, Record, put_decided};
+use openapi_node::{Fault, Node, OrderedMap, Steps};
+use openapi_schema::Schema;
+use openapi_values::ReferenceOr;
+use std::alloc::Global;
+
+/// What a parameter (OpenAPI 3.0.3, section 4.7.12) or a header is like: OpenAPI wants either a `schema` or a `content`.
+/// An object that has both is read by the one that stands first in it.
+#[cycle(contents)]
+#[derive(Clone, Debug, PartialEq, Drop)]
+pub enum ParameterSchemaOrContent {
+    /// `schema`: the schema of the type, or a reference to one.
+    Schema(ReferenceOr<Schema>),
+    /// `content`: the media type, with what describes it. OpenAPI wants exactly one entry, which is not checked.
+    Content(Content),
+}
+
+/// The name of the member that a parameter or a header is described by.
+pub fn format_name(format: &ParameterSchemaOrContent) -> &'static str
+    ensures { result.now ≡ deciding_name (format_form format.now) }
+{
+    match format {
+        ParameterSchemaOrContent::Schema(_) => "schema",
+        ParameterSchemaOrContent::Content(_) => "content",
+    }
+}
+
+impl Object for ParameterSchemaOrContent {
+    ghost table = { schema_or_content };
+
+    ghost rows_of = { format_fields };
+}
+
+#[tactic(auto, unfolding(openapi_tables::specs::Tables::final_tables, openapi_tables::specs::Tables::tables_with))]
+impl Record for ParameterSchemaOrContent {
+    fn from_members(
+        alloc: Global,
+        members: &OrderedMap<Node>,
+        steps: &mut Steps,
+    ) -> Result<Self, Fault> {
+        read_format(alloc, members, steps)
+    }
+
+    fn put_rows(&self, alloc: Global, out: &mut OrderedMap<Node>) -> Result<(), Fault> {
+        put_decided(
+            alloc,
+            self,
+            out,
+            "schema",
+            format_name(self),
+            write_format(alloc, self),
+        )
+    }
+}

@@ -1,0 +1,95 @@
+//! The Header Object.
+ghost use Rattle.std.proofs.Common.{refl};
+ghost use Rattle.std.specs.Prelude.{◌+◌, ◌≤◌, ◌*◌};
+ghost use Rattle.openapi_node.specs.Tree.{size_of};
+ghost use Rattle.openapi_tables.specs.Kind.{by, header, ref_to};
+ghost use Rattle.openapi_values.specs.Reference.{reference_form};
+ghost use Rattle.openapi_fields.specs.Returned.{ReadAs, Refuses, WrittenAs};
+ghost use Rattle.openapi_fields.proofs.Spared.{header_spares};
+ghost use Rattle.openapi_media_types.specs.ContentForms.{header_form};
+ghost use Rattle.openapi_media_types.specs.Fields.{header_fields};
+
+use crate::format::ParameterSchemaOrContent;
+use crate::read::read_header;
+use crate::write::write_header;
+use openapi_fields::{FromNode, Object, Referable, ToNode};
+use openapi_metadata::Example;
+use openapi_node::{Fault, Node, OrderedMap, Steps, View};
+use openapi_values::{HeaderStyle, ReferenceOr};
+use std::alloc::Global;
+
+/// The Header Object (OpenAPI 3.0.3, section 4.7.21): a header of a response or of a part of a body. It is described as a
+/// parameter in a header is, but for its name, which stands before it.
+#[cycle(contents)]
+#[derive(Clone, Debug, PartialEq, Drop)]
+pub struct Header {
+    /// A description of the header, in CommonMark.
+    pub description: Option<String>,
+    /// How the value is written in the header. `simple` by default, which is written too.
+    pub style: HeaderStyle,
+    /// Whether the header has to be there. False by default.
+    pub required: bool,
+    /// Whether the header should no longer be used.
+    pub deprecated: Option<bool>,
+    /// An example of the value. It excludes `examples`, which is not checked.
+    pub example: Option<Node>,
+    /// What the value is like: `schema` or `content`. Required here, as in the Rust crate.
+    pub format: ParameterSchemaOrContent,
+    /// Examples of the value, or references to some, by names. They exclude `example`, which is not checked.
+    pub examples: OrderedMap<ReferenceOr<Example>>,
+    /// Extensions: the members whose names begin with `x-`, in their order.
+    pub extensions: OrderedMap<Node>,
+}
+
+impl Object for Header {
+    ghost table = { header };
+
+    ghost rows_of = { header_fields };
+}
+
+impl FromNode for Header {
+    ghost kind = { by header };
+
+    ghost form_of = { header_form };
+
+    fn from_view(alloc: Global, view: &View<'_>, steps: &mut Steps) -> Result<Header, Fault> {
+        read_header(alloc, view, steps)
+    }
+
+    ghost well_made = { refl };
+}
+
+impl ToNode for Header {
+    fn to_node(&self, alloc: Global) -> Result<Node, Fault> {
+        write_header(alloc, self)
+    }
+
+    ghost there = { λ x. refl };
+}
+
+impl Referable for Header {
+    ghost spares_ref = { header_spares };
+}
+
+/// Reads a header or a reference to one. Err names a rule that the tree breaks, at its place, or says that memory ran
+/// out.
+pub fn header_ref_from_node(
+    alloc: Global,
+    node: &Node,
+    steps: &mut Steps,
+) -> Result<ReferenceOr<Header>, Fault>
+    ensures reads { ReadAs (reference_form header_form) result (ref_to (by header)) node.now }
+    ensures refuses { Refuses result (ref_to (by header)) node.now }
+    ensures rises { steps.old + 1 ≤ steps.new }
+    ensures count { steps.new ≤ steps.old + 3 * size_of node.now }
+{
+    ReferenceOr::from_node(alloc, node, steps)
+}
+
+/// Writes a header or a reference to one. Err at a name of an extension that does not begin with `x-`, or for want of
+/// memory.
+pub fn header_ref_to_node(alloc: Global, value: &ReferenceOr<Header>) -> Result<Node, Fault>
+    ensures { WrittenAs (ref_to (by header)) (reference_form header_form value.now) result }
+{
+    value.to_node(alloc)
+}

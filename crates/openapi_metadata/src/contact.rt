@@ -1,0 +1,67 @@
+//! The Contact Object.
+ghost use Rattle.std.specs.Prelude.{◌≡◌, [], None};
+ghost use Rattle.openapi_tables.specs.Kind.{contact};
+ghost use Rattle.openapi_metadata.specs.Objects.{contact_rows};
+
+use openapi_fields::{Object, Record, extensions, optional, put_extensions, put_optional};
+use openapi_node::{Fault, Node, OrderedMap, Steps};
+use std::alloc::Global;
+
+/// The Contact Object (OpenAPI 3.0.3, section 4.7.3): contact information of the API.
+#[derive(Clone, Debug, PartialEq, Drop)]
+pub struct Contact {
+    /// The name of the contact person or organization.
+    pub name: Option<String>,
+    /// The URL of the contact information.
+    pub url: Option<String>,
+    /// The email address of the contact person or organization.
+    pub email: Option<String>,
+    /// Extensions: the members whose names begin with `x-`, in their order.
+    pub extensions: OrderedMap<Node>,
+}
+
+impl Contact {
+    /// Empty texts, lists and maps, and nothing else.
+    pub fn new(alloc: Global) -> Contact
+        ensures name { result.name ≡ None }
+        ensures url { result.url ≡ None }
+        ensures email { result.email ≡ None }
+        ensures extensions { result.extensions ≡ [] }
+    {
+        Contact {
+            name: None,
+            url: None,
+            email: None,
+            extensions: OrderedMap::new(alloc),
+        }
+    }
+}
+
+impl Object for Contact {
+    ghost table = { contact };
+
+    ghost rows_of = { contact_rows };
+}
+
+#[tactic(auto, unfolding(openapi_tables::specs::Tables::final_tables, openapi_tables::specs::Tables::tables_with))]
+impl Record for Contact {
+    fn from_members(
+        alloc: Global,
+        members: &OrderedMap<Node>,
+        steps: &mut Steps,
+    ) -> Result<Self, Fault> {
+        Ok(Contact {
+            name: optional::<Self, _>(alloc, members, "name", steps)?,
+            url: optional::<Self, _>(alloc, members, "url", steps)?,
+            email: optional::<Self, _>(alloc, members, "email", steps)?,
+            extensions: extensions::<Self>(alloc, members, steps)?,
+        })
+    }
+
+    fn put_rows(&self, alloc: Global, out: &mut OrderedMap<Node>) -> Result<(), Fault> {
+        put_optional(alloc, self, out, "name", &self.name)?;
+        put_optional(alloc, self, out, "url", &self.url)?;
+        put_optional(alloc, self, out, "email", &self.email)?;
+        put_extensions(alloc, self, out, &self.extensions)
+    }
+}

@@ -1,0 +1,109 @@
+//! The Example Object.
+ghost use Rattle.std.specs.Prelude.{◌≡◌, ◌+◌, ◌≤◌, ◌*◌, [], None};
+ghost use Rattle.openapi_node.specs.Tree.{size_of};
+ghost use Rattle.openapi_tables.specs.Kind.{by, example, ref_to};
+ghost use Rattle.openapi_values.specs.Reference.{reference_form};
+ghost use Rattle.openapi_fields.specs.Forms.{record_form};
+ghost use Rattle.openapi_fields.specs.Returned.{ReadAs, Refuses, WrittenAs};
+ghost use Rattle.openapi_fields.proofs.Spared.{example_spares};
+ghost use Rattle.openapi_metadata.specs.Objects.{example_rows};
+
+use openapi_fields::{
+    FromNode, Object, Record, Referable, ToNode, extensions, optional, put_extensions, put_optional,
+};
+use openapi_node::{Fault, Node, OrderedMap, Steps};
+use openapi_values::ReferenceOr;
+use std::alloc::Global;
+
+/// The Example Object (OpenAPI 3.0.3, section 4.7.19): an example of a value.
+#[derive(Clone, Debug, PartialEq, Drop)]
+pub struct Example {
+    /// A short description of the example.
+    pub summary: Option<String>,
+    /// A long description of the example, in CommonMark.
+    pub description: Option<String>,
+    /// The URL of the literal example, where it can't well stand in a JSON document. It excludes `value`, which is not
+    /// checked.
+    pub external_value: Option<String>,
+    /// Extensions: the members whose names begin with `x-`, in their order.
+    pub extensions: OrderedMap<Node>,
+    /// The example itself, a literal value. It excludes `external_value`, which is not checked.
+    pub value: Option<Node>,
+}
+
+impl Example {
+    /// Empty texts, lists and maps, and nothing else.
+    pub fn new(alloc: Global) -> Example
+        ensures summary { result.summary ≡ None }
+        ensures description { result.description ≡ None }
+        ensures value { result.value ≡ None }
+        ensures external_value { result.external_value ≡ None }
+        ensures extensions { result.extensions ≡ [] }
+    {
+        Example {
+            summary: None,
+            description: None,
+            value: None,
+            external_value: None,
+            extensions: OrderedMap::new(alloc),
+        }
+    }
+}
+
+impl Object for Example {
+    ghost table = { example };
+
+    ghost rows_of = { example_rows };
+}
+
+#[tactic(auto, unfolding(openapi_tables::specs::Tables::final_tables, openapi_tables::specs::Tables::tables_with))]
+impl Record for Example {
+    fn from_members(
+        alloc: Global,
+        members: &OrderedMap<Node>,
+        steps: &mut Steps,
+    ) -> Result<Self, Fault> {
+        Ok(Example {
+            summary: optional::<Self, _>(alloc, members, "summary", steps)?,
+            description: optional::<Self, _>(alloc, members, "description", steps)?,
+            value: optional::<Self, _>(alloc, members, "value", steps)?,
+            external_value: optional::<Self, _>(alloc, members, "externalValue", steps)?,
+            extensions: extensions::<Self>(alloc, members, steps)?,
+        })
+    }
+
+    fn put_rows(&self, alloc: Global, out: &mut OrderedMap<Node>) -> Result<(), Fault> {
+        put_optional(alloc, self, out, "summary", &self.summary)?;
+        put_optional(alloc, self, out, "description", &self.description)?;
+        put_optional(alloc, self, out, "value", &self.value)?;
+        put_optional(alloc, self, out, "externalValue", &self.external_value)?;
+        put_extensions(alloc, self, out, &self.extensions)
+    }
+}
+
+impl Referable for Example {
+    ghost spares_ref = { example_spares };
+}
+
+/// Reads an example or a reference to one. Err names a rule that the tree breaks, at its place, or says that memory ran
+/// out.
+pub fn example_ref_from_node(
+    alloc: Global,
+    node: &Node,
+    steps: &mut Steps,
+) -> Result<ReferenceOr<Example>, Fault>
+    ensures reads { ReadAs (reference_form (record_form example_rows)) result (ref_to (by example)) node.now }
+    ensures refuses { Refuses result (ref_to (by example)) node.now }
+    ensures rises { steps.old + 1 ≤ steps.new }
+    ensures count { steps.new ≤ steps.old + 3 * size_of node.now }
+{
+    ReferenceOr::from_node(alloc, node, steps)
+}
+
+/// Writes an example or a reference to one. Err at a name of an extension that does not begin with `x-`, or for want of
+/// memory.
+pub fn example_ref_to_node(alloc: Global, value: &ReferenceOr<Example>) -> Result<Node, Fault>
+    ensures { WrittenAs (ref_to (by example)) (reference_form (record_form example_rows) value.now) result }
+{
+    value.to_node(alloc)
+}

@@ -1,0 +1,89 @@
+//! The Info Object.
+ghost use Rattle.std.specs.Prelude.{◌≡◌, [], None, string_bytes};
+ghost use Rattle.openapi_tables.specs.Kind.{info};
+ghost use Rattle.openapi_metadata.specs.Objects.{info_rows};
+
+use crate::contact::Contact;
+use crate::license::License;
+use openapi_fields::{
+    Object, Record, extensions, optional, put_extensions, put_optional, put_required, required,
+};
+use openapi_node::{Fault, Node, OrderedMap, Steps};
+use std::alloc::Global;
+
+/// The Info Object (OpenAPI 3.0.3, section 4.7.2): metadata about the API.
+#[derive(Clone, Debug, PartialEq, Drop)]
+pub struct Info {
+    /// The title of the API. Required.
+    pub title: String,
+    /// A description of the API, in CommonMark.
+    pub description: Option<String>,
+    /// The URL of the terms of service of the API.
+    pub terms_of_service: Option<String>,
+    /// The version of the OpenAPI document, not that of the specification or of the API's implementation. Required.
+    pub version: String,
+    /// Extensions: the members whose names begin with `x-`, in their order.
+    pub extensions: OrderedMap<Node>,
+    /// The license information of the API.
+    pub license: Option<License>,
+    /// The contact information of the API.
+    pub contact: Option<Contact>,
+}
+
+impl Info {
+    /// Empty texts, lists and maps, and nothing else.
+    pub fn new(alloc: Global) -> Info
+        ensures title { string_bytes result.title ≡ [] }
+        ensures description { result.description ≡ None }
+        ensures terms_of_service { result.terms_of_service ≡ None }
+        ensures contact { result.contact ≡ None }
+        ensures license { result.license ≡ None }
+        ensures version { string_bytes result.version ≡ [] }
+        ensures extensions { result.extensions ≡ [] }
+    {
+        Info {
+            title: String::new(alloc),
+            description: None,
+            terms_of_service: None,
+            contact: None,
+            license: None,
+            version: String::new(alloc),
+            extensions: OrderedMap::new(alloc),
+        }
+    }
+}
+
+impl Object for Info {
+    ghost table = { info };
+
+    ghost rows_of = { info_rows };
+}
+
+#[tactic(auto, unfolding(openapi_tables::specs::Tables::final_tables, openapi_tables::specs::Tables::tables_with))]
+impl Record for Info {
+    fn from_members(
+        alloc: Global,
+        members: &OrderedMap<Node>,
+        steps: &mut Steps,
+    ) -> Result<Self, Fault> {
+        Ok(Info {
+            title: required::<Self, _>(alloc, members, "title", steps)?,
+            description: optional::<Self, _>(alloc, members, "description", steps)?,
+            terms_of_service: optional::<Self, _>(alloc, members, "termsOfService", steps)?,
+            contact: optional::<Self, _>(alloc, members, "contact", steps)?,
+            license: optional::<Self, _>(alloc, members, "license", steps)?,
+            version: required::<Self, _>(alloc, members, "version", steps)?,
+            extensions: extensions::<Self>(alloc, members, steps)?,
+        })
+    }
+
+    fn put_rows(&self, alloc: Global, out: &mut OrderedMap<Node>) -> Result<(), Fault> {
+        put_required(alloc, self, out, "title", &self.title)?;
+        put_optional(alloc, self, out, "description", &self.description)?;
+        put_optional(alloc, self, out, "termsOfService", &self.terms_of_service)?;
+        put_optional(alloc, self, out, "contact", &self.contact)?;
+        put_optional(alloc, self, out, "license", &self.license)?;
+        put_required(alloc, self, out, "version", &self.version)?;
+        put_extensions(alloc, self, out, &self.extensions)
+    }
+}

@@ -1,0 +1,63 @@
+//! The License Object.
+ghost use Rattle.std.specs.Prelude.{◌≡◌, [], None, string_bytes};
+ghost use Rattle.openapi_tables.specs.Kind.{license};
+ghost use Rattle.openapi_metadata.specs.Objects.{license_rows};
+
+use openapi_fields::{
+    Object, Record, extensions, optional, put_extensions, put_optional, put_required, required,
+};
+use openapi_node::{Fault, Node, OrderedMap, Steps};
+use std::alloc::Global;
+
+/// The License Object (OpenAPI 3.0.3, section 4.7.4): license information of the API.
+#[derive(Clone, Debug, PartialEq, Drop)]
+pub struct License {
+    /// The name of the license. Required.
+    pub name: String,
+    /// The URL of the license.
+    pub url: Option<String>,
+    /// Extensions: the members whose names begin with `x-`, in their order.
+    pub extensions: OrderedMap<Node>,
+}
+
+impl License {
+    /// Empty texts, lists and maps, and nothing else.
+    pub fn new(alloc: Global) -> License
+        ensures name { string_bytes result.name ≡ [] }
+        ensures url { result.url ≡ None }
+        ensures extensions { result.extensions ≡ [] }
+    {
+        License {
+            name: String::new(alloc),
+            url: None,
+            extensions: OrderedMap::new(alloc),
+        }
+    }
+}
+
+impl Object for License {
+    ghost table = { license };
+
+    ghost rows_of = { license_rows };
+}
+
+#[tactic(auto, unfolding(openapi_tables::specs::Tables::final_tables, openapi_tables::specs::Tables::tables_with))]
+impl Record for License {
+    fn from_members(
+        alloc: Global,
+        members: &OrderedMap<Node>,
+        steps: &mut Steps,
+    ) -> Result<Self, Fault> {
+        Ok(License {
+            name: required::<Self, _>(alloc, members, "name", steps)?,
+            url: optional::<Self, _>(alloc, members, "url", steps)?,
+            extensions: extensions::<Self>(alloc, members, steps)?,
+        })
+    }
+
+    fn put_rows(&self, alloc: Global, out: &mut OrderedMap<Node>) -> Result<(), Fault> {
+        put_required(alloc, self, out, "name", &self.name)?;
+        put_optional(alloc, self, out, "url", &self.url)?;
+        put_extensions(alloc, self, out, &self.extensions)
+    }
+}

@@ -1,0 +1,97 @@
+//! The Link Object.
+ghost use Rattle.std.specs.Prelude.{◌+◌, ◌≤◌, ◌*◌};
+ghost use Rattle.openapi_node.specs.Tree.{size_of};
+ghost use Rattle.openapi_tables.specs.Kind.{by, link, ref_to};
+ghost use Rattle.openapi_values.specs.Reference.{reference_form};
+ghost use Rattle.openapi_fields.specs.Forms.{record_form};
+ghost use Rattle.openapi_fields.specs.Returned.{ReadAs, Refuses, WrittenAs};
+ghost use Rattle.openapi_fields.proofs.Spared.{link_spares};
+ghost use Rattle.openapi_metadata.specs.Links.{link_rows};
+
+use crate::link_operation::{LinkOperation, operation, put_operation};
+use crate::server::Server;
+use openapi_fields::{
+    FromNode, Object, Record, Referable, ToNode, extensions, optional, or_implied, put_extensions,
+    put_implied, put_optional,
+};
+use openapi_node::{Fault, Node, OrderedMap, Steps};
+use openapi_values::ReferenceOr;
+use std::alloc::Global;
+
+/// The Link Object (OpenAPI 3.0.3, section 4.7.20): an operation that may follow a response, and how what the response
+/// gives is handed to it.
+#[derive(Clone, Debug, PartialEq, Drop)]
+pub struct Link {
+    /// A description of the link, in CommonMark.
+    pub description: Option<String>,
+    /// The operation that is linked to: `operationRef` or `operationId`. Required here, as in the Rust crate.
+    pub operation: LinkOperation,
+    /// Literal values or runtime expressions to be passed to the operation, by the names of its parameters.
+    pub parameters: OrderedMap<Node>,
+    /// Extensions: the members whose names begin with `x-`, in their order.
+    pub extensions: OrderedMap<Node>,
+    /// A literal value or a runtime expression to be sent as the request body of the operation.
+    pub request_body: Option<Node>,
+    /// The server to be used for the operation.
+    pub server: Option<Server>,
+}
+
+impl Object for Link {
+    ghost table = { link };
+
+    ghost rows_of = { link_rows };
+}
+
+#[tactic(auto, unfolding(openapi_tables::specs::Tables::final_tables, openapi_tables::specs::Tables::tables_with))]
+impl Record for Link {
+    fn from_members(
+        alloc: Global,
+        members: &OrderedMap<Node>,
+        steps: &mut Steps,
+    ) -> Result<Self, Fault> {
+        Ok(Link {
+            description: optional::<Self, _>(alloc, members, "description", steps)?,
+            operation: operation::<Self>(alloc, members, steps)?,
+            request_body: optional::<Self, _>(alloc, members, "requestBody", steps)?,
+            parameters: or_implied::<Self, _>(alloc, members, "parameters", steps)?,
+            server: optional::<Self, _>(alloc, members, "server", steps)?,
+            extensions: extensions::<Self>(alloc, members, steps)?,
+        })
+    }
+
+    fn put_rows(&self, alloc: Global, out: &mut OrderedMap<Node>) -> Result<(), Fault> {
+        put_optional(alloc, self, out, "description", &self.description)?;
+        put_operation(alloc, self, out, &self.operation)?;
+        put_optional(alloc, self, out, "requestBody", &self.request_body)?;
+        put_implied(alloc, self, out, "parameters", &self.parameters)?;
+        put_optional(alloc, self, out, "server", &self.server)?;
+        put_extensions(alloc, self, out, &self.extensions)
+    }
+}
+
+impl Referable for Link {
+    ghost spares_ref = { link_spares };
+}
+
+/// Reads a link or a reference to one. Err names a rule that the tree breaks, at its place, or says that memory ran
+/// out.
+pub fn link_ref_from_node(
+    alloc: Global,
+    node: &Node,
+    steps: &mut Steps,
+) -> Result<ReferenceOr<Link>, Fault>
+    ensures reads { ReadAs (reference_form (record_form link_rows)) result (ref_to (by link)) node.now }
+    ensures refuses { Refuses result (ref_to (by link)) node.now }
+    ensures rises { steps.old + 1 ≤ steps.new }
+    ensures count { steps.new ≤ steps.old + 3 * size_of node.now }
+{
+    ReferenceOr::from_node(alloc, node, steps)
+}
+
+/// Writes a link or a reference to one. Err at a name of an extension that does not begin with `x-`, or for want of
+/// memory.
+pub fn link_ref_to_node(alloc: Global, value: &ReferenceOr<Link>) -> Result<Node, Fault>
+    ensures { WrittenAs (ref_to (by link)) (reference_form (record_form link_rows) value.now) result }
+{
+    value.to_node(alloc)
+}

@@ -1,0 +1,71 @@
+//! The Server Object.
+ghost use Rattle.std.specs.Prelude.{◌≡◌, [], None, string_bytes};
+ghost use Rattle.openapi_tables.specs.Kind.{server};
+ghost use Rattle.openapi_metadata.specs.Objects.{server_rows};
+
+use crate::server_variable::ServerVariable;
+use openapi_fields::{
+    Object, Record, extensions, optional, put_extensions, put_optional, put_required, required,
+};
+use openapi_node::{Fault, Node, OrderedMap, Steps};
+use std::alloc::Global;
+
+/// The Server Object (OpenAPI 3.0.3, section 4.7.5): a server that offers the API.
+#[derive(Clone, Debug, PartialEq, Drop)]
+pub struct Server {
+    /// The URL of the target host, which may be relative to the document. Names of variables stand in it in braces.
+    /// Required.
+    pub url: String,
+    /// A description of the host, in CommonMark.
+    pub description: Option<String>,
+    /// The server variables by their names, whose values are put into the URL.
+    pub variables: Option<OrderedMap<ServerVariable>>,
+    /// Extensions: the members whose names begin with `x-`, in their order.
+    pub extensions: OrderedMap<Node>,
+}
+
+impl Server {
+    /// Empty texts, lists and maps, and nothing else.
+    pub fn new(alloc: Global) -> Server
+        ensures url { string_bytes result.url ≡ [] }
+        ensures description { result.description ≡ None }
+        ensures variables { result.variables ≡ None }
+        ensures extensions { result.extensions ≡ [] }
+    {
+        Server {
+            url: String::new(alloc),
+            description: None,
+            variables: None,
+            extensions: OrderedMap::new(alloc),
+        }
+    }
+}
+
+impl Object for Server {
+    ghost table = { server };
+
+    ghost rows_of = { server_rows };
+}
+
+#[tactic(auto, unfolding(openapi_tables::specs::Tables::final_tables, openapi_tables::specs::Tables::tables_with))]
+impl Record for Server {
+    fn from_members(
+        alloc: Global,
+        members: &OrderedMap<Node>,
+        steps: &mut Steps,
+    ) -> Result<Self, Fault> {
+        Ok(Server {
+            url: required::<Self, _>(alloc, members, "url", steps)?,
+            description: optional::<Self, _>(alloc, members, "description", steps)?,
+            variables: optional::<Self, _>(alloc, members, "variables", steps)?,
+            extensions: extensions::<Self>(alloc, members, steps)?,
+        })
+    }
+
+    fn put_rows(&self, alloc: Global, out: &mut OrderedMap<Node>) -> Result<(), Fault> {
+        put_required(alloc, self, out, "url", &self.url)?;
+        put_optional(alloc, self, out, "description", &self.description)?;
+        put_optional(alloc, self, out, "variables", &self.variables)?;
+        put_extensions(alloc, self, out, &self.extensions)
+    }
+}

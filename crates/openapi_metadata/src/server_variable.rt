@@ -1,0 +1,70 @@
+//! The Server Variable Object.
+ghost use Rattle.std.specs.Prelude.{◌≡◌, [], None, string_bytes};
+ghost use Rattle.openapi_tables.specs.Kind.{server_variable};
+ghost use Rattle.openapi_metadata.specs.Objects.{server_variable_rows};
+
+use openapi_fields::{
+    Object, Record, extensions, nullable, or_implied, put_extensions, put_implied, put_nullable,
+    put_required, required,
+};
+use openapi_node::{Fault, Node, OrderedMap, Steps};
+use std::alloc::Global;
+
+/// The Server Variable Object (OpenAPI 3.0.3, section 4.7.6): a variable of the URL of a server.
+#[derive(Clone, Debug, PartialEq, Drop)]
+pub struct ServerVariable {
+    /// `enum`: the values that the variable is limited to. Empty where any value may be put in.
+    pub enumeration: Vec<String>,
+    /// The value that is put in where none is supplied. Required.
+    pub default: String,
+    /// A description of the server variable, in CommonMark.
+    pub description: Option<String>,
+    /// Extensions: the members whose names begin with `x-`, in their order.
+    pub extensions: OrderedMap<Node>,
+}
+
+impl ServerVariable {
+    /// Empty texts, lists and maps, and nothing else.
+    pub fn new(alloc: Global) -> ServerVariable
+        ensures enumeration { result.enumeration.items ≡ [] }
+        ensures default { string_bytes result.default ≡ [] }
+        ensures description { result.description ≡ None }
+        ensures extensions { result.extensions ≡ [] }
+    {
+        ServerVariable {
+            enumeration: Vec::new(alloc),
+            default: String::new(alloc),
+            description: None,
+            extensions: OrderedMap::new(alloc),
+        }
+    }
+}
+
+impl Object for ServerVariable {
+    ghost table = { server_variable };
+
+    ghost rows_of = { server_variable_rows };
+}
+
+#[tactic(auto, unfolding(openapi_tables::specs::Tables::final_tables, openapi_tables::specs::Tables::tables_with))]
+impl Record for ServerVariable {
+    fn from_members(
+        alloc: Global,
+        members: &OrderedMap<Node>,
+        steps: &mut Steps,
+    ) -> Result<Self, Fault> {
+        Ok(ServerVariable {
+            enumeration: or_implied::<Self, _>(alloc, members, "enum", steps)?,
+            default: required::<Self, _>(alloc, members, "default", steps)?,
+            description: nullable::<Self, _>(alloc, members, "description", steps)?,
+            extensions: extensions::<Self>(alloc, members, steps)?,
+        })
+    }
+
+    fn put_rows(&self, alloc: Global, out: &mut OrderedMap<Node>) -> Result<(), Fault> {
+        put_implied(alloc, self, out, "enum", &self.enumeration)?;
+        put_required(alloc, self, out, "default", &self.default)?;
+        put_nullable(alloc, self, out, "description", &self.description)?;
+        put_extensions(alloc, self, out, &self.extensions)
+    }
+}

@@ -1,0 +1,112 @@
+//! The Tag Object.
+ghost use Rattle.std.specs.Prelude.{◌≡◌, [], None, string_bytes, OnOk, IfErr};
+ghost use Rattle.openapi_tables.specs.ByRow.{is_class};
+ghost use Rattle.openapi_tables.specs.Kind as kinds;
+ghost use Rattle.openapi_tables.specs.Kind.{tag};
+ghost use Rattle.openapi_tables.specs.Slots.{before, slots_lost, IsWritten};
+ghost use Rattle.openapi_tables.specs.Tables.{final_tables};
+ghost use Rattle.openapi_fields.specs.Forms.{record_slots};
+ghost use Rattle.openapi_fields.specs.Returned.{NotWritable};
+ghost use Rattle.openapi_metadata.specs.Objects.{tag_rows};
+
+use crate::moved::move_extensions;
+use openapi_fields::{
+    IntoNode, Object, Record, ToNode, extensions, optional, put_extensions, put_optional,
+    put_required, required,
+};
+use openapi_node::{Fault, Node, OrderedMap, Steps};
+use openapi_schema_annotations::ExternalDocumentation;
+use std::alloc::Global;
+
+/// The Tag Object (OpenAPI 3.0.3, section 4.7.22): metadata of a tag by which operations are grouped.
+#[derive(Clone, Debug, PartialEq, Drop)]
+pub struct Tag {
+    /// The name of the tag, by which operations name it. Required.
+    pub name: String,
+    /// A description of the tag, in CommonMark.
+    pub description: Option<String>,
+    /// Extensions: the members whose names begin with `x-`, in their order.
+    pub extensions: OrderedMap<Node>,
+    /// External documentation of the tag.
+    pub external_docs: Option<ExternalDocumentation>,
+}
+
+impl Tag {
+    /// Empty texts, lists and maps, and nothing else.
+    pub fn new(alloc: Global) -> Tag
+        ensures name { string_bytes result.name ≡ [] }
+        ensures description { result.description ≡ None }
+        ensures external_docs { result.external_docs ≡ None }
+        ensures extensions { result.extensions ≡ [] }
+    {
+        Tag {
+            name: String::new(alloc),
+            description: None,
+            external_docs: None,
+            extensions: OrderedMap::new(alloc),
+        }
+    }
+}
+
+#[tactic(auto, unfolding(openapi_tables::specs::Tables::final_tables, openapi_tables::specs::Tables::tables_with))]
+impl Tag {
+    /// Writes the rows but for the extensions into an object that has no members yet.
+    fn put_named(&self, alloc: Global, out: &mut OrderedMap<Node>) -> Result<(), Fault>
+        requires { IsWritten final_tables [] out.old }
+        ensures ok { OnOk result (IsWritten final_tables
+            (before (is_class kinds.extensions) (record_slots tag tag_rows self.now)) out.new) }
+        ensures err { IfErr result (λ f. NotWritable f (slots_lost final_tables (record_slots tag tag_rows self.now))) }
+    {
+        put_required(alloc, self, out, "name", &self.name)?;
+        put_optional(alloc, self, out, "description", &self.description)?;
+        put_optional(alloc, self, out, "externalDocs", &self.external_docs)
+    }
+
+    /// The extensions, taken out of the tag.
+    fn into_extensions(self) -> OrderedMap<Node>
+        ensures { result ≡ self.extensions }
+    {
+        self.extensions
+    }
+}
+
+impl Object for Tag {
+    ghost table = { tag };
+
+    ghost rows_of = { tag_rows };
+}
+
+#[tactic(auto, unfolding(openapi_tables::specs::Tables::final_tables, openapi_tables::specs::Tables::tables_with))]
+impl Record for Tag {
+    fn from_members(
+        alloc: Global,
+        members: &OrderedMap<Node>,
+        steps: &mut Steps,
+    ) -> Result<Self, Fault> {
+        Ok(Tag {
+            name: required::<Self, _>(alloc, members, "name", steps)?,
+            description: optional::<Self, _>(alloc, members, "description", steps)?,
+            external_docs: optional::<Self, _>(alloc, members, "externalDocs", steps)?,
+            extensions: extensions::<Self>(alloc, members, steps)?,
+        })
+    }
+
+    fn put_rows(&self, alloc: Global, out: &mut OrderedMap<Node>) -> Result<(), Fault> {
+        self.put_named(alloc, out)?;
+        put_extensions(alloc, self, out, &self.extensions)
+    }
+}
+
+/// The extensions of a tag are moved.
+impl IntoNode for Tag {
+    fn into_node(self, alloc: Global) -> Result<Node, Fault> {
+        let mut out = OrderedMap::new(alloc);
+        match self.put_named(alloc, &mut out) {
+            Ok(()) => match move_extensions(alloc, &mut out, self.into_extensions()) {
+                Ok(()) => Ok(Node::object(out)),
+                Err(fault) => Err(fault),
+            },
+            Err(fault) => Err(fault),
+        }
+    }
+}

@@ -1,0 +1,112 @@
+//! The Response Object.
+ghost use Rattle.std.specs.Prelude.{◌≡◌, ◌+◌, ◌≤◌, ◌*◌, [], string_bytes};
+ghost use Rattle.openapi_node.specs.Tree.{size_of};
+ghost use Rattle.openapi_tables.specs.Kind.{by, ref_to, response};
+ghost use Rattle.openapi_values.specs.Reference.{reference_form};
+ghost use Rattle.openapi_fields.specs.Forms.{record_form};
+ghost use Rattle.openapi_fields.specs.Returned.{ReadAs, Refuses, WrittenAs};
+ghost use Rattle.openapi_fields.proofs.Spared.{response_spares};
+ghost use Rattle.openapi_responses.specs.Messages.{response_rows};
+
+use openapi_fields::{
+    FromNode, Object, Record, Referable, ToNode, extensions, or_implied, put_extensions,
+    put_implied, put_required, required,
+};
+use openapi_media_types::{Content, Header};
+use openapi_metadata::Link;
+use openapi_node::{Fault, Node, OrderedMap, Steps};
+use openapi_values::ReferenceOr;
+use std::alloc::Global;
+
+/// The Response Object (OpenAPI 3.0.3, section 4.7.17): one answer of an operation.
+#[derive(Clone, Debug, PartialEq, Drop)]
+pub struct Response {
+    /// A description of the response, in CommonMark. Required.
+    pub description: String,
+    /// The headers of the response, or references to some, by their names. OpenAPI has `Content-Type` ignored among them;
+    /// it is kept here.
+    pub headers: OrderedMap<ReferenceOr<Header>>,
+    /// What the response may hold, by media types or ranges of these.
+    pub content: Content,
+    /// What may follow the response: links, or references to some, by short names.
+    pub links: OrderedMap<ReferenceOr<Link>>,
+    /// Extensions: the members whose names begin with `x-`, in their order.
+    pub extensions: OrderedMap<Node>,
+}
+
+impl Response {
+    /// The empty description, and nothing else.
+    pub fn new(alloc: Global) -> Response
+        ensures description { string_bytes result.description ≡ [] }
+        ensures headers { result.headers ≡ [] }
+        ensures content { result.content ≡ [] }
+        ensures links { result.links ≡ [] }
+        ensures extensions { result.extensions ≡ [] }
+    {
+        Response {
+            description: String::new(alloc),
+            headers: OrderedMap::new(alloc),
+            content: Content::new(alloc),
+            links: OrderedMap::new(alloc),
+            extensions: OrderedMap::new(alloc),
+        }
+    }
+}
+
+impl Object for Response {
+    ghost table = { response };
+
+    ghost rows_of = { response_rows };
+}
+
+#[tactic(auto, unfolding(openapi_tables::specs::Tables::final_tables, openapi_tables::specs::Tables::tables_with))]
+impl Record for Response {
+    fn from_members(
+        alloc: Global,
+        members: &OrderedMap<Node>,
+        steps: &mut Steps,
+    ) -> Result<Self, Fault> {
+        Ok(Response {
+            description: required::<Self, _>(alloc, members, "description", steps)?,
+            headers: or_implied::<Self, _>(alloc, members, "headers", steps)?,
+            content: or_implied::<Self, _>(alloc, members, "content", steps)?,
+            links: or_implied::<Self, _>(alloc, members, "links", steps)?,
+            extensions: extensions::<Self>(alloc, members, steps)?,
+        })
+    }
+
+    fn put_rows(&self, alloc: Global, out: &mut OrderedMap<Node>) -> Result<(), Fault> {
+        put_required(alloc, self, out, "description", &self.description)?;
+        put_implied(alloc, self, out, "headers", &self.headers)?;
+        put_implied(alloc, self, out, "content", &self.content)?;
+        put_implied(alloc, self, out, "links", &self.links)?;
+        put_extensions(alloc, self, out, &self.extensions)
+    }
+}
+
+impl Referable for Response {
+    ghost spares_ref = { response_spares };
+}
+
+/// Reads a response or a reference to one. Err names a rule that the tree breaks, at its place, or says that memory ran
+/// out.
+pub fn response_ref_from_node(
+    alloc: Global,
+    node: &Node,
+    steps: &mut Steps,
+) -> Result<ReferenceOr<Response>, Fault>
+    ensures reads { ReadAs (reference_form (record_form response_rows)) result (ref_to (by response)) node.now }
+    ensures refuses { Refuses result (ref_to (by response)) node.now }
+    ensures rises { steps.old + 1 ≤ steps.new }
+    ensures count { steps.new ≤ steps.old + 3 * size_of node.now }
+{
+    ReferenceOr::from_node(alloc, node, steps)
+}
+
+/// Writes a response or a reference to one. Err at a name of an extension that does not begin with `x-`, or for want of
+/// memory.
+pub fn response_ref_to_node(alloc: Global, value: &ReferenceOr<Response>) -> Result<Node, Fault>
+    ensures { WrittenAs (ref_to (by response)) (reference_form (record_form response_rows) value.now) result }
+{
+    value.to_node(alloc)
+}

@@ -1,0 +1,68 @@
+//! The Responses Object.
+ghost use Rattle.std.specs.Prelude.{◌≡◌, [], None};
+ghost use Rattle.openapi_tables.specs.Kind.{responses};
+ghost use Rattle.openapi_responses.specs.Messages.{responses_rows};
+
+use crate::codes::{coded_entries, put_coded};
+use crate::response::Response;
+use indexmap::IndexMap;
+use openapi_fields::{Object, Record, extensions, optional, put_extensions, put_optional};
+use openapi_node::{Fault, Node, OrderedMap, Steps};
+use openapi_values::{ReferenceOr, StatusCode};
+use std::alloc::Global;
+
+/// The Responses Object (OpenAPI 3.0.3, section 4.7.16): the responses that an operation may give, by their status codes.
+#[derive(Clone, Debug, PartialEq, Drop)]
+pub struct Responses {
+    /// The response for the codes that are not listed, or a reference to one.
+    pub default: Option<ReferenceOr<Response>>,
+    /// Extensions: the members whose names begin with `x-`, in their order.
+    pub extensions: OrderedMap<Node>,
+    /// The response, or a reference to one, for each status code or range of codes, in the order in which the codes came.
+    /// Of two names of one code, such as `2xx` and `2XX`, both values are checked, and the later one stands in the place of
+    /// the earlier. Any digit may begin a range, though OpenAPI lists `1XX` to `5XX` alone. A code can be written where its
+    /// text is read as it again: one of 100 to 999, or a range of one digit.
+    pub responses: IndexMap<StatusCode, ReferenceOr<Response>>,
+}
+
+impl Responses {
+    /// No responses.
+    pub fn new(alloc: Global) -> Responses
+        ensures default { result.default ≡ None }
+        ensures responses { result.responses.entries ≡ [] }
+        ensures extensions { result.extensions ≡ [] }
+    {
+        Responses {
+            default: None,
+            responses: IndexMap::new(alloc),
+            extensions: OrderedMap::new(alloc),
+        }
+    }
+}
+
+impl Object for Responses {
+    ghost table = { responses };
+
+    ghost rows_of = { responses_rows };
+}
+
+#[tactic(auto, unfolding(openapi_tables::specs::Tables::final_tables, openapi_tables::specs::Tables::tables_with))]
+impl Record for Responses {
+    fn from_members(
+        alloc: Global,
+        members: &OrderedMap<Node>,
+        steps: &mut Steps,
+    ) -> Result<Self, Fault> {
+        Ok(Responses {
+            extensions: extensions::<Self>(alloc, members, steps)?,
+            default: optional::<Self, _>(alloc, members, "default", steps)?,
+            responses: coded_entries::<Self, _>(alloc, members, steps)?,
+        })
+    }
+
+    fn put_rows(&self, alloc: Global, out: &mut OrderedMap<Node>) -> Result<(), Fault> {
+        put_optional(alloc, self, out, "default", &self.default)?;
+        put_coded(alloc, self, out, &self.responses)?;
+        put_extensions(alloc, self, out, &self.extensions)
+    }
+}

@@ -1,0 +1,64 @@
+//! The External Documentation Object.
+ghost use Rattle.std.specs.Prelude.{◌≡◌, [], None, string_bytes};
+ghost use Rattle.openapi_tables.specs.Kind.{external_documentation};
+ghost use Rattle.openapi_schema_annotations.specs.Objects.{external_documentation_rows};
+
+use openapi_fields::{
+    Object, Record, extensions, optional, put_extensions, put_optional, put_required, required,
+};
+use openapi_node::{Fault, Node, OrderedMap, Steps};
+use std::alloc::Global;
+
+/// The External Documentation Object (OpenAPI 3.0.3, section 4.7.11): a resource outside the document with further
+/// documentation.
+#[derive(Clone, Debug, PartialEq, Drop)]
+pub struct ExternalDocumentation {
+    /// A description of the target documentation, in CommonMark.
+    pub description: Option<String>,
+    /// The URL of the target documentation. Required.
+    pub url: String,
+    /// Extensions: the members whose names begin with `x-`, in their order.
+    pub extensions: OrderedMap<Node>,
+}
+
+impl ExternalDocumentation {
+    /// Empty texts, lists and maps, and nothing else.
+    pub fn new(alloc: Global) -> ExternalDocumentation
+        ensures description { result.description ≡ None }
+        ensures url { string_bytes result.url ≡ [] }
+        ensures extensions { result.extensions ≡ [] }
+    {
+        ExternalDocumentation {
+            description: None,
+            url: String::new(alloc),
+            extensions: OrderedMap::new(alloc),
+        }
+    }
+}
+
+impl Object for ExternalDocumentation {
+    ghost table = { external_documentation };
+
+    ghost rows_of = { external_documentation_rows };
+}
+
+#[tactic(auto, unfolding(openapi_tables::specs::Tables::final_tables, openapi_tables::specs::Tables::tables_with))]
+impl Record for ExternalDocumentation {
+    fn from_members(
+        alloc: Global,
+        members: &OrderedMap<Node>,
+        steps: &mut Steps,
+    ) -> Result<Self, Fault> {
+        Ok(ExternalDocumentation {
+            description: optional::<Self, _>(alloc, members, "description", steps)?,
+            url: required::<Self, _>(alloc, members, "url", steps)?,
+            extensions: extensions::<Self>(alloc, members, steps)?,
+        })
+    }
+
+    fn put_rows(&self, alloc: Global, out: &mut OrderedMap<Node>) -> Result<(), Fault> {
+        put_optional(alloc, self, out, "description", &self.description)?;
+        put_required(alloc, self, out, "url", &self.url)?;
+        put_extensions(alloc, self, out, &self.extensions)
+    }
+}

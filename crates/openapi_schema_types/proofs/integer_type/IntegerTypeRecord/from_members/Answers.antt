@@ -1,0 +1,24 @@
+use Rattle.openapi_tables.specs.Tables.{final_tables, tables_with}
+use Rattle.openapi_schema_types.proofs.integer_type.IntegerTypeRecord.from_members.Goals as goal
+
+pub returns-clause-reads : goal.returns-clause-reads
+unfolding final_tables tables_with
+returns-clause-reads c = (
+  c.in_ok-or_implied.ensures.reads,
+  (
+    c.in_ok-optional.ensures.reads,
+    (
+      c.in_ok-or_implied-2.ensures.reads,
+      (
+        c.in_ok-or_implied-3.ensures.reads,
+        (
+          c.in_ok-optional-2.ensures.reads,
+          (
+            c.in_ok-optional-3.ensures.reads,
+            (c.in_ok-or_implied-4.ensures.reads, tt),
+          ),
+        ),
+      ),
+    ),
+  ),
+)

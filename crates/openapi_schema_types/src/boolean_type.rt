@@ -1,0 +1,49 @@
+//! Schemas of flags.
+ghost use Rattle.std.specs.Prelude.{◌≡◌, []};
+ghost use Rattle.openapi_tables.specs.Kind.{boolean_type};
+ghost use Rattle.openapi_schema_types.specs.PartForms.{boolean_type_rows};
+
+use openapi_fields::{Object, Record, or_implied, put_implied};
+use openapi_node::{Fault, Node, OrderedMap, Steps};
+use std::alloc::Global;
+
+/// A schema of `type` `boolean` (OpenAPI 3.0.3, section 4.7.24).
+#[derive(Clone, Debug, PartialEq, Drop)]
+pub struct BooleanType {
+    /// `enum`: the booleans that are allowed, null among them. Empty where any is.
+    pub enumeration: Vec<Option<bool>>,
+}
+
+impl BooleanType {
+    /// Any flag.
+    pub fn new(alloc: Global) -> BooleanType
+        ensures { result.enumeration.items ≡ [] }
+    {
+        BooleanType {
+            enumeration: Vec::new(alloc),
+        }
+    }
+}
+
+impl Object for BooleanType {
+    ghost table = { boolean_type };
+
+    ghost rows_of = { boolean_type_rows };
+}
+
+#[tactic(auto, unfolding(openapi_tables::specs::Tables::final_tables, openapi_tables::specs::Tables::tables_with, openapi_tables::specs::Tables::boolean_rows))]
+impl Record for BooleanType {
+    fn from_members(
+        alloc: Global,
+        members: &OrderedMap<Node>,
+        steps: &mut Steps,
+    ) -> Result<Self, Fault> {
+        Ok(BooleanType {
+            enumeration: or_implied::<Self, _>(alloc, members, "enum", steps)?,
+        })
+    }
+
+    fn put_rows(&self, alloc: Global, out: &mut OrderedMap<Node>) -> Result<(), Fault> {
+        put_implied(alloc, self, out, "enum", &self.enumeration)
+    }
+}

@@ -1,0 +1,99 @@
+//! Schemas of numbers.
+ghost use Rattle.std.specs.Prelude.{◌≡◌, false, [], None};
+ghost use Rattle.openapi_tables.specs.Kind.{number_type};
+ghost use Rattle.openapi_values.specs.declared.variant_or.VariantOrUnknownOrEmpty.TheVariants.{Empty};
+ghost use Rattle.openapi_schema_types.specs.PartForms.{number_type_rows};
+
+use openapi_fields::{Object, Record, optional, or_implied, put_implied, put_optional};
+use openapi_node::{Fault, Node, OrderedMap, Steps, Whole};
+use openapi_values::{NumberFormat, VariantOrUnknownOrEmpty};
+use std::alloc::Global;
+
+/// A schema of `type` `number` (OpenAPI 3.0.3, section 4.7.24). Its limits are whole numbers here.
+#[derive(Clone, Debug, PartialEq, Drop)]
+pub struct NumberType {
+    /// The format of the number: `float`, `double`, another text, or none.
+    pub format: VariantOrUnknownOrEmpty<NumberFormat>,
+    /// The number has to be a multiple of this.
+    pub multiple_of: Option<Whole>,
+    /// Whether `minimum` itself is excluded. False by default.
+    pub exclusive_minimum: bool,
+    /// Whether `maximum` itself is excluded. False by default.
+    pub exclusive_maximum: bool,
+    /// The least number that is allowed.
+    pub minimum: Option<Whole>,
+    /// The greatest number that is allowed.
+    pub maximum: Option<Whole>,
+    /// `enum`: the numbers that are allowed, null among them. Empty where any is.
+    pub enumeration: Vec<Option<Whole>>,
+}
+
+impl NumberType {
+    /// Any number.
+    pub fn new(alloc: Global) -> NumberType
+        ensures format { result.format ≡ Empty }
+        ensures multiple_of { result.multiple_of ≡ None }
+        ensures exclusive_minimum { result.exclusive_minimum ≡ false }
+        ensures exclusive_maximum { result.exclusive_maximum ≡ false }
+        ensures minimum { result.minimum ≡ None }
+        ensures maximum { result.maximum ≡ None }
+        ensures enumeration { result.enumeration.items ≡ [] }
+    {
+        NumberType {
+            format: VariantOrUnknownOrEmpty::Empty,
+            multiple_of: None,
+            exclusive_minimum: false,
+            exclusive_maximum: false,
+            minimum: None,
+            maximum: None,
+            enumeration: Vec::new(alloc),
+        }
+    }
+}
+
+impl Object for NumberType {
+    ghost table = { number_type };
+
+    ghost rows_of = { number_type_rows };
+}
+
+#[tactic(auto, unfolding(openapi_tables::specs::Tables::final_tables, openapi_tables::specs::Tables::tables_with))]
+impl Record for NumberType {
+    fn from_members(
+        alloc: Global,
+        members: &OrderedMap<Node>,
+        steps: &mut Steps,
+    ) -> Result<Self, Fault> {
+        Ok(NumberType {
+            format: or_implied::<Self, _>(alloc, members, "format", steps)?,
+            multiple_of: optional::<Self, _>(alloc, members, "multipleOf", steps)?,
+            exclusive_minimum: or_implied::<Self, _>(alloc, members, "exclusiveMinimum", steps)?,
+            exclusive_maximum: or_implied::<Self, _>(alloc, members, "exclusiveMaximum", steps)?,
+            minimum: optional::<Self, _>(alloc, members, "minimum", steps)?,
+            maximum: optional::<Self, _>(alloc, members, "maximum", steps)?,
+            enumeration: or_implied::<Self, _>(alloc, members, "enum", steps)?,
+        })
+    }
+
+    fn put_rows(&self, alloc: Global, out: &mut OrderedMap<Node>) -> Result<(), Fault> {
+        put_implied(alloc, self, out, "format", &self.format)?;
+        put_optional(alloc, self, out, "multipleOf", &self.multiple_of)?;
+        put_implied(
+            alloc,
+            self,
+            out,
+            "exclusiveMinimum",
+            &self.exclusive_minimum,
+        )?;
+        put_implied(
+            alloc,
+            self,
+            out,
+            "exclusiveMaximum",
+            &self.exclusive_maximum,
+        )?;
+        put_optional(alloc, self, out, "minimum", &self.minimum)?;
+        put_optional(alloc, self, out, "maximum", &self.maximum)?;
+        put_implied(alloc, self, out, "enum", &self.enumeration)
+    }
+}

@@ -1,0 +1,139 @@
+//! What every kind of schema can say.
+ghost use Rattle.std.specs.Prelude.{◌≡◌, false, [], None};
+ghost use Rattle.openapi_tables.specs.Kind.{schema_data};
+ghost use Rattle.openapi_schema_types.specs.PartForms.{schema_data_rows};
+
+use openapi_fields::{
+    Object, Record, extensions, join, optional, or_implied, put_extensions, put_implied,
+    put_optional,
+};
+use openapi_node::{Fault, Node, OrderedMap, Steps};
+use openapi_schema_annotations::{Discriminator, ExternalDocumentation, Xml};
+use std::alloc::Global;
+
+/// What every kind of Schema Object (OpenAPI 3.0.3, section 4.7.24) can say: its annotations. Each flag is false by
+/// default.
+#[derive(Clone, Debug, PartialEq, Drop)]
+pub struct SchemaData {
+    /// Whether null is allowed too.
+    pub nullable: bool,
+    /// `readOnly`: whether the property may be sent in a response alone, and not in a request.
+    pub read_only: bool,
+    /// `writeOnly`: whether the property may be sent in a request alone, and not in a response.
+    pub write_only: bool,
+    /// Whether the schema is deprecated, and should go out of use.
+    pub deprecated: bool,
+    /// External documentation of the schema.
+    pub external_docs: Option<ExternalDocumentation>,
+    /// A free-form example of an instance of the schema.
+    pub example: Option<Node>,
+    /// The title of the schema, as in JSON Schema.
+    pub title: Option<String>,
+    /// A description of the schema, in CommonMark.
+    pub description: Option<String>,
+    /// Which property tells by which of several schemas a payload is described.
+    pub discriminator: Option<Discriminator>,
+    /// The value that a receiver assumes where none is given.
+    pub default: Option<Node>,
+    /// How the schema's property is represented in XML.
+    pub xml: Option<Xml>,
+    /// Extensions: the members whose names begin with `x-`, in their order.
+    pub extensions: OrderedMap<Node>,
+}
+
+impl SchemaData {
+    /// No flag is set, and nothing else is said.
+    pub fn new(alloc: Global) -> SchemaData
+        ensures nullable { result.nullable ≡ false }
+        ensures read_only { result.read_only ≡ false }
+        ensures write_only { result.write_only ≡ false }
+        ensures deprecated { result.deprecated ≡ false }
+        ensures external_docs { result.external_docs ≡ None }
+        ensures example { result.example ≡ None }
+        ensures title { result.title ≡ None }
+        ensures description { result.description ≡ None }
+        ensures discriminator { result.discriminator ≡ None }
+        ensures default { result.default ≡ None }
+        ensures xml { result.xml ≡ None }
+        ensures extensions { result.extensions ≡ [] }
+    {
+        SchemaData {
+            nullable: false,
+            read_only: false,
+            write_only: false,
+            deprecated: false,
+            external_docs: None,
+            example: None,
+            title: None,
+            description: None,
+            discriminator: None,
+            default: None,
+            xml: None,
+            extensions: OrderedMap::new(alloc),
+        }
+    }
+}
+
+impl Object for SchemaData {
+    ghost table = { schema_data };
+
+    ghost rows_of = { schema_data_rows };
+}
+
+#[tactic(auto, unfolding(openapi_tables::specs::Tables::final_tables, openapi_tables::specs::Tables::tables_with))]
+impl Record for SchemaData {
+    fn from_members(
+        alloc: Global,
+        members: &OrderedMap<Node>,
+        steps: &mut Steps,
+    ) -> Result<Self, Fault> {
+        let nullable = or_implied::<Self, _>(alloc, members, "nullable", steps)?;
+        let read_only = or_implied::<Self, _>(alloc, members, "readOnly", steps)?;
+        let write_only = or_implied::<Self, _>(alloc, members, "writeOnly", steps)?;
+        let deprecated = or_implied::<Self, _>(alloc, members, "deprecated", steps)?;
+        let docs = optional::<Self, _>(alloc, members, "externalDocs", steps);
+        let shown = join(docs, optional::<Self, _>(alloc, members, "example", steps));
+        let title = optional::<Self, _>(alloc, members, "title", steps);
+        let texts = join(
+            title,
+            optional::<Self, _>(alloc, members, "description", steps),
+        );
+        let told = optional::<Self, _>(alloc, members, "discriminator", steps);
+        let assumed = join(told, optional::<Self, _>(alloc, members, "default", steps));
+        let xml = optional::<Self, _>(alloc, members, "xml", steps);
+        let rest = join(xml, extensions::<Self>(alloc, members, steps));
+        let (
+            ((external_docs, example), (title, description)),
+            ((discriminator, default), (xml, extensions)),
+        ) = join(join(shown, texts), join(assumed, rest))?;
+        Ok(SchemaData {
+            nullable,
+            read_only,
+            write_only,
+            deprecated,
+            external_docs,
+            example,
+            title,
+            description,
+            discriminator,
+            default,
+            xml,
+            extensions,
+        })
+    }
+
+    fn put_rows(&self, alloc: Global, out: &mut OrderedMap<Node>) -> Result<(), Fault> {
+        put_implied(alloc, self, out, "nullable", &self.nullable)?;
+        put_implied(alloc, self, out, "readOnly", &self.read_only)?;
+        put_implied(alloc, self, out, "writeOnly", &self.write_only)?;
+        put_implied(alloc, self, out, "deprecated", &self.deprecated)?;
+        put_optional(alloc, self, out, "externalDocs", &self.external_docs)?;
+        put_optional(alloc, self, out, "example", &self.example)?;
+        put_optional(alloc, self, out, "title", &self.title)?;
+        put_optional(alloc, self, out, "description", &self.description)?;
+        put_optional(alloc, self, out, "discriminator", &self.discriminator)?;
+        put_optional(alloc, self, out, "default", &self.default)?;
+        put_optional(alloc, self, out, "xml", &self.xml)?;
+        put_extensions(alloc, self, out, &self.extensions)
+    }
+}

@@ -16,7 +16,7 @@ import sys
 
 TOP = os.path.dirname(os.path.dirname(os.path.realpath(__file__)))
 # The crates of tests, and the program that answers the cases.
-TESTS = re.compile(r"_vectors$|^openapi_cases$")
+TESTS = re.compile(r"^openapi_(vectors|test_support|cases)$")
 # What the root of openapiv3 names: the crate that it comes from, and its name.
 EXPORT = re.compile(r"^pub use (\w+)::(\w+);$", re.M)
 # An `impl` with the type that it is for; the end of an item; a public function with its indentation and its name, and the

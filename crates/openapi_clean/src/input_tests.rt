@@ -78,7 +78,7 @@ fn deeper_text_is_not_json(rt: HostRuntime) -> Result<(), Fail> {
     Ok(())
 }
 
-/// ReadAs or takes at most some bytes a call, and fails at one call.
+/// Gives or takes at most some bytes a call, and fails at one call.
 #[derive(Drop)]
 struct Halting<T> {
     inner: T,

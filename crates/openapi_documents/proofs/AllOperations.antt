@@ -3,10 +3,8 @@ use Rattle.std.proofs.Common.{◌≡◌, ℕ, List, [], ◌∷◌, length, refl,
 use Rattle.std.proofs.iter.runs.Sources.{from_front}
 use Rattle.std.specs.Map.Iter.{TakesFirst, ShowsInOrder}
 use Rattle.openapi_map.specs.Entries.{Entries}
-use Rattle.openapi_tables.specs.Form.{name, named_of}
-use Rattle.openapi_tables.specs.Lists.{join}
+use Rattle.openapi_tables.specs.Prelude.{name, named_of, join, pairs_of}
 use Rattle.openapi_tables.specs.Operations.{at_path, ops, ops_of_item, ops_of_paths}
-use Rattle.openapi_tables.specs.Slots.{pairs_of}
 use Rattle.openapi_values.specs.Reference.{reference_form}
 use Rattle.openapi_values.specs.declared.reference.ReferenceOr.{ReferenceOr}
 use Rattle.openapi_values.specs.declared.reference.ReferenceOr.TheVariants as v
@@ -15,14 +13,8 @@ use Rattle.openapi_operations.specs.Present.{forms_under, present_operations}
 use Rattle.openapi_operations.specs.declared.operation.Operation.{Operation}
 use Rattle.openapi_operations.specs.declared.path_item.PathItem.{PathItem}
 use Rattle.openapi_operations.proofs.PresentForms.{present_forms}
-use Rattle.openapi_documents.specs.AllOperations.{
-  Placed,
-  document_operations,
-  operations_at,
-  operations_under,
-  placed_forms,
-  under_path,
-}
+use Rattle.openapi_documents.specs.AllOperations.{Placed, document_operations, operations_at, operations_under}
+use Rattle.openapi_documents.specs.AllOperations.{placed_forms, under_path}
 use Rattle.openapi_documents.specs.Documents.{document_form}
 use Rattle.openapi_documents.specs.declared.open_api.OpenAPI.{OpenAPI}
 
@@ -53,5 +45,6 @@ forms_under_paths (e ∷ es) =
     placed_join (operations_at e.0 e.1) (operations_under es)
     ∙ (λ i. join (forms_of_item e.0 e.1 i) (forms_under_paths es i))
 
+-- the operations of a document have the forms of the operations that its form holds
 pub document_forms : (x : OpenAPI) → placed_forms (document_operations x) ≡ ops (document_form x)
 document_forms x = forms_under_paths x.paths.paths

@@ -1,26 +1,23 @@
 -- What was read of a tree, and what is read of what it is written as.
 use Rattle.std.proofs.Common.{◌≡◌, ◌↔◌, true, refl, sym, ap, ◌∙◌, subst, []}
 use Rattle.openapi_node.specs.Tree.{Tree}
-use Rattle.openapi_tables.specs.Print.{again, print, clean}
-use Rattle.openapi_tables.specs.Read.{form}
-use Rattle.openapi_tables.specs.Sound.{sound}
-use Rattle.openapi_tables.specs.Stays.{stays}
-use Rattle.openapi_tables.specs.Tables.{final_tables, tables_with}
-use Rattle.openapi_tables.specs.Unwritable.{unwritable}
+use Rattle.openapi_tables.specs.Prelude.{again, print, clean, form, sound, stays, final_tables, tables_with, unwritable}
 use Rattle.openapi_tables.proofs.AllReadProper.{read_proper}
 use Rattle.openapi_tables.proofs.Cleaned as cleaned
-use Rattle.openapi_tables.proofs.FirstValue.{first_stays}
-use Rattle.openapi_tables.proofs.ReadAgain.{read_again}
+use Rattle.openapi_tables.proofs.again.FirstValue.{first_stays}
+use Rattle.openapi_tables.proofs.again.ReadAgain.{read_again}
 use Rattle.openapi_tables.proofs.WellMade.{final_sound}
 use Rattle.openapi_tables.proofs.WritableLaws.{writable}
 use Rattle.openapi_documents.specs.Documents.{document_form}
 use Rattle.openapi_documents.specs.Headline.{IsReadOf, document}
 use Rattle.openapi_documents.specs.declared.open_api.OpenAPI.{OpenAPI}
 
+-- the kind of a whole document is well made
 pub document_sound : sound final_tables document ≡ true
 unfolding final_tables tables_with
 document_sound = refl
 
+-- nothing in a document that was read of a tree is unwritable
 pub can_be_written : (t : Tree) (x : OpenAPI) → IsReadOf x t
     → unwritable final_tables document (document_form x) ≡ []
 can_be_written t x r =
@@ -33,6 +30,7 @@ reads_again : (t : Tree) (x y : OpenAPI) → IsReadOf x t → IsReadOf y (clean 
     → again final_tables document (document_form x) ≡ document_form y
 reads_again t x y r h = ap (again final_tables document) (sym r.1) ∙ h.1
 
+-- what is read of the cleaned tree has the same form once it is written and read again
 pub is_settled : (t : Tree) (x y z : OpenAPI) → IsReadOf x t → IsReadOf y (clean final_tables document t)
     → IsReadOf z (print final_tables document (document_form y)) → document_form z ≡ document_form y
 is_settled t x y z r h g =
@@ -42,6 +40,7 @@ is_settled t x y z r h g =
     (read_proper final_tables final_sound t document document_sound r.0) in
     sym g.1 ∙ sym (ap (again final_tables document) h.1) ∙ s ∙ h.1
 
+-- and it has the form that was read first exactly where that form stays
 pub is_first : (t : Tree) (x y : OpenAPI) → IsReadOf x t → IsReadOf y (clean final_tables document t)
     → (document_form y ≡ document_form x) ↔ (stays final_tables document (document_form x) ≡ true)
 is_first t x y r h =

@@ -1,4 +1,5 @@
--- The operations of a document, each with its path and its method.
+-- The operations of a document, each with its path and its method, and what an iterator over them has left. Their
+-- forms are `ops` of Operations in openapi_tables.
 use Rattle.std.specs.Prelude.{ℕ, List, [], ◌∷◌, Option, Some, None}
 use Rattle.std.specs.Borrow.{Bor}
 use Rattle.openapi_map.specs.Entries.{Entries}

@@ -1,4 +1,5 @@
--- What the laws of the tables say of whole documents, put together.
+-- What the laws of the tables say of whole documents, put together: what holds of every tree that is to be a
+-- document.
 use Rattle.std.specs.Prelude.{◌≡◌, ◌↔◌, ◌≤◌, ◌*◌, true, false, []}
 use Rattle.openapi_node.specs.Tree.{Tree, size_of}
 use Rattle.openapi_tables.specs.Conforms.{conforms}

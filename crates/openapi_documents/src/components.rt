@@ -1,3 +1,4 @@
+#![tactic(auto, unfolding(openapi_tables::specs::Tables::final_tables, openapi_tables::specs::Tables::tables_with))]
 //! The Components Object.
 ghost use Rattle.std.specs.Prelude.{◌≡◌, ◌+◌, ◌≤◌, ◌*◌, []};
 ghost use Rattle.openapi_node.specs.Tree.{members_of};
@@ -12,7 +13,7 @@ ghost use Rattle.openapi_documents.specs.Parts.{first_forms, first_rows, last_fo
 use openapi_fields::{Object, Record, extensions, or_implied, put_extensions, put_implied};
 use openapi_media_types::Header;
 use openapi_metadata::{Example, Link};
-use openapi_node::{Fault, Node, OrderedMap, Steps};
+use openapi_node::{Fault, Members, Node, OrderedMap, Steps};
 use openapi_operations::Callback;
 use openapi_parameters::Parameter;
 use openapi_responses::{RequestBody, Response};
@@ -97,12 +98,7 @@ struct LastComponents {
 }
 
 /// Reads the components whose rows stand first.
-#[tactic(auto, unfolding(openapi_tables::specs::Tables::final_tables, openapi_tables::specs::Tables::tables_with))]
-fn read_first(
-    alloc: Global,
-    members: &OrderedMap<Node>,
-    steps: &mut Steps,
-) -> Result<FirstComponents, Fault>
+fn read_first(alloc: Global, members: &Members, steps: &mut Steps) -> Result<FirstComponents, Fault>
     ensures reads { PartReadAs first_forms result (by kinds.components) first_rows (members_of members.now) }
     ensures count { RisesBy steps.old steps.new (3 * rows_weight first_rows (members_of members.now)) }
 {
@@ -116,12 +112,7 @@ fn read_first(
 }
 
 /// Reads the components whose rows stand last, and the extensions.
-#[tactic(auto, unfolding(openapi_tables::specs::Tables::final_tables, openapi_tables::specs::Tables::tables_with))]
-fn read_last(
-    alloc: Global,
-    members: &OrderedMap<Node>,
-    steps: &mut Steps,
-) -> Result<LastComponents, Fault>
+fn read_last(alloc: Global, members: &Members, steps: &mut Steps) -> Result<LastComponents, Fault>
     ensures reads { PartReadAs last_forms result (by kinds.components) last_rows (members_of members.now) }
     ensures count { RisesBy steps.old steps.new (3 * rows_weight last_rows (members_of members.now)) }
 {
@@ -140,13 +131,8 @@ impl Object for Components {
     ghost rows_of = { components_rows };
 }
 
-#[tactic(auto, unfolding(openapi_tables::specs::Tables::final_tables, openapi_tables::specs::Tables::tables_with))]
 impl Record for Components {
-    fn from_members(
-        alloc: Global,
-        members: &OrderedMap<Node>,
-        steps: &mut Steps,
-    ) -> Result<Self, Fault> {
+    fn from_members(alloc: Global, members: &Members, steps: &mut Steps) -> Result<Self, Fault> {
         let first = read_first(alloc, members, steps)?;
         let last = read_last(alloc, members, steps)?;
         Ok(Components {
@@ -163,7 +149,7 @@ impl Record for Components {
         })
     }
 
-    fn put_rows(&self, alloc: Global, out: &mut OrderedMap<Node>) -> Result<(), Fault> {
+    fn put_rows(&self, alloc: Global, out: &mut Members) -> Result<(), Fault> {
         put_implied(alloc, self, out, "schemas", &self.schemas)?;
         put_implied(alloc, self, out, "responses", &self.responses)?;
         put_implied(alloc, self, out, "parameters", &self.parameters)?;

@@ -1,43 +1,33 @@
 -- What was read one step below, as it is seen from here; and refusals at the root.
-use Rattle.std.proofs.Common.{◌≡◌, ℕ, Bool, true, ◌≤◌, List, [], ◌∷◌, Result, Ok, Err, IfOk, IfErr, map, refl, sym, ap, ◌∙◌, subst, inl, inr, arith}
+use Rattle.std.proofs.Common.{◌≡◌, ℕ, Bool, true, ◌≤◌, List, [], ◌∷◌, Result, Ok, Err, IfOk, IfErr, map, refl, sym, ap}
+use Rattle.std.proofs.Common.{◌∙◌, subst, inl, inr, arith}
 use Rattle.std.specs.Borrow.{Bor}
 use Rattle.openapi_map.specs.declared.OrderedMap.{OrderedMap}
 use Rattle.openapi_node.specs.Fault.{IsMemory, GoesUp, place_of, step_of}
 use Rattle.openapi_node.specs.Place.{Step, Place}
-use Rattle.openapi_node.specs.Tree.{Tree, null, flag, whole, text, list, object, size_of}
+use Rattle.openapi_node.specs.Tree.{Tree, null, size_of}
 use Rattle.openapi_node.specs.View.{shown}
 use Rattle.openapi_node.specs.declared.fault.Cause.{Cause}
-use Rattle.openapi_node.specs.declared.fault.Cause.TheVariants.{
-  Missing,
-  MissingEither,
-  WrongKind,
-  NotAllowed,
-  UnknownVariant,
-  NameNotWritable,
-  NotWhole,
-  Memory,
-}
+use Rattle.openapi_node.specs.declared.fault.Cause.TheVariants.{Missing, MissingEither, WrongKind, NotAllowed}
+use Rattle.openapi_node.specs.declared.fault.Cause.TheVariants.{UnknownVariant, NameNotWritable, NotWhole, Memory}
 use Rattle.openapi_node.specs.declared.fault.Expected.TheVariants as words
 use Rattle.openapi_node.specs.declared.fault.PlaceStep.{PlaceStep}
 use Rattle.openapi_node.specs.declared.fault.Fault.{Fault}
 use Rattle.openapi_node.specs.declared.node.Node.{Node}
 use Rattle.openapi_node.specs.declared.node.View.{View}
 use Rattle.openapi_node.specs.declared.node.View.TheVariants as v
-use Rattle.openapi_tables.specs.Kind.{Kind, any_text, any_flag, any_tree, list_of, map_of, by}
-use Rattle.openapi_tables.specs.Tables.{final_tables}
-use Rattle.openapi_tables.specs.Form.{Form, leaf}
-use Rattle.openapi_tables.specs.Sound.{sound}
+use Rattle.openapi_tables.specs.Prelude.{Kind, any_text, any_flag, any_tree, list_of, map_of, by, final_tables, Form}
+use Rattle.openapi_tables.specs.Prelude.{leaf, sound, causes, wrong_kind, Among, Broken, StepsTo}
 use Rattle.openapi_tables.specs.Faults as faults
-use Rattle.openapi_tables.specs.Faults.{causes, wrong_kind}
-use Rattle.openapi_tables.specs.Laws.{Among}
-use Rattle.openapi_tables.specs.ByRow.{Broken, StepsTo}
 use Rattle.openapi_tables.proofs.ByRowLaws.{broken_root, broken_below, broken_refuses, any_conforms, any_form}
 use Rattle.openapi_tables.proofs.WellMade.{final_sound}
 use Rattle.openapi_fields.specs.Returned.{FailsBy, Fails, FailsBelow, Reads, ReadAs, RefusesBy, Refuses, AtStep}
 
+-- want of memory is a refusal of any tree under any kind
 pub memory_fails : (f : Fault) (k : Kind) (t : Tree) → IsMemory f → Fails f k t
 memory_fails f k t m = subst (λ c. FailsBy c (place_of f) k t) (sym m.cause) (ap (map step_of) m.place)
 
+-- a list that stands for a place without steps is empty
 pub no_steps : (xs : List PlaceStep) → map step_of xs ≡ [] → xs ≡ []
 no_steps [] h = refl
 no_steps (x ∷ xs) h = cc
@@ -68,6 +58,7 @@ module _ (s : Step) (e f : Fault) (k l : Kind) (t u : Tree) (up : GoesUp s e f) 
         | inr q ↦ subst (λ c. FailsBy c (place_of f) k t) (sym q.0) (moved e.cause refl q.1 h)
       ]
 
+-- a refusal one step below is one of the value above, where all that is asked below is asked from above too
 pub fails_above : (s : Step) (f : Fault) (k l : Kind) (t u : Tree) → StepsTo final_tables k t s l u → FailsBelow s f l u
     → Fails f k t
 fails_above s f k l t u leads h = goes_up s h.0 f k l t u h.1 leads h.2
@@ -112,56 +103,37 @@ wrong_here f w k t p e h = fails_here f (WrongKind w) k t p e (broken_root final
 -- a look that shows another kind of value than the one that is expected
 pub not_text : (w : View) → ((s : Bor (List ℕ)) → w ≡ v.Text s → ⊥)
     → Among (wrong_kind words.Text) (causes final_tables any_text (shown w))
-not_text v.Null h = inl refl
-not_text (v.Flag b) h = inl refl
-not_text (v.Whole z) h = inl refl
 not_text (v.Text s) h = absurd (h s refl)
-not_text (v.List ts) h = inl refl
-not_text (v.Object m) h = inl refl
+not_text w h = inl refl
 
+-- a look that shows no flag, where a flag is asked
 pub not_flag : (w : View) → ((b : Bool) → w ≡ v.Flag b → ⊥)
     → Among (wrong_kind words.Flag) (causes final_tables any_flag (shown w))
-not_flag v.Null h = inl refl
 not_flag (v.Flag b) h = absurd (h b refl)
-not_flag (v.Whole z) h = inl refl
-not_flag (v.Text s) h = inl refl
-not_flag (v.List ts) h = inl refl
-not_flag (v.Object m) h = inl refl
+not_flag w h = inl refl
 
+-- a look that shows no list, where a list is asked
 pub not_list : (k : Kind) (w : View) → ((ns : Bor (List Tree)) → w ≡ v.List ns → ⊥)
     → Among (wrong_kind words.List) (causes final_tables (list_of k) (shown w))
-not_list k v.Null h = inl refl
-not_list k (v.Flag b) h = inl refl
-not_list k (v.Whole z) h = inl refl
-not_list k (v.Text s) h = inl refl
 not_list k (v.List ts) h = absurd (h ts refl)
-not_list k (v.Object m) h = inl refl
+not_list k w h = inl refl
 
+-- a look that shows no object, where a map is asked
 pub not_map : (k : Kind) (w : View) → ((m : Bor (OrderedMap Node)) → w ≡ v.Object m → ⊥)
     → Among (wrong_kind words.Object) (causes final_tables (map_of k) (shown w))
-not_map k v.Null h = inl refl
-not_map k (v.Flag b) h = inl refl
-not_map k (v.Whole z) h = inl refl
-not_map k (v.Text s) h = inl refl
-not_map k (v.List ts) h = inl refl
 not_map k (v.Object m) h = absurd (h m refl)
+not_map k w h = inl refl
 
+-- a look that shows no object, where an object by a table is asked
 pub not_object : (i : _) (w : View) → ((m : Bor (OrderedMap Node)) → w ≡ v.Object m → ⊥)
     → Among (wrong_kind words.Object) (causes final_tables (by i) (shown w))
-not_object i v.Null h = inl refl
-not_object i (v.Flag b) h = inl refl
-not_object i (v.Whole z) h = inl refl
-not_object i (v.Text s) h = inl refl
-not_object i (v.List ts) h = inl refl
 not_object i (v.Object m) h = absurd (h m refl)
+not_object i w h = inl refl
 
+-- a tree holds at least one value, itself
 pub size-positive : (t : Tree) → 1 ≤ size_of t
 size-positive null = omega arith
-size-positive (flag b) = omega arith
-size-positive (whole z) = omega arith
-size-positive (text x) = omega arith
-size-positive (list ts) = omega arith
-size-positive (object ms) = omega arith
+size-positive t = omega arith
 
 -- a copy is the tree as any tree
 pub copied : (w : View) (r : Result Node Fault) → IfOk r (λ n. n ≡ shown w) → IfErr r IsMemory

@@ -8,14 +8,7 @@ use Rattle.openapi_node.specs.Place.{named}
 use Rattle.openapi_node.specs.Tree.{Tree, size_of}
 use Rattle.openapi_node.specs.declared.fault.Fault.{Fault}
 use Rattle.openapi_node.proofs.TreeLemmas.{take_next}
-use Rattle.openapi_tables.specs.Kind.{Kind}
-use Rattle.openapi_tables.specs.Lists.{every}
-use Rattle.openapi_tables.specs.Tables.{final_tables}
-use Rattle.openapi_tables.specs.Conforms.{conforms}
-use Rattle.openapi_tables.specs.Form.{Form, name, Pair}
-use Rattle.openapi_tables.specs.Read.{form}
-use Rattle.openapi_tables.specs.Laws.{Among}
-use Rattle.openapi_tables.specs.Slots.{pairs_of}
+use Rattle.openapi_tables.specs.Prelude.{Kind, every, final_tables, conforms, Form, name, Pair, form, Among, pairs_of}
 use Rattle.openapi_fields.specs.Entries.{chosen, entries_size}
 use Rattle.openapi_fields.specs.Returned.{FailsBelow}
 
@@ -70,9 +63,6 @@ first_name f g x y xs ys e =
 
 get_none-pairs : {X Y : Type 0} (f : X → Form) (g : Y → Form) (n : List ℕ) (xs : Entries X) (ys : Entries Y)
     → pairs_of f xs ≡ pairs_of g ys → get n xs ≡ None → get n ys ≡ None
-get_none-pairs f g n [] [] e h = refl
-get_none-pairs f g n [] (y ∷ ys) e h = cc
-get_none-pairs f g n (x ∷ xs) [] e h = cc
 get_none-pairs f g n (x ∷ xs) (y ∷ ys) e h =
     let rest : pairs_of f xs ≡ pairs_of g ys = cc in
     go (λ q. get_none-pairs f g n xs ys rest q) (bytes_eq n x.0) (ap (bytes_eq n) (sym (first_name f g x y xs ys e))) h
@@ -81,6 +71,8 @@ get_none-pairs f g n (x ∷ xs) (y ∷ ys) e h =
         → cond (bytes_eq n y.0) (Some y.1) (get n ys) ≡ None
     go more true s q = cc
     go more false s q = ap (λ b. cond b (Some y.1) (get n ys)) s ∙ more q
+get_none-pairs f g n xs [] e h = cc
+get_none-pairs f g n xs ys e h = cc
 
 -- the next of the members
 module _ (p : List ℕ → Bool) (ms : Entries Tree) (i : ℕ) (n : List ℕ) (t : Tree) (at : slice_get ms i
@@ -162,6 +154,7 @@ among_chosen p (m ∷ ms) (suc i) e at h = go (p m.0) (among_chosen p ms i e at 
     go true a = inr a
     go false a = a
 
+-- a refusal of an entry whose name is in the set is one of a chosen entry
 pub entry_fails : (p : List ℕ → Bool) (ms : Entries Tree) (i : ℕ) (n : List ℕ) (t : Tree) (k : Kind) (f : Fault)
     → slice_get ms i ≡ Some (n, t) → p n ≡ true → FailsBelow (named n) f k t
     → (e : List ℕ × Tree) × Among e (chosen p ms) × FailsBelow (named e.0) f k e.1

@@ -7,9 +7,8 @@ use Rattle.std.specs.declared.alloc.Global.{Global}
 use Rattle.openapi_map.specs.Entries.{Entries, IsCloneOf, get}
 use Rattle.openapi_map.proofs.EntryLemmas.{push-next}
 use Rattle.openapi_node.specs.Tree.{text}
-use Rattle.openapi_tables.specs.Lists.{each}
-use Rattle.openapi_tables.specs.Form.{Form, Pair, known, leaf, name, named, named_of, other, sequence, forms_of}
-use Rattle.openapi_tables.specs.Slots.{pairs_of}
+use Rattle.openapi_tables.specs.Prelude.{each, Form, Pair, known, leaf, name, named, named_of, other, sequence}
+use Rattle.openapi_tables.specs.Prelude.{forms_of, pairs_of}
 use Rattle.openapi_fields.specs.Forms.{text_form, optional_form, nullable_form, list_form, map_form}
 use Rattle.openapi_values.specs.VariantOr.{variant_or_empty_form}
 use Rattle.openapi_values.specs.declared.variant_or.VariantOrUnknownOrEmpty.{VariantOrUnknownOrEmpty}
@@ -46,20 +45,18 @@ IsVariantClone o.Empty (o.Item y) = ⊥
 IsVariantClone o.Empty (o.Unknown t) = ⊥
 IsVariantClone o.Empty o.Empty = Unit {0}
 
+-- a clone of a text has the form of the text
 pub text-clone : (s t : String Global) → IsTextClone s t → text_form t ≡ text_form s
 text-clone s t h = ap (λ b. leaf (text b)) h
 
+-- a clone of what may be a known word, another text or empty has its form
 pub variant-clone : {X : Type 0} (word : X → List ℕ) (v w : VariantOrUnknownOrEmpty X) → IsVariantClone v w
     → variant_or_empty_form word w ≡ variant_or_empty_form word v
 variant-clone word (o.Item x) (o.Item y) h = ap (λ z. known (word z)) h
-variant-clone word (o.Item x) (o.Unknown t) h = absurd h
-variant-clone word (o.Item x) o.Empty h = absurd h
-variant-clone word (o.Unknown s) (o.Item y) h = absurd h
 variant-clone word (o.Unknown s) (o.Unknown t) h = ap other h
-variant-clone word (o.Unknown s) o.Empty h = absurd h
-variant-clone word o.Empty (o.Item y) h = absurd h
-variant-clone word o.Empty (o.Unknown t) h = absurd h
 variant-clone word o.Empty o.Empty h = refl
+variant-clone word v (o.Unknown t) h = absurd h
+variant-clone word v w h = absurd h
 
 module _ {X : Type 0} (C : X → X → Type 0) (view : X → Form) (same : (x y : X) → C x y → view y ≡ view x) where
   pub optional-clone : (o p : Option X) → IsOptionClone C o p → optional_form view p ≡ optional_form view o
@@ -101,9 +98,6 @@ module _ {X : Type 0} (view : X → Form) where
   -- a name that is not among some entries is not among those of the same forms
   pub get-absent : (n : List ℕ) (es fs : Entries X) → pairs_of view fs ≡ pairs_of view es → get n es ≡ None
       → get n fs ≡ None
-  get-absent n [] [] same h = refl
-  get-absent n (e ∷ es) [] same h = refl
-  get-absent n [] (f ∷ fs) same h = cc
   get-absent n (e ∷ es) (f ∷ fs) same h =
       let pair : record_of f ≡ record_of e = cc in
       let keys : name f.0 ≡ name e.0 = ap (λ (p : Pair Form). p.key) pair in
@@ -116,6 +110,8 @@ module _ {X : Type 0} (view : X → Form) where
           → cond b (Some f.1) (get n fs) ≡ None
       go more true q = cc
       go more false q = more q
+  get-absent n es [] same h = cc
+  get-absent n es fs same h = cc
 
   pairs-append : (es fs : Entries X) → pairs_of view (es ++ fs) ≡ pairs_of view es ++ pairs_of view fs
   pairs-append [] fs = refl

@@ -4,21 +4,15 @@ use Rattle.openapi_map.specs.Entries.{Entries, get}
 use Rattle.openapi_node.specs.Place.{named}
 use Rattle.openapi_node.specs.Tree.{Tree, object, members_of, size_of}
 use Rattle.openapi_node.specs.declared.fault.Fault.{Fault}
-use Rattle.openapi_tables.specs.Kind.{Kind, TableName, by, either}
-use Rattle.openapi_tables.specs.Lists.{each, same_text}
-use Rattle.openapi_tables.specs.Tree.{Entry, Seen, Shape, on_entry, of_members, members_list}
-use Rattle.openapi_tables.specs.Tables.{final_tables}
-use Rattle.openapi_tables.specs.Members.{own, checked_rows}
-use Rattle.openapi_tables.specs.Conforms.{root_conforms, conforms, either_holds}
-use Rattle.openapi_tables.specs.Form.{Form, deciding}
-use Rattle.openapi_tables.specs.Read.{root_form, form, either_slot}
-use Rattle.openapi_tables.specs.Print.{print, one}
-use Rattle.openapi_tables.specs.Unwritable.{unwritable, each_below}
-use Rattle.openapi_tables.specs.Slots.{Slot, slot_where, before, through, slots_apart, slots_lost, IsWritten}
-use Rattle.openapi_tables.specs.Faults.{missing_either, misses, row_misses, root_asks, asked, asks_row, asks_own, below}
-use Rattle.openapi_tables.specs.Laws.{Among}
-use Rattle.openapi_tables.specs.ByRow.{row_where, is_named, rows_asked, row_conforms, row_form, row_weight, weight}
-use Rattle.openapi_tables.specs.ByRow.{RowGives, Broken, StepsTo, asking}
+use Rattle.openapi_tables.specs.Prelude.{Kind, TableName, by, either, each, same_text, Entry, Seen, Shape, on_entry}
+use Rattle.openapi_tables.specs.Prelude.{of_members, members_list, final_tables, own, checked_rows, root_conforms}
+use Rattle.openapi_tables.specs.Prelude.{conforms, either_holds, Form, deciding, root_form, form, print, one}
+use Rattle.openapi_tables.specs.Prelude.{unwritable, each_below, Slot, slot_where, before, through, slots_apart}
+use Rattle.openapi_tables.specs.Prelude.{slots_lost, IsWritten, misses, row_misses, root_asks, asked, asks_row}
+use Rattle.openapi_tables.specs.Prelude.{asks_own, below, Among, row_where, is_named, rows_asked, row_conforms}
+use Rattle.openapi_tables.specs.Prelude.{row_form, row_weight, weight, RowGives, Broken, StepsTo, asking}
+use Rattle.openapi_tables.specs.Read.{either_slot}
+use Rattle.openapi_tables.specs.Faults.{missing_either}
 use Rattle.openapi_tables.proofs.ListLaws.{same_text_eq, same_text-refl}
 use Rattle.openapi_tables.proofs.TreeLaws.{see}
 use Rattle.openapi_tables.proofs.ByRowLaws.{entry, own-members, broken_root, among_flat, among_below, rows_ask}

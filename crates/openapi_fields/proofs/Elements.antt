@@ -5,18 +5,11 @@ use Rattle.std.proofs.lemmas.List.{take_more}
 use Rattle.openapi_node.specs.Place.{Place, indexed}
 use Rattle.openapi_node.specs.Tree.{Tree, list, items_of}
 use Rattle.openapi_node.specs.declared.fault.Fault.{Fault}
-use Rattle.openapi_tables.specs.Lists.{each, every, join, is_empty}
-use Rattle.openapi_tables.specs.Tree.{Seen, of_items}
-use Rattle.openapi_tables.specs.Kind.{Kind, list_of}
-use Rattle.openapi_tables.specs.Tables.{final_tables}
-use Rattle.openapi_tables.specs.Conforms.{conforms, root_conforms}
-use Rattle.openapi_tables.specs.Form.{Form, sequence, forms_of}
-use Rattle.openapi_tables.specs.Read.{form, root_form}
-use Rattle.openapi_tables.specs.Print.{print}
-use Rattle.openapi_tables.specs.Unwritable.{unwritable, each_below, lost_items, face_lost}
-use Rattle.openapi_tables.specs.Faults.{root_asks, asked, asks_items, below}
-use Rattle.openapi_tables.specs.Laws.{Among}
-use Rattle.openapi_tables.specs.ByRow.{StepsTo, asking}
+use Rattle.openapi_tables.specs.Prelude.{each, every, join, is_empty, Seen, of_items, Kind, list_of, final_tables}
+use Rattle.openapi_tables.specs.Prelude.{conforms, root_conforms, Form, sequence, forms_of, form, root_form, print}
+use Rattle.openapi_tables.specs.Prelude.{unwritable, each_below, face_lost, root_asks, asked, asks_items, below, Among}
+use Rattle.openapi_tables.specs.Prelude.{StepsTo, asking}
+use Rattle.openapi_tables.specs.Unwritable.{lost_items}
 use Rattle.openapi_tables.proofs.ByRowLaws.{among_left, among_right, among_below}
 use Rattle.openapi_tables.proofs.FormLaws.{show, of_forms-of}
 use Rattle.openapi_tables.proofs.ListLaws.{each-each}
@@ -37,17 +30,20 @@ each_seen : (k : Kind) (ts : List Tree)
 each_seen k [] = refl
 each_seen k (t ∷ ts) = ap (λ l. form final_tables k t ∷ l) (each_seen k ts)
 
+-- a list whose elements all conform conforms, and its form is the sequence of their forms
 pub list_gives : (k : Kind) (ts : List Tree) (fs : List Form) → every (conforms final_tables k) ts ≡ true
     → each (form final_tables k) ts ≡ fs
     → (conforms final_tables (list_of k) (list (items_of ts)) ≡ true)
     × (form final_tables (list_of k) (list (items_of ts)) ≡ sequence (forms_of fs))
 list_gives k ts fs h e = (every_seen k ts ∙ h, ap (λ l. sequence (forms_of l)) (each_seen k ts ∙ e))
 
+-- a test that all elements pass, and one more, is passed by all of these together
 pub every-more : {A : Type 0} (p : A → Bool) (xs : List A) (x : A) → every p xs ≡ true → p x ≡ true
     → every p (xs ++ x ∷ []) ≡ true
 every-more p [] x h e = ap (λ b. b && true) e
 every-more p (y ∷ xs) x h e = let q = and_parts (p y) (every p xs) h in and_from _ _ q.0 (every-more p xs x q.1 e)
 
+-- the images of a list with one more element are those of the list, and that of the element
 pub each-more : {A B : Type 0} (f : A → B) (xs : List A) (x : A) → each f (xs ++ x ∷ []) ≡ each f xs ++ f x ∷ []
 each-more f [] x = refl
 each-more f (y ∷ xs) x = ap (λ l. f y ∷ l) (each-more f xs x)
@@ -77,6 +73,7 @@ item_asks k j (u ∷ ts) (suc i) t p l v h e a =
     (items_of ts)))) same
     (item_asks k (suc j) ts i t p l v (omega arith) e a))
 
+-- what is asked of an element is asked in its list too, one step below at its index
 pub item_leads : (k : Kind) (ts : List Tree) (i : ℕ) (t : Tree) → i < length ts → t ≡ get_or ts i t
     → StepsTo final_tables (list_of k) (list (items_of ts)) (indexed i) k t
 item_leads k ts i t h e p l v a =

@@ -1,31 +1,9 @@
 -- How large a form is: what ends the recursion of the writers.
 use Rattle.std.proofs.Common.{◌≡◌, ℕ, suc, ◌+◌, ◌<◌, ◌≤◌, List, [], ◌∷◌, get_or, length, arith, ap, slice_get, Some, zero}
 use Rattle.openapi_map.specs.Entries.{Entries}
-use Rattle.openapi_tables.specs.Lists.{each, join}
-use Rattle.openapi_tables.specs.Form.{
-  Form,
-  absent,
-  leaf,
-  of_code,
-  known,
-  other,
-  unset,
-  reference,
-  an_item,
-  sequence,
-  named,
-  deciding,
-  fields,
-  Forms,
-  no_forms,
-  more,
-  Named,
-  no_named,
-  under,
-  forms_of,
-  named_of,
-}
-use Rattle.openapi_tables.specs.Slots.{pairs_of}
+use Rattle.openapi_tables.specs.Prelude.{each, join, Form, absent, leaf, of_code, known, other, unset, reference, an_item}
+use Rattle.openapi_tables.specs.Prelude.{sequence, named, deciding, fields, Forms, no_forms, more, Named, no_named, under}
+use Rattle.openapi_tables.specs.Prelude.{forms_of, named_of, pairs_of}
 
 abbrev mutual
   pub form_size : Form → ℕ

@@ -1,13 +1,8 @@
 -- Rows behind others: what both read, what both ask, and how much both weigh.
 use Rattle.std.proofs.Common.{◌≡◌, ◌+◌, List, [], ◌∷◌, refl, sym, ap, ◌∙◌, arith}
 use Rattle.openapi_node.specs.Tree.{Members}
-use Rattle.openapi_tables.specs.Lists.{join}
-use Rattle.openapi_tables.specs.Tree.{Entry}
-use Rattle.openapi_tables.specs.Kind.{Row, Tables}
-use Rattle.openapi_tables.specs.Form.{Form}
-use Rattle.openapi_tables.specs.Faults.{Asking, Asks, asks_row, asks_rows}
-use Rattle.openapi_tables.specs.Laws.{Among}
-use Rattle.openapi_tables.specs.ByRow.{AreRows, rows_weight}
+use Rattle.openapi_tables.specs.Prelude.{join, Entry, Row, Tables, Form, Asking, Asks, asks_row, asks_rows, Among}
+use Rattle.openapi_tables.specs.Prelude.{AreRows, rows_weight}
 use Rattle.openapi_tables.proofs.ByRowLaws.{among_right}
 use Rattle.openapi_tables.proofs.ListLaws.{join_assoc}
 

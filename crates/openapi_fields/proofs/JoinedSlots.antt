@@ -1,33 +1,21 @@
 -- Slots behind others: what both are written as together, and the names of which they have none in common.
-use Rattle.std.proofs.Common.{◌≡◌, ℕ, zero, suc, Bool, true, false, ◌&&◌, ◌||◌, List, [], ◌∷◌, ◌++◌}
-use Rattle.std.proofs.Common.{Some, slice_get, refl, sym, ap, ◌∙◌, subst}
+use Rattle.std.proofs.Common.{◌≡◌, ℕ, zero, suc, Bool, true, false, ◌&&◌, ◌||◌, List, [], ◌∷◌, ◌++◌, Some, slice_get}
+use Rattle.std.proofs.Common.{refl, sym, ap, ◌∙◌, subst}
 use Rattle.std.proofs.lemmas.Bool.{and_parts}
 use Rattle.openapi_map.specs.Entries.{Entries}
 use Rattle.openapi_node.specs.Fault.{place_of}
 use Rattle.openapi_node.specs.Place.{Place}
 use Rattle.openapi_node.specs.Tree.{Tree}
 use Rattle.openapi_node.specs.declared.fault.Cause.{Cause}
-use Rattle.openapi_node.specs.declared.fault.Cause.TheVariants.{
-  Missing,
-  MissingEither,
-  WrongKind,
-  NotAllowed,
-  UnknownVariant,
-  NameNotWritable,
-  NotWhole,
-  Memory,
-}
+use Rattle.openapi_node.specs.declared.fault.Cause.TheVariants.{Missing, MissingEither, WrongKind, NotAllowed}
+use Rattle.openapi_node.specs.declared.fault.Cause.TheVariants.{UnknownVariant, NameNotWritable, NotWhole, Memory}
 use Rattle.openapi_node.specs.declared.fault.Fault.{Fault}
-use Rattle.openapi_tables.specs.Lists.{join, every}
-use Rattle.openapi_tables.specs.Kind.{Row, takes}
-use Rattle.openapi_tables.specs.Sound.{apart}
-use Rattle.openapi_tables.specs.Tables.{final_tables}
-use Rattle.openapi_tables.specs.Slots.{Slot, slots_apart, slots_print, slots_lost, untied, taken, all_taken, IsWritten}
-use Rattle.openapi_tables.specs.Laws.{Among}
+use Rattle.openapi_tables.specs.Prelude.{join, every, Row, takes, apart, final_tables, Slot, slots_apart, slots_print}
+use Rattle.openapi_tables.specs.Prelude.{slots_lost, untied, taken, all_taken, IsWritten, Among}
 use Rattle.openapi_tables.proofs.ByRowLaws.{among_left, among_right}
 use Rattle.openapi_tables.proofs.RowLaws.{apart_back}
-use Rattle.openapi_tables.proofs.SlotLists.{all_taken-append, all_taken-first, get_none, or_true}
-use Rattle.openapi_tables.proofs.SlotLists.{slots_lost-join, slots_print-join, untied-join}
+use Rattle.openapi_tables.proofs.SlotLists.{all_taken-append, all_taken-first, get_none, or_true, slots_lost-join}
+use Rattle.openapi_tables.proofs.SlotLists.{slots_print-join, untied-join}
 use Rattle.openapi_fields.specs.Returned.{NotWritable, NotWritableBy}
 use Rattle.openapi_fields.specs.Writing.{AreNew}
 
@@ -65,6 +53,7 @@ loses_first xs ys q h =
     subst (λ ps. Among q ps) (sym (slots_lost-join final_tables xs ys))
     (among_left q (slots_lost final_tables xs) (slots_lost final_tables ys) h)
 
+-- what the second of two lists of slots loses both lose
 pub loses_second : (xs ys : List Slot) (q : Place) → Among q (slots_lost final_tables ys)
     → Among q (slots_lost final_tables (join xs ys))
 loses_second xs ys q h =

@@ -27,3 +27,4 @@ pub mod JoinedSlots
 pub mod PresentRows
 pub mod Puts
 pub mod Cleaning
+pub mod Measures

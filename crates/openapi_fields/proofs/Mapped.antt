@@ -1,36 +1,22 @@
 -- Maps, by what is read and written of their entries.
-use Rattle.std.proofs.Common.{◌≡◌, ℕ, ◌+◌, Bool, true, ◌&&◌, List, [], ◌∷◌, Result, Ok, Err, refl, sym, ap, ◌∙◌, subst, inl, inr, ⊎_elim}
+use Rattle.std.proofs.Common.{◌≡◌, ℕ, ◌+◌, Bool, true, ◌&&◌, List, [], ◌∷◌, Result, Ok, Err, refl, sym, ap, ◌∙◌, subst}
+use Rattle.std.proofs.Common.{inl, inr, ⊎_elim}
 use Rattle.std.proofs.lemmas.Bool.{and_parts}
 use Rattle.openapi_map.specs.Entries.{Entries}
 use Rattle.openapi_node.specs.Place.{Place, named}
 use Rattle.openapi_node.specs.Tree.{Tree, object, members_of, members_size, size_of, member}
 use Rattle.openapi_node.specs.declared.fault.Fault.{Fault}
-use Rattle.openapi_tables.specs.Kind.{Kind, map_of}
-use Rattle.openapi_tables.specs.Lists.{each, every, join, is_empty}
-use Rattle.openapi_tables.specs.Tables.{final_tables}
-use Rattle.openapi_tables.specs.Tree.{of_members, members_of as table_members}
-use Rattle.openapi_tables.specs.Conforms.{conforms, root_conforms}
-use Rattle.openapi_tables.specs.Form.{Form, name, named as named_form, named_of}
-use Rattle.openapi_tables.specs.Read.{form, root_form, pairs_as}
-use Rattle.openapi_tables.specs.Print.{print}
-use Rattle.openapi_tables.specs.Unwritable.{unwritable, each_below, lost_pairs, face_lost}
-use Rattle.openapi_tables.specs.Faults.{root_asks, asked, asks_members, below}
-use Rattle.openapi_tables.specs.Laws.{Among}
-use Rattle.openapi_tables.specs.ByRow.{StepsTo, asking}
-use Rattle.openapi_tables.specs.Slots.{pairs_of}
+use Rattle.openapi_tables.specs.Prelude.{Kind, map_of, each, every, join, is_empty, final_tables, of_members}
+use Rattle.openapi_tables.specs.Prelude.{members_of as table_members, conforms, root_conforms, Form, name}
+use Rattle.openapi_tables.specs.Prelude.{named as named_form, named_of, form, root_form, pairs_as, print, unwritable}
+use Rattle.openapi_tables.specs.Prelude.{each_below, lost_pairs, face_lost, root_asks, asked, asks_members, below}
+use Rattle.openapi_tables.specs.Prelude.{Among, StepsTo, asking, pairs_of}
 use Rattle.openapi_tables.proofs.ByRowLaws.{among_left, among_right, among_below}
 use Rattle.openapi_tables.proofs.FormLaws.{on_pair, show, of_named-of}
 use Rattle.openapi_tables.proofs.PrintLaws.{print-map, entry_of}
 use Rattle.openapi_tables.proofs.SlotWriting.{below_each}
-use Rattle.openapi_fields.specs.Entries.{
-  chosen,
-  entries_size,
-  EntriesReadAs,
-  written_entries,
-  all_whole,
-  EntryNotWritable,
-  EntriesNotWritable,
-}
+use Rattle.openapi_fields.specs.Entries.{chosen, entries_size, EntriesReadAs, written_entries, all_whole}
+use Rattle.openapi_fields.specs.Entries.{EntryNotWritable, EntriesNotWritable}
 use Rattle.openapi_fields.specs.Forms.{map_form}
 use Rattle.openapi_fields.specs.Returned.{FailsBelow, ReadAs, NotWritable}
 use Rattle.openapi_fields.proofs.Below.{memory_fails, fails_above}
@@ -40,10 +26,12 @@ use Rattle.openapi_fields.proofs.Losing.{memory_loses, loses_above}
 abbrev all : List ℕ → Bool
 all n = true
 
+-- where every name passes, all entries are chosen
 pub all_chosen : {X : Type 0} (es : Entries X) → chosen all es ≡ es
 all_chosen [] = refl
 all_chosen (e ∷ es) = ap (λ l. e ∷ l) (all_chosen es)
 
+-- entries hold as many values as the members that they make
 pub all_size : (es : Entries Tree) → entries_size es ≡ members_size (members_of es)
 all_size [] = refl
 all_size (e ∷ es) = ap (λ n. size_of e.1 + n) (all_size es)

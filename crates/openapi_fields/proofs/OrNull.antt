@@ -5,46 +5,19 @@ use Rattle.openapi_node.specs.Place.{Place}
 use Rattle.openapi_node.specs.Tree.{Tree, null, flag, whole, text}
 use Rattle.openapi_node.specs.View.{shown}
 use Rattle.openapi_node.specs.declared.fault.Cause.{Cause}
-use Rattle.openapi_node.specs.declared.fault.Cause.TheVariants.{
-  Missing,
-  MissingEither,
-  WrongKind,
-  NotAllowed,
-  UnknownVariant,
-  NameNotWritable,
-  NotWhole,
-  Memory,
-}
+use Rattle.openapi_node.specs.declared.fault.Cause.TheVariants.{Missing, MissingEither, WrongKind, NotAllowed}
+use Rattle.openapi_node.specs.declared.fault.Cause.TheVariants.{UnknownVariant, NameNotWritable, NotWhole, Memory}
 use Rattle.openapi_node.specs.declared.fault.Expected.{Expected}
 use Rattle.openapi_node.specs.declared.fault.Expected.TheVariants as words
 use Rattle.openapi_node.specs.declared.fault.Fault.{Fault}
 use Rattle.openapi_node.specs.declared.node.Node.{Node}
 use Rattle.openapi_node.specs.declared.node.View.{View}
 use Rattle.openapi_node.specs.declared.node.View.TheVariants as v
-use Rattle.openapi_tables.specs.Kind.{Kind, any_text, any_flag, number, null_or, within}
-use Rattle.openapi_tables.specs.Tables.{final_tables}
-use Rattle.openapi_tables.specs.Form.{
-  Form,
-  absent,
-  leaf,
-  of_code,
-  known,
-  other,
-  unset,
-  reference,
-  an_item,
-  sequence,
-  named,
-  deciding,
-  fields,
-}
-use Rattle.openapi_tables.specs.Read.{tree_of_root}
-use Rattle.openapi_tables.specs.Sound.{may_be_null}
+use Rattle.openapi_tables.specs.Prelude.{Kind, any_text, any_flag, number, null_or, within, final_tables, Form}
+use Rattle.openapi_tables.specs.Prelude.{deciding, tree_of_root, may_be_null, asked, root_asks, causes, unless}
+use Rattle.openapi_tables.specs.Prelude.{wrong_kind, Among, Broken, asking, unwritable}
 use Rattle.openapi_tables.specs.Faults as faults
-use Rattle.openapi_tables.specs.Faults.{asked, root_asks, causes, unless, wrong_kind, word_or_null}
-use Rattle.openapi_tables.specs.Laws.{Among}
-use Rattle.openapi_tables.specs.ByRow.{Broken, asking}
-use Rattle.openapi_tables.specs.Unwritable.{unwritable}
+use Rattle.openapi_tables.specs.Faults.{word_or_null}
 use Rattle.openapi_tables.proofs.ByRowLaws.{broken_root}
 use Rattle.openapi_tables.proofs.PrintLaws.{print-null_or}
 use Rattle.openapi_tables.proofs.TreeLaws.{seen_root, tree_of_root-seen}
@@ -53,18 +26,8 @@ use Rattle.openapi_fields.proofs.Below.{wrong_here}
 
 -- what is lost of a form is lost where null may stand too
 lost-null_or : (k : Kind) (f : Form) → unwritable final_tables (null_or k) f ≡ unwritable final_tables k f
-lost-null_or k absent = refl
-lost-null_or k (leaf t) = refl
-lost-null_or k (of_code c) = refl
-lost-null_or k (known s) = refl
-lost-null_or k (other s) = refl
-lost-null_or k unset = refl
-lost-null_or k (reference s) = refl
-lost-null_or k (an_item f) = refl
-lost-null_or k (sequence fs) = refl
-lost-null_or k (named es) = refl
 lost-null_or k (deciding n f) = lost-null_or k f
-lost-null_or k (fields c fs) = refl
+lost-null_or k f = refl
 
 -- what is written of a value is written where null may stand too
 pub written_or_null : (k : Kind) (f : Form) (r : Result Node Fault) → WrittenAs k f r → WrittenAs (null_or k) f r

@@ -5,9 +5,7 @@ use Rattle.openapi_node.specs.View.{shown}
 use Rattle.openapi_node.specs.declared.fault.Fault.{Fault}
 use Rattle.openapi_node.specs.declared.node.View.{View}
 use Rattle.openapi_node.specs.declared.node.View.TheVariants as v
-use Rattle.openapi_tables.specs.Kind.{Kind}
-use Rattle.openapi_tables.specs.Members.{is_null}
-use Rattle.openapi_tables.specs.Form.{Form}
+use Rattle.openapi_tables.specs.Prelude.{Kind, is_null, Form}
 use Rattle.openapi_fields.specs.Returned.{ReadAs, MemberReadAs}
 use Rattle.openapi_fields.specs.Presence.{AtMember}
 
@@ -15,16 +13,11 @@ use Rattle.openapi_fields.specs.Presence.{AtMember}
 pub at_member : {X : Type 0} → (view : X → Form) (n : List ℕ) (k : Kind) (t : Tree) (r : Result X Fault)
     (s : Result (Option X) Fault) → AtMember n r s → ReadAs view r k t → MemberReadAs view s k n (Some t)
 at_member view n k t (Ok x) (Ok (Some y)) e h = (h.0, h.1 ∙ ap view e)
-at_member view n k t (Ok x) (Ok None) e h = absurd e
-at_member view n k t (Ok x) (Err f) e h = absurd e
-at_member view n k t (Err d) (Ok y) e h = absurd e
 at_member view n k t (Err d) (Err f) e h = (d, e, h)
+at_member view n k t r (Ok None) e h = absurd e
+at_member view n k t r s e h = absurd e
 
 -- a look that shows something other than null
 pub shown_there : (w : View) → (w ≡ v.Null → ⊥) → is_null (shown w) ≡ false
 shown_there v.Null h = absurd (h refl)
-shown_there (v.Flag b) h = refl
-shown_there (v.Whole z) h = refl
-shown_there (v.Text s) h = refl
-shown_there (v.List ts) h = refl
-shown_there (v.Object m) h = refl
+shown_there w h = refl

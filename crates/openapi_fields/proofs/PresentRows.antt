@@ -2,10 +2,7 @@
 use Rattle.std.proofs.Common.{◌≡◌, ℕ, List, Option, Some, None, Result, Ok, refl, sym, subst}
 use Rattle.openapi_node.specs.Tree.{Tree, Members, find}
 use Rattle.openapi_node.specs.declared.fault.Fault.{Fault}
-use Rattle.openapi_tables.specs.Kind.{Kind, optional, row}
-use Rattle.openapi_tables.specs.Tables.{final_tables}
-use Rattle.openapi_tables.specs.ByRow.{is_named, row_where, rows_asked}
-use Rattle.openapi_tables.specs.Form.{Form}
+use Rattle.openapi_tables.specs.Prelude.{Kind, optional, row, final_tables, is_named, row_where, rows_asked, Form}
 use Rattle.openapi_fields.specs.Forms.{optional_form}
 use Rattle.openapi_fields.specs.Returned.{ReadAs, MemberReadAs, RowReadAs, unless_null}
 use Rattle.openapi_fields.specs.Presence.{AtMember}

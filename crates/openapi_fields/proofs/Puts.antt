@@ -1,19 +1,14 @@
 -- Members that are put, by what was written of their values.
-use Rattle.std.proofs.Common.{◌≡◌, ℕ, true, cond, List, [], ◌∷◌, ◌++◌, Result, Ok, Err, OnOk, IfErr, Some, None}
-use Rattle.std.proofs.Common.{refl, sym, ap, ◌∙◌, subst}
+use Rattle.std.proofs.Common.{◌≡◌, ℕ, true, cond, List, [], ◌∷◌, ◌++◌, Result, Ok, Err, OnOk, IfErr, Some, None, refl}
+use Rattle.std.proofs.Common.{sym, ap, ◌∙◌, subst}
 use Rattle.openapi_map.specs.Entries.{Entries}
 use Rattle.openapi_node.specs.Fault.{IsMemory, GoesUp}
 use Rattle.openapi_node.specs.Place.{named}
 use Rattle.openapi_node.specs.Tree.{Tree}
 use Rattle.openapi_node.specs.declared.fault.Fault.{Fault}
 use Rattle.openapi_node.specs.declared.node.Node.{Node}
-use Rattle.openapi_tables.specs.Kind.{Kind, Mode, either, required, row}
-use Rattle.openapi_tables.specs.Lists.{same_text}
-use Rattle.openapi_tables.specs.Tables.{final_tables}
-use Rattle.openapi_tables.specs.Form.{Form, deciding}
-use Rattle.openapi_tables.specs.ByRow.{is_named}
-use Rattle.openapi_tables.specs.Unwritable.{unwritable}
-use Rattle.openapi_tables.specs.Slots.{Slot, slot_where, before, through, slots_lost, IsWritten}
+use Rattle.openapi_tables.specs.Prelude.{Kind, Mode, either, required, row, same_text, final_tables, Form, deciding}
+use Rattle.openapi_tables.specs.Prelude.{is_named, unwritable, Slot, slot_where, before, through, slots_lost, IsWritten}
 use Rattle.openapi_tables.proofs.ListLaws.{same_text-refl}
 use Rattle.openapi_tables.proofs.SlotWriting.{none_written, row_put, row_silent}
 use Rattle.openapi_fields.specs.Forms.{is_either}

@@ -3,14 +3,8 @@ use Rattle.std.proofs.Common.{◌≡◌, ◌≤◌, List, [], Result, Ok, Err, r
 use Rattle.openapi_map.specs.Entries.{Entries}
 use Rattle.openapi_node.specs.Tree.{Tree, object, Members, members_of, members_size}
 use Rattle.openapi_node.specs.declared.fault.Fault.{Fault}
-use Rattle.openapi_tables.specs.Kind.{by, TableName}
-use Rattle.openapi_tables.specs.Tables.{final_tables}
-use Rattle.openapi_tables.specs.Members.{plain, rows_of}
-use Rattle.openapi_tables.specs.Form.{Form}
-use Rattle.openapi_tables.specs.Print.{print}
-use Rattle.openapi_tables.specs.Unwritable.{unwritable}
-use Rattle.openapi_tables.specs.ByRow.{rows_weight}
-use Rattle.openapi_tables.specs.Slots.{slots_lost, IsWritten}
+use Rattle.openapi_tables.specs.Prelude.{by, TableName, final_tables, plain, rows_of, Form, print, unwritable}
+use Rattle.openapi_tables.specs.Prelude.{rows_weight, slots_lost, IsWritten}
 use Rattle.openapi_tables.proofs.ByRowLaws.{object_gives, table_weight-le}
 use Rattle.openapi_tables.proofs.SlotWriting.{fields_print, fields_lost}
 use Rattle.openapi_tables.proofs.WellMade.{final_sound}
@@ -37,6 +31,7 @@ record_writes rows x i node out g e = (
   fields_lost final_tables (by i) plain [] (rows x) refl ∙ g.nothing_lost,
 )
 
+-- what the slots of an object by a table lose is what its form loses
 pub record_loses : {X : Type 0} (rows : X → List Form) (x : X) (i : TableName)
     → slots_lost final_tables (record_slots i rows x) ≡ unwritable final_tables (by i) (record_form rows x)
 unfolding rows_of

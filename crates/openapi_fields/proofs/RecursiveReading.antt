@@ -1,16 +1,15 @@
 -- What mutually recursive readers return, put together in the words of their contracts: what was read, that the count of looks
 -- rises, and how far.
-use Rattle.std.proofs.Common.{◌≡◌, ◌+◌, ◌*◌, ◌≤◌, ℕ, List, [], Option, Some, None, Result, Ok, Err, refl, sym, ap, subst, arith, slice_get, take, length}
+use Rattle.std.proofs.Common.{◌≡◌, ◌+◌, ◌*◌, ◌≤◌, ℕ, List, [], Option, Some, None, Result, Ok, Err, refl, sym, ap}
+use Rattle.std.proofs.Common.{subst, arith, slice_get, take, length}
 use Rattle.std.proofs.lemmas.List.{take_all}
 use Rattle.openapi_map.specs.Entries.{Entries}
 use Rattle.openapi_node.specs.Tree.{Tree, object, Members, members_of, members_size, size_of, find}
 use Rattle.openapi_node.specs.declared.fault.Fault.{Fault}
 use Rattle.openapi_node.specs.Place.{named}
 use Rattle.openapi_node.proofs.TreeLemmas.{next_member}
-use Rattle.openapi_tables.specs.Kind.{Kind, TableName, any_tree, by, listed, map_of, optional, row}
-use Rattle.openapi_tables.specs.Tables.{final_tables}
-use Rattle.openapi_tables.specs.Form.{Form}
-use Rattle.openapi_tables.specs.ByRow.{is_named, row_weight, row_where, rows_asked, rows_weight}
+use Rattle.openapi_tables.specs.Prelude.{Kind, TableName, any_tree, by, listed, map_of, optional, row, final_tables}
+use Rattle.openapi_tables.specs.Prelude.{Form, is_named, row_weight, row_where, rows_asked, rows_weight}
 use Rattle.openapi_tables.proofs.ByRowLaws.{weight-found}
 use Rattle.openapi_fields.specs.Forms.{map_form, optional_form, record_form}
 use Rattle.openapi_fields.specs.Returned.{AtStep, ReadAs, MemberReadAs, RowReadAs, RowsReadAs, RisesBelow, RisesBy}
@@ -20,16 +19,8 @@ use Rattle.openapi_fields.proofs.Records.{record_weight}
 use Rattle.openapi_fields.proofs.RowReading.{member_fails, weight_of_name}
 use Rattle.openapi_fields.specs.Reading.{IsMapAt, NoMapAt, PutRead}
 use Rattle.openapi_fields.proofs.PresentRows.{row_gone, row_read}
-use Rattle.openapi_fields.proofs.EntryReading.{
-  AreRead,
-  all_read,
-  entry_refused,
-  listed_read,
-  none_listed,
-  none_read,
-  one_read,
-  table_read,
-}
+use Rattle.openapi_fields.proofs.EntryReading.{AreRead, all_read, entry_refused, listed_read, none_listed, none_read}
+use Rattle.openapi_fields.proofs.EntryReading.{one_read, table_read}
 
 -- what was read of a view
 abbrev pub ReadView : {X : Type 0} → (X → Form) → Result X Fault → Kind → Tree → ℕ → ℕ → Type 0

@@ -5,8 +5,7 @@ use Rattle.openapi_map.specs.Entries.{Entries, get, HasDistinctNames}
 use Rattle.openapi_node.specs.Tree.{Tree, object, members_of}
 use Rattle.openapi_node.specs.declared.fault.Fault.{Fault}
 use Rattle.openapi_node.specs.declared.node.Node.{Node}
-use Rattle.openapi_tables.specs.Kind.{Kind, map_of}
-use Rattle.openapi_tables.specs.Form.{Form}
+use Rattle.openapi_tables.specs.Prelude.{Kind, map_of, Form}
 use Rattle.openapi_fields.specs.Entries.{all_whole, written_entries}
 use Rattle.openapi_fields.specs.Forms.{map_form}
 use Rattle.openapi_fields.specs.Returned.{WrittenAs}

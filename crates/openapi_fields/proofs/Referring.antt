@@ -7,31 +7,17 @@ use Rattle.openapi_node.specs.Place.{Place}
 use Rattle.openapi_node.specs.Tree.{Tree, null, flag, whole, text, list, object, Members, find}
 use Rattle.openapi_node.specs.View.{shown}
 use Rattle.openapi_node.specs.declared.fault.Cause.{Cause}
-use Rattle.openapi_node.specs.declared.fault.Cause.TheVariants.{
-  Missing,
-  MissingEither,
-  WrongKind,
-  NotAllowed,
-  UnknownVariant,
-  NameNotWritable,
-  NotWhole,
-  Memory,
-}
+use Rattle.openapi_node.specs.declared.fault.Cause.TheVariants.{Missing, MissingEither, WrongKind, NotAllowed}
+use Rattle.openapi_node.specs.declared.fault.Cause.TheVariants.{UnknownVariant, NameNotWritable, NotWhole, Memory}
 use Rattle.openapi_node.specs.declared.fault.Fault.{Fault}
 use Rattle.openapi_node.specs.declared.node.Node.{Node}
 use Rattle.openapi_node.specs.declared.node.View.{View}
 use Rattle.openapi_node.specs.declared.node.View.TheVariants as view
-use Rattle.openapi_tables.specs.Kind.{Kind, any_tree, ref_to, required}
-use Rattle.openapi_tables.specs.Tables.{final_tables}
-use Rattle.openapi_tables.specs.Tree.{members_list}
-use Rattle.openapi_tables.specs.Members.{held, first_tree}
-use Rattle.openapi_tables.specs.Conforms.{conforms, reference_or, root_conforms, text_in}
-use Rattle.openapi_tables.specs.Form.{Form, reference}
-use Rattle.openapi_tables.specs.Read.{form, reference_or_item, root_form}
+use Rattle.openapi_tables.specs.Prelude.{Kind, any_tree, ref_to, required, final_tables, members_list, held, first_tree}
+use Rattle.openapi_tables.specs.Prelude.{conforms, reference_or, root_conforms, text_in, Form, reference, form}
+use Rattle.openapi_tables.specs.Prelude.{reference_or_item, root_form, Asking, asked, root_asks, unless_reference}
+use Rattle.openapi_tables.specs.Prelude.{Among, Broken, asking}
 use Rattle.openapi_tables.specs.Faults as faults
-use Rattle.openapi_tables.specs.Faults.{Asking, asked, root_asks, unless_reference}
-use Rattle.openapi_tables.specs.Laws.{Among}
-use Rattle.openapi_tables.specs.ByRow.{Broken, asking}
 use Rattle.openapi_tables.proofs.ByRowLaws.{own-found, own-missing}
 use Rattle.openapi_tables.proofs.AskedLaws.{reference_of}
 use Rattle.openapi_values.specs.Reference.{reference_form}
@@ -78,24 +64,16 @@ module _ (k : Kind) where
       ap (λ r. reference_or r (conforms final_tables k (object ms))) (reference_of (root_conforms final_tables) ms)
 
   form_or : (t : Tree) → form final_tables (ref_to k) t ≡ reference_or_item (reference_in t) (form final_tables k t)
-  form_or null = refl
-  form_or (flag b) = refl
-  form_or (whole z) = refl
-  form_or (text s) = refl
-  form_or (list ts) = refl
   form_or (object ms) =
       ap (λ r. reference_or_item r (form final_tables k (object ms))) (reference_of (root_form final_tables) ms)
+  form_or t = refl
 
   asked_or : (t : Tree) → reference_in t ≡ None → (a : Asking) → Among a (asked final_tables k t)
       → Among a (asked final_tables (ref_to k) t)
-  asked_or null n a h = inr h
-  asked_or (flag b) n a h = inr h
-  asked_or (whole z) n a h = inr h
-  asked_or (text s) n a h = inr h
-  asked_or (list ts) n a h = inr h
   asked_or (object ms) n a h =
       inr (subst (λ r. Among a (unless_reference r (asked final_tables k (object ms))))
       (sym (reference_of (root_asks final_tables) ms ∙ n)) h)
+  asked_or t n a h = inr h
 
   module _ {X : Type 0} (form_of : X → Form) (t : Tree) where
     -- a reference
@@ -119,25 +97,18 @@ module _ (k : Kind) where
 
 -- a look that shows no object shows no reference
 pub no_reference : (w : View) → ((m : Bor (OrderedMap Node)) → w ≡ view.Object m → ⊥) → reference_in (shown w) ≡ None
-no_reference view.Null h = refl
-no_reference (view.Flag b) h = refl
-no_reference (view.Whole z) h = refl
-no_reference (view.Text s) h = refl
-no_reference (view.List ts) h = refl
 no_reference (view.Object m) h = absurd (h m refl)
+no_reference w h = refl
 
 -- what stands under a name
 pub held_found : (n : List ℕ) (ms : Members) (u : Tree) → find n ms ≡ Some u → held n (members_list ms) ≡ u
 held_found n ms u e = ap first_tree (own-found n required any_tree ms u e).is
 
+-- what stands under a name that is missing counts as null
 pub held_missing : (n : List ℕ) (ms : Members) → find n ms ≡ None → held n (members_list ms) ≡ null
 held_missing n ms e = ap first_tree (own-missing n required any_tree ms e)
 
 -- a look that shows no text
 pub no_text_in : (w : View) → ((s : Bor (List ℕ)) → w ≡ view.Text s → ⊥) → text_in (shown w) ≡ None
-no_text_in view.Null h = refl
-no_text_in (view.Flag b) h = refl
-no_text_in (view.Whole z) h = refl
 no_text_in (view.Text s) h = absurd (h s refl)
-no_text_in (view.List ts) h = refl
-no_text_in (view.Object m) h = refl
+no_text_in w h = refl

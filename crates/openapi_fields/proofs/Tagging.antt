@@ -1,5 +1,6 @@
 -- Objects whose tag says by which table they are read.
-use Rattle.std.proofs.Common.{◌≡◌, ℕ, ◌+◌, ◌*◌, ◌≤◌, Bool, true, false, cond, ◌&&◌, ◌||◌, List, [], ◌∷◌, ◌++◌, Option, Some, None, Result, Ok, Err, OnOk, IfOk, refl, sym, ap, ◌∙◌, subst, arith, inl, inr}
+use Rattle.std.proofs.Common.{◌≡◌, ℕ, ◌+◌, ◌*◌, ◌≤◌, Bool, true, false, cond, ◌&&◌, ◌||◌, List, [], ◌∷◌, ◌++◌, Option}
+use Rattle.std.proofs.Common.{Some, None, Result, Ok, Err, OnOk, IfOk, refl, sym, ap, ◌∙◌, subst, arith, inl, inr}
 use Rattle.std.proofs.lemmas.Bool.{and_parts}
 use Rattle.std.specs.Borrow.{Bor}
 use Rattle.openapi_map.specs.Entries.{Entries, get}
@@ -12,24 +13,18 @@ use Rattle.openapi_node.specs.declared.fault.Fault.{Fault}
 use Rattle.openapi_node.specs.declared.node.Node.{Node}
 use Rattle.openapi_node.specs.declared.node.View.{View}
 use Rattle.openapi_node.specs.declared.node.View.TheVariants as v
-use Rattle.openapi_tables.specs.Kind.{Kind, any_tree, by, tagged, one_of, required, Case, row, constant}
-use Rattle.openapi_tables.specs.Lists.{every, each, same_text}
-use Rattle.openapi_tables.specs.Tree.{Seen, Shape, on_entry, of_members, members_list}
-use Rattle.openapi_tables.specs.Tables.{final_tables, tables_with, security_scheme, parameter}
-use Rattle.openapi_tables.specs.Members.{own, held, first_tree, trees, tag, tag_choice, choice, is_case, case_rows}
-use Rattle.openapi_tables.specs.Members.{rows_of, checked_rows}
-use Rattle.openapi_tables.specs.Conforms.{conforms, root_conforms, chosen_holds, constant_holds, row_holds}
-use Rattle.openapi_tables.specs.Form.{Form, absent, fields, forms_of}
-use Rattle.openapi_tables.specs.Read.{form, root_form, chosen_form, slot}
-use Rattle.openapi_tables.specs.Print.{print, one}
-use Rattle.openapi_tables.specs.Unwritable.{unwritable}
-use Rattle.openapi_tables.specs.Sound.{sound, rows_apart}
-use Rattle.openapi_tables.specs.Faults.{causes, wrong_kind}
-use Rattle.openapi_tables.specs.Faults.{Asking, missing, tag_misses, words, tag_table, root_asks, asked, asks_own}
-use Rattle.openapi_tables.specs.Faults.{asks_tag, below}
-use Rattle.openapi_tables.specs.Laws.{Among}
-use Rattle.openapi_tables.specs.ByRow.{AreRows, rows_weight, row_weight, Broken, StepsTo, asking, is_named}
-use Rattle.openapi_tables.specs.Slots.{Slot, slot_where, before, through, slots_apart, slots_lost, IsWritten}
+use Rattle.openapi_tables.specs.Prelude.{Kind, any_tree, by, tagged, one_of, required, Case, row, constant, every, each}
+use Rattle.openapi_tables.specs.Prelude.{same_text, Seen, Shape, on_entry, of_members, members_list, final_tables}
+use Rattle.openapi_tables.specs.Prelude.{tables_with, security_scheme, parameter, own, held, first_tree, trees}
+use Rattle.openapi_tables.specs.Prelude.{tag_choice, choice, is_case, case_rows, rows_of, checked_rows, conforms}
+use Rattle.openapi_tables.specs.Prelude.{root_conforms, chosen_holds, constant_holds, row_holds, Form, absent, fields}
+use Rattle.openapi_tables.specs.Prelude.{forms_of, form, root_form, chosen_form, slot, print, one, unwritable, sound}
+use Rattle.openapi_tables.specs.Prelude.{rows_apart, causes, wrong_kind, Asking, words, tag_table, root_asks, asked}
+use Rattle.openapi_tables.specs.Prelude.{asks_own, asks_tag, below, Among, AreRows, rows_weight, row_weight, Broken}
+use Rattle.openapi_tables.specs.Prelude.{StepsTo, asking, is_named, Slot, slot_where, before, through, slots_apart}
+use Rattle.openapi_tables.specs.Prelude.{slots_lost, IsWritten}
+use Rattle.openapi_tables.specs.Members.{tag}
+use Rattle.openapi_tables.specs.Faults.{missing, tag_misses}
 use Rattle.openapi_tables.proofs.ListLaws.{same_text_eq, same_text-refl}
 use Rattle.openapi_tables.proofs.TreeLaws.{see}
 use Rattle.openapi_tables.proofs.Taken.{trees_of-members}
@@ -46,6 +41,7 @@ pub security_scheme_sound : sound final_tables security_scheme ≡ true
 unfolding final_tables tables_with
 security_scheme_sound = refl
 
+-- the kind of a parameter is well made
 pub parameter_sound : sound final_tables parameter ≡ true
 unfolding final_tables tables_with
 parameter_sound = refl
@@ -246,12 +242,8 @@ module _ (ss : List Slot) (n v : List ℕ) (at : slot_where (is_named n) ss ≡ 
 -- a look that shows no object
 pub not_tagged : (n : List ℕ) (cs : List Case) (w : View) → ((m : Bor (OrderedMap Node)) → w ≡ v.Object m → ⊥)
     → Among (wrong_kind expected.Object) (causes final_tables (tagged n cs) (shown w))
-not_tagged n cs v.Null h = inl refl
-not_tagged n cs (v.Flag b) h = inl refl
-not_tagged n cs (v.Whole z) h = inl refl
-not_tagged n cs (v.Text s) h = inl refl
-not_tagged n cs (v.List ts) h = inl refl
 not_tagged n cs (v.Object m) h = absurd (h m refl)
+not_tagged n cs w h = inl refl
 
 -- the tag alone weighs at most what the members do
 pub tag_weight : (n : List ℕ) (k : Kind) (ms : Members) → row_weight (row n required k) ms ≤ members_size ms

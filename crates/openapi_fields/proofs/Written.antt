@@ -9,13 +9,7 @@ use Rattle.openapi_node.specs.Tree.{Tree}
 use Rattle.openapi_node.specs.declared.fault.Cause.TheVariants.{NameNotWritable}
 use Rattle.openapi_node.specs.declared.fault.Fault.{Fault}
 use Rattle.openapi_node.proofs.TreeLemmas.{take_next}
-use Rattle.openapi_tables.specs.Kind.{Kind}
-use Rattle.openapi_tables.specs.Lists.{every, is_empty}
-use Rattle.openapi_tables.specs.Tables.{final_tables}
-use Rattle.openapi_tables.specs.Form.{Form}
-use Rattle.openapi_tables.specs.Print.{print}
-use Rattle.openapi_tables.specs.Unwritable.{unwritable}
-use Rattle.openapi_tables.specs.Laws.{Among}
+use Rattle.openapi_tables.specs.Prelude.{Kind, every, is_empty, final_tables, Form, print, unwritable, Among}
 use Rattle.openapi_fields.specs.Entries.{written_entries, all_whole, EntriesNotWritable}
 use Rattle.openapi_fields.specs.Returned.{NotWritableBelow}
 

@@ -1,4 +1,4 @@
--- The forms of values, and the slots that an object is written as.
+-- The forms of Rust values, and the slots that an object is written as.
 use Rattle.std.specs.Prelude.{ℕ, ℤ, pos, Bool, ◌||◌, List, ◌∷◌, Option, Some, None, String, string_bytes}
 use Rattle.std.specs.Global.{Vec}
 use Rattle.std.specs.declared.alloc.Global.{Global}

@@ -1,4 +1,4 @@
--- Members that are there and not null, and what was read of them.
+-- Members that are there and not null: a look at one, and what was read of it.
 use Rattle.std.specs.Prelude.{◌≡◌, ℕ, ◌+◌, ◌≤◌, List, Option, Some, None, Result, Ok, Err}
 use Rattle.openapi_node.specs.Fault.{GoesUp}
 use Rattle.openapi_node.specs.Place.{named}

@@ -1,4 +1,5 @@
--- What mutually recursive readers return, beside what the tables say.
+-- What mutually recursive readers return, beside what the tables say: what some of the rows of an object give, what
+-- its members are, and an entry that is put by what was read of it.
 use Rattle.std.specs.Prelude.{◌≡◌, ℕ, ◌+◌, ◌≤◌, Bool, true, false, List, [], ◌∷◌, ◌++◌, Option, Some, None, Result, Ok, Err, ◌⊎◌}
 use Rattle.std.specs.Borrow.{Bor}
 use Rattle.openapi_map.specs.Entries.{Entries}

@@ -1,4 +1,4 @@
--- What a tree is cleaned to, and what it settles to.
+-- What a tree is cleaned to, what it settles to, and how many looks that takes.
 use Rattle.std.specs.Prelude.{◌≡◌, ℕ, ◌+◌, ◌*◌, ◌≤◌, true, false, Result, Ok, Err}
 use Rattle.openapi_node.specs.Tree.{Tree, size_of}
 use Rattle.openapi_node.specs.declared.fault.Fault.{Fault}

@@ -1,4 +1,5 @@
--- What mutually recursive writers return, beside what the tables say.
+-- What mutually recursive writers return, beside what the tables say: what was written of the value of a row, and the
+-- members that came of it.
 use Rattle.std.specs.Prelude.{◌≡◌, ℕ, true, false, cond, List, [], ◌∷◌, ◌++◌, Option, Some, None, Result, Ok, Err, slice_get}
 use Rattle.openapi_map.specs.Entries.{Entries, get}
 use Rattle.openapi_node.specs.Place.{named}

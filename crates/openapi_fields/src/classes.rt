@@ -13,13 +13,13 @@ use crate::from_node::FromNode;
 use crate::names::{ClassNames, Extensions};
 use crate::object::HasSlots;
 use crate::to_node::ToNode;
-use openapi_node::{Fault, Node, OrderedMap, Steps};
+use openapi_node::{Fault, Members, Node, OrderedMap, Steps};
 use std::alloc::Global;
 
 /// Reads the members whose names are of a class, in order.
 pub fn class_entries<R: HasSlots, N: ClassNames, T: FromNode + Drop>(
     alloc: Global,
-    members: &OrderedMap<Node>,
+    members: &Members,
     steps: &mut Steps,
 ) -> Result<OrderedMap<T>, Fault>
     requires row { row_where (is_class N.class) (rows_asked final_tables R.object) ≡ Some (kinds.class N.class T.kind) }
@@ -34,9 +34,9 @@ pub fn class_entries<R: HasSlots, N: ClassNames, T: FromNode + Drop>(
 /// Reads the extensions, in order.
 pub fn extensions<R: HasSlots>(
     alloc: Global,
-    members: &OrderedMap<Node>,
+    members: &Members,
     steps: &mut Steps,
-) -> Result<OrderedMap<Node>, Fault>
+) -> Result<Members, Fault>
     requires row { row_where (is_class kinds.extensions) (rows_asked final_tables R.object) ≡ Some
         (kinds.class kinds.extensions kinds.any_tree) }
     ensures reads { RowReadAs extensions_form result R.object (kinds.class kinds.extensions kinds.any_tree)
@@ -52,7 +52,7 @@ pub fn extensions<R: HasSlots>(
 pub fn put_class<R: HasSlots, N: ClassNames, T: ToNode>(
     alloc: Global,
     owner: &R,
-    out: &mut OrderedMap<Node>,
+    out: &mut Members,
     values: &OrderedMap<T>,
 ) -> Result<(), Fault>
     requires slot { slot_where (is_class N.class) (R.slots_of owner.now) ≡ Some
@@ -68,8 +68,8 @@ pub fn put_class<R: HasSlots, N: ClassNames, T: ToNode>(
 pub fn put_extensions<R: HasSlots>(
     alloc: Global,
     owner: &R,
-    out: &mut OrderedMap<Node>,
-    values: &OrderedMap<Node>,
+    out: &mut Members,
+    values: &Members,
 ) -> Result<(), Fault>
     requires slot { slot_where (is_class kinds.extensions) (R.slots_of owner.now) ≡ Some
         (kinds.class kinds.extensions kinds.any_tree, extensions_form values.now) }

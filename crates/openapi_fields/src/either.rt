@@ -20,7 +20,7 @@ use crate::object::{HasSlots, Object};
 use crate::place::at_name;
 use crate::put_rows::put_value;
 use crate::to_node::ToNode;
-use openapi_node::{Cause, Fault, Node, OrderedMap, Steps};
+use openapi_node::{Cause, Fault, Members, Node, Steps};
 use std::alloc::Global;
 
 /// What stands under the one of two names that decides.
@@ -47,11 +47,7 @@ fn is_one_of(first: &str, second: &str, name: &str) -> bool
 }
 
 /// The first of the members that have one of two names.
-fn first_of_two<'a>(
-    members: &'a OrderedMap<Node>,
-    first: &str,
-    second: &str,
-) -> Option<(&'a str, &'a Node)>
+fn first_of_two<'a>(members: &'a Members, first: &str, second: &str) -> Option<(&'a str, &'a Node)>
     ensures { option_map deref_pair result ≡ slice_get (chosen (is_either first.now second.now) members.now) 0 }
 {
     for i in 0..members.len() {
@@ -67,7 +63,7 @@ fn first_of_two<'a>(
 /// is none.
 pub fn decider<'a>(
     alloc: Global,
-    members: &'a OrderedMap<Node>,
+    members: &'a Members,
     first: &'static str,
     second: &'static str,
 ) -> Result<Either<&'a Node, &'a Node>, Fault>
@@ -87,7 +83,7 @@ pub fn decider<'a>(
 /// decides, and the other one is not looked at.
 pub fn decided<R: Object, A: FromNode, B: FromNode>(
     alloc: Global,
-    members: &OrderedMap<Node>,
+    members: &Members,
     first: &'static str,
     second: &'static str,
     steps: &mut Steps,
@@ -117,7 +113,7 @@ pub fn decided<R: Object, A: FromNode, B: FromNode>(
 pub fn put_first<R: HasSlots, A: ToNode, B: FromNode>(
     alloc: Global,
     owner: &R,
-    out: &mut OrderedMap<Node>,
+    out: &mut Members,
     first: &'static str,
     second: &'static str,
     value: &A,
@@ -136,7 +132,7 @@ pub fn put_first<R: HasSlots, A: ToNode, B: FromNode>(
 pub fn put_second<R: HasSlots, A: FromNode, B: ToNode>(
     alloc: Global,
     owner: &R,
-    out: &mut OrderedMap<Node>,
+    out: &mut Members,
     first: &'static str,
     second: &'static str,
     value: &B,

@@ -11,13 +11,13 @@ use crate::names::Names;
 use crate::place::at_name;
 use crate::put_rows::{put, put_value};
 use crate::to_node::ToNode;
-use openapi_node::{Cause, Fault, Node, OrderedMap, Steps};
+use openapi_node::{Cause, Fault, Members, Node, OrderedMap, Steps};
 use std::alloc::Global;
 
 /// Reads the members whose names are in a set, in order.
 pub fn read_entries<N: Names, T: FromNode + Drop>(
     alloc: Global,
-    members: &OrderedMap<Node>,
+    members: &Members,
     steps: &mut Steps,
 ) -> Result<OrderedMap<T>, Fault>
     ensures reads { EntriesReadAs T.form_of result T.kind (chosen N.test members.now) }
@@ -40,7 +40,7 @@ pub fn read_entries<N: Names, T: FromNode + Drop>(
 /// Writes entries whose names are all to be in a set, in order, behind the members that are there.
 pub fn put_entries<N: Names, T: ToNode>(
     alloc: Global,
-    out: &mut OrderedMap<Node>,
+    out: &mut Members,
     values: &OrderedMap<T>,
 ) -> Result<(), Fault>
     requires { (n : List ℕ) → N.test n ≡ true → get n out.old ≡ None }

@@ -13,7 +13,7 @@ use crate::object::HasSlots;
 use crate::put_rows::put_value;
 use crate::rows::found;
 use crate::to_node::ToNode;
-use openapi_node::{Fault, Node, OrderedMap, Steps};
+use openapi_node::{Fault, Members, Node, OrderedMap, Steps};
 use openapi_values::{
     CookieStyle, HeaderStyle, PathStyle, QueryStyle, VariantOrUnknownOrEmpty, Word,
 };
@@ -184,7 +184,7 @@ impl Implied for HeaderStyle {
 /// A member that stands for a value where it is missing.
 pub fn or_implied<R: HasSlots, T: Implied>(
     alloc: Global,
-    members: &OrderedMap<Node>,
+    members: &Members,
     name: &'static str,
     steps: &mut Steps,
 ) -> Result<T, Fault>
@@ -209,7 +209,7 @@ pub fn or_implied<R: HasSlots, T: Implied>(
 pub fn put_implied<R: HasSlots, T: Implied + ToNode>(
     alloc: Global,
     owner: &R,
-    out: &mut OrderedMap<Node>,
+    out: &mut Members,
     name: &'static str,
     value: &T,
 ) -> Result<(), Fault>

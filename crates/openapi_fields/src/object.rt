@@ -7,7 +7,7 @@ ghost use Rattle.openapi_fields.specs.Forms.{record_form, record_slots};
 
 use crate::from_node::FromNode;
 use crate::to_node::ToNode;
-use openapi_node::{Cause, Expected, Fault, Node, OrderedMap, Steps, View};
+use openapi_node::{Cause, Expected, Fault, Members, Node, OrderedMap, Steps, View};
 use std::alloc::Global;
 
 /// What the helpers of rows ask of a type that is an object. It has no function, so that they can be called in a cycle.
@@ -59,17 +59,13 @@ pub trait Record: Object + Sized {
     ghost use Rattle.openapi_fields.specs.Returned.{RowsReadAs, NotWritable};
 
     /// Reads the rows among the members of an object.
-    fn from_members(
-        alloc: Global,
-        members: &OrderedMap<Node>,
-        steps: &mut Steps,
-    ) -> Result<Self, Fault>
+    fn from_members(alloc: Global, members: &Members, steps: &mut Steps) -> Result<Self, Fault>
         ensures reads { RowsReadAs Self.rows_of result (by Self.table) (members_of members.now) }
         ensures rises { steps.old ≤ steps.new }
         ensures count { steps.new ≤ steps.old + 3 * rows_weight (final_tables Self.table) (members_of members.now) };
 
     /// Writes the rows into an object that has no members yet.
-    fn put_rows(&self, alloc: Global, out: &mut OrderedMap<Node>) -> Result<(), Fault>
+    fn put_rows(&self, alloc: Global, out: &mut Members) -> Result<(), Fault>
         requires { IsWritten final_tables [] out.old }
         ensures ok { OnOk result (IsWritten final_tables (record_slots Self.table Self.rows_of self.now) out.new) }
         ensures err { IfErr result (λ f. NotWritable f (slots_lost final_tables

@@ -3,15 +3,11 @@ ghost use Rattle.openapi_node.specs.Tree.{members_of};
 ghost use Rattle.openapi_fields.specs.Presence.{AtMember, ViewFound};
 
 use crate::place::at_name;
-use openapi_node::{Fault, Node, OrderedMap, Steps, View, find_member};
+use openapi_node::{Fault, Members, Node, Steps, View, find_member};
 use std::alloc::Global;
 
 /// A look at the member of a name, where it is there and not null.
-pub fn present_view<'a>(
-    members: &'a OrderedMap<Node>,
-    name: &str,
-    steps: &mut Steps,
-) -> Option<View<'a>>
+pub fn present_view<'a>(members: &'a Members, name: &str, steps: &mut Steps) -> Option<View<'a>>
     ensures { ViewFound result name.now (members_of members.now) steps.old steps.new }
 {
     let Some(node) = find_member(members, name) else {

@@ -14,7 +14,7 @@ ghost use Rattle.openapi_fields.specs.Returned.{NotWritable, NotWritableBelow};
 
 use crate::object::HasSlots;
 use crate::to_node::ToNode;
-use openapi_node::{Fault, Node, OrderedMap};
+use openapi_node::{Fault, Members, Node, OrderedMap};
 use std::alloc::Global;
 
 /// Puts a value last, under a name that is not there yet.
@@ -40,7 +40,7 @@ pub fn put<V: Drop>(
 /// Puts what a value is written as last, under a name that is not there yet.
 pub fn put_value<T: ToNode>(
     alloc: Global,
-    out: &mut OrderedMap<Node>,
+    out: &mut Members,
     name: &str,
     value: &T,
 ) -> Result<(), Fault>
@@ -60,7 +60,7 @@ pub fn put_value<T: ToNode>(
 pub fn put_required<R: HasSlots, T: ToNode>(
     alloc: Global,
     owner: &R,
-    out: &mut OrderedMap<Node>,
+    out: &mut Members,
     name: &'static str,
     value: &T,
 ) -> Result<(), Fault>
@@ -78,7 +78,7 @@ pub fn put_required<R: HasSlots, T: ToNode>(
 pub fn put_optional<R: HasSlots, T: ToNode>(
     alloc: Global,
     owner: &R,
-    out: &mut OrderedMap<Node>,
+    out: &mut Members,
     name: &'static str,
     value: &Option<T>,
 ) -> Result<(), Fault>
@@ -99,7 +99,7 @@ pub fn put_optional<R: HasSlots, T: ToNode>(
 pub fn put_nullable<R: HasSlots, T: ToNode>(
     alloc: Global,
     owner: &R,
-    out: &mut OrderedMap<Node>,
+    out: &mut Members,
     name: &'static str,
     value: &Option<T>,
 ) -> Result<(), Fault>

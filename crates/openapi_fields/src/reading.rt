@@ -9,11 +9,11 @@ ghost use Rattle.openapi_fields.specs.Returned.{ReadAs};
 ghost use Rattle.openapi_fields.specs.Reading.{MembersShown, MembersShownAt, PutRead};
 
 use crate::{at_name, put};
-use openapi_node::{Cause, Expected, Fault, Node, OrderedMap, Steps, View, find_member};
+use openapi_node::{Cause, Expected, Fault, Members, Node, OrderedMap, Steps, View, find_member};
 use std::alloc::Global;
 
 /// The members of a value that is to be an object, of which a look was taken already.
-pub fn members_shown<'a>(alloc: Global, view: &View<'a>) -> Result<&'a OrderedMap<Node>, Fault>
+pub fn members_shown<'a>(alloc: Global, view: &View<'a>) -> Result<&'a Members, Fault>
     ensures { MembersShown result (shown view.now) }
 {
     match view {
@@ -25,10 +25,10 @@ pub fn members_shown<'a>(alloc: Global, view: &View<'a>) -> Result<&'a OrderedMa
 /// The members of the object under a name, if the name is there, by a look at it.
 pub fn members_at<'a>(
     alloc: Global,
-    members: &'a OrderedMap<Node>,
+    members: &'a Members,
     name: &str,
     steps: &mut Steps,
-) -> Result<Option<&'a OrderedMap<Node>>, Fault>
+) -> Result<Option<&'a Members>, Fault>
     ensures { MembersShownAt result name.now (members_of members.now) steps.old steps.new }
 {
     let Some(node) = find_member(members, name) else {

@@ -10,13 +10,13 @@ ghost use Rattle.openapi_fields.specs.Returned.{MemberReadAs, RowReadAs, RisesBy
 use crate::from_node::FromNode;
 use crate::object::HasSlots;
 use crate::presence::{as_member, present_view};
-use openapi_node::{Cause, Fault, Node, OrderedMap, Steps, find_member};
+use openapi_node::{Cause, Fault, Members, Node, Steps, find_member};
 use std::alloc::Global;
 
 /// The member of a name, where it is there.
 pub(crate) fn found<T: FromNode>(
     alloc: Global,
-    members: &OrderedMap<Node>,
+    members: &Members,
     name: &str,
     steps: &mut Steps,
 ) -> Result<Option<T>, Fault>
@@ -33,7 +33,7 @@ pub(crate) fn found<T: FromNode>(
 /// The member of a name, where it is there and not null.
 fn present<T: FromNode>(
     alloc: Global,
-    members: &OrderedMap<Node>,
+    members: &Members,
     name: &str,
     steps: &mut Steps,
 ) -> Result<Option<T>, Fault>
@@ -51,7 +51,7 @@ fn present<T: FromNode>(
 /// A member that has to be there.
 pub fn required<R: HasSlots, T: FromNode>(
     alloc: Global,
-    members: &OrderedMap<Node>,
+    members: &Members,
     name: &'static str,
     steps: &mut Steps,
 ) -> Result<T, Fault>
@@ -75,7 +75,7 @@ pub fn required<R: HasSlots, T: FromNode>(
 /// A member that may be missing or null.
 pub fn optional<R: HasSlots, T: FromNode>(
     alloc: Global,
-    members: &OrderedMap<Node>,
+    members: &Members,
     name: &'static str,
     steps: &mut Steps,
 ) -> Result<Option<T>, Fault>
@@ -93,7 +93,7 @@ pub fn optional<R: HasSlots, T: FromNode>(
 /// A member that may be missing or null, and is written as null where it is.
 pub fn nullable<R: HasSlots, T: FromNode>(
     alloc: Global,
-    members: &OrderedMap<Node>,
+    members: &Members,
     name: &'static str,
     steps: &mut Steps,
 ) -> Result<Option<T>, Fault>

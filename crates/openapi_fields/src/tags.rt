@@ -12,14 +12,14 @@ use crate::object::HasSlots;
 use crate::place::at_name;
 use crate::put_rows::put;
 use crate::words::{read_word, write_text};
-use openapi_node::{Cause, Fault, Node, OrderedMap, Steps, find_member};
+use openapi_node::{Cause, Fault, Members, Node, Steps, find_member};
 use openapi_values::Word;
 use std::alloc::Global;
 
 /// Reads the tag of an object: a text that has to be there and is a word of a set.
 pub fn tag<T: Word>(
     alloc: Global,
-    members: &OrderedMap<Node>,
+    members: &Members,
     name: &'static str,
     steps: &mut Steps,
 ) -> Result<T, Fault>
@@ -41,7 +41,7 @@ pub fn tag<T: Word>(
 pub fn put_tag<R: HasSlots>(
     alloc: Global,
     owner: &R,
-    out: &mut OrderedMap<Node>,
+    out: &mut Members,
     name: &'static str,
     word: &str,
 ) -> Result<(), Fault>

@@ -15,13 +15,13 @@ ghost use Rattle.openapi_fields.specs.Returned.{NotWritable, WrittenAs};
 ghost use Rattle.openapi_fields.specs.Writing.{AreNew, MemberWrittenAs, HoldsDecided, HoldsWritten, PutAs, RowsWritten};
 
 use crate::{HasSlots, Record, put};
-use openapi_node::{Fault, Node, OrderedMap};
+use openapi_node::{Fault, Members, Node, OrderedMap};
 use std::alloc::Global;
 
 /// Puts what was written of a value last, under a name that is not there yet; or leads its refusal on.
 pub fn put_written(
     alloc: Global,
-    out: &mut OrderedMap<Node>,
+    out: &mut Members,
     name: &str,
     written: Result<Node, Fault>,
 ) -> Result<(), Fault>
@@ -49,7 +49,7 @@ pub fn as_some(written: Result<Node, Fault>) -> Result<Option<Node>, Fault>
 pub fn put_row<R: HasSlots>(
     alloc: Global,
     owner: &R,
-    out: &mut OrderedMap<Node>,
+    out: &mut Members,
     name: &'static str,
     written: Result<Option<Node>, Fault>,
 ) -> Result<(), Fault>
@@ -72,7 +72,7 @@ pub fn put_row<R: HasSlots>(
 pub fn put_decided<R: HasSlots>(
     alloc: Global,
     owner: &R,
-    out: &mut OrderedMap<Node>,
+    out: &mut Members,
     first: &'static str,
     name: &'static str,
     written: Result<Node, Fault>,
@@ -87,7 +87,7 @@ pub fn put_decided<R: HasSlots>(
 }
 
 /// The object that the members of the rows of a table make, by what was written of them.
-pub fn whole_object(written: Result<OrderedMap<Node>, Fault>) -> Result<Node, Fault>
+pub fn whole_object(written: Result<Members, Fault>) -> Result<Node, Fault>
     ensures { (i : TableName) (fs : List Form) → RowsWritten (slots (final_tables i) fs) written
         → WrittenAs (kinds.by i) (fields plain (forms_of fs)) result }
 {
@@ -98,11 +98,7 @@ pub fn whole_object(written: Result<OrderedMap<Node>, Fault>) -> Result<Node, Fa
 }
 
 /// The only member of an object, by what was written of its value.
-pub fn only_row(
-    alloc: Global,
-    name: &str,
-    written: Result<Node, Fault>,
-) -> Result<OrderedMap<Node>, Fault>
+pub fn only_row(alloc: Global, name: &str, written: Result<Node, Fault>) -> Result<Members, Fault>
     ensures { (k : Kind) (f : Form) → WrittenAs k f written
         → RowsWritten ((kinds.row name.now kinds.required k, f) ∷ []) result }
 {
@@ -116,7 +112,7 @@ pub fn only_row(
 }
 
 /// The members that an object by a table is written as.
-pub fn record_rows<T: Record>(alloc: Global, value: &T) -> Result<OrderedMap<Node>, Fault>
+pub fn record_rows<T: Record>(alloc: Global, value: &T) -> Result<Members, Fault>
     ensures { RowsWritten (record_slots T.table T.rows_of value.now) result }
 {
     let mut out = OrderedMap::new(alloc);
@@ -127,11 +123,7 @@ pub fn record_rows<T: Record>(alloc: Global, value: &T) -> Result<OrderedMap<Nod
 }
 
 /// Puts members behind those that are there, none of which has a name of theirs. Err only for want of memory.
-pub fn append(
-    alloc: Global,
-    out: &mut OrderedMap<Node>,
-    more: OrderedMap<Node>,
-) -> Result<(), Fault>
+pub fn append(alloc: Global, out: &mut Members, more: Members) -> Result<(), Fault>
     requires { AreNew more out.old }
     ensures ok { OnOk result (out.new ≡ out.old ++ more) }
     ensures err { IfErr result IsMemory }

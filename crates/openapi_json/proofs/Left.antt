@@ -8,6 +8,7 @@ use Rattle.openapi_node.specs.Json.{data_of}
 use Rattle.openapi_node.specs.Tree.{Tree}
 use Rattle.openapi_json.specs.Writing.{data_tokens, members_data_tokens, standing}
 
+-- what is left from an index on is the element there, and then what is left behind it
 pub left_after : {A : Type 0} (xs : List A) (i : ℕ) (x : A) → slice_get xs i ≡ Some x → drop i xs ≡ x ∷ drop (i + 1) xs
 left_after xs i x at =
     drop_more xs i x (slice_get_within xs i x at) ∙ ap (λ y. y ∷ drop (i + 1) xs) (get_or_from_slice_get xs i x x at)

@@ -22,12 +22,14 @@ use Rattle.openapi_json.proofs.Sorted.{some_same}
 above : (n : List ℕ) (e : List ℕ × Tree) → slice_cmp nat_cmp e.0 n ≡ Less → slice_cmp nat_cmp n e.0 ≡ Greater
 above n e b = nat_list_cmp_total.antisymm n e.0 ∙ ap ordering_reverse b
 
+-- a name that is above all others is none of them
 pub absent_below : (n : List ℕ) (es : Entries Tree) → AllBelow n es → get n es ≡ None
 absent_below n [] b = refl
 absent_below n (e ∷ es) b =
     let apart : bytes_eq n e.0 ≡ false = sym (is_eq-slice_cmp n e.0) ∙ ap is_eq (above n e b.0) in
     ap (λ c. cond c (Some e.1) (get n es)) apart ∙ absent_below n es b.1
 
+-- an entry whose name is above all others goes last when it is inserted
 pub insert_last : (n : List ℕ) (t : Tree) (es : Entries Tree) → AllBelow n es
     → insert_entry (slice_cmp nat_cmp) es n t ≡ es ++ (n, t) ∷ []
 insert_last n t [] b = refl
@@ -42,6 +44,7 @@ rises-push : (k n : List ℕ) (t : Tree) (es : Entries Tree) → Rises k es → 
 rises-push k n t [] r b h = (h, tt)
 rises-push k n t (e ∷ es) r b h = (r.0, rises-push e.0 n t es r.1 b.1 b.0)
 
+-- entries in order, with one more at the end whose name is above all others, are in order
 pub ascends-push : (n : List ℕ) (t : Tree) (es : Entries Tree) → Ascends es → AllBelow n es → Ascends (es ++ (n, t) ∷ [])
 ascends-push n t [] r b = tt
 ascends-push n t (e ∷ es) r b = rises-push e.0 n t es r b.1 b.0
@@ -67,6 +70,7 @@ rises_ascends : (k : List ℕ) (es : Entries Tree) → Rises k es → Ascends es
 rises_ascends k [] r = tt
 rises_ascends k (e ∷ es) r = r.1
 
+-- where all entries stand in order, those before one of them have names below its name
 pub before_below : (done : Entries Tree) (e : List ℕ × Tree) (more : Entries Tree) → Ascends (done ++ e ∷ more)
     → AllBelow e.0 done
 before_below [] e more r = tt
@@ -80,12 +84,14 @@ below_middle : (first : String Global × Tree) (es : List (String Global × Tree
 below_middle first [] e more h = h.0
 below_middle first (x ∷ es) e more h = below_middle first es e more h.1
 
+-- in the order of a `BTreeMap` the entries before one have names below its name
 pub sorted_below : (done : List (String Global × Tree)) (e : String Global × Tree) (more : List (String Global × Tree))
     → IsStrictlySortedBy string_cmp (keys_of (done ++ e ∷ more)) → AllBelow (string_bytes e.0) (map owned_entry done)
 unfolding IsStrictlySortedBy
 sorted_below [] e more h = tt
 sorted_below (first ∷ done) e more h = (below_middle first done e more h.0, sorted_below done e more h.1)
 
+-- one more entry with an owned name is one more entry by its bytes
 pub owned-push : (done : List (String Global × Tree)) (e : String Global × Tree)
     → map owned_entry (done ++ e ∷ []) ≡ map owned_entry done ++ owned_entry e ∷ []
 owned-push [] e = refl
@@ -104,6 +110,7 @@ pub owned-insert : (es : List (String Global × Tree)) (k : String Global) (t : 
 owned-insert [] k t = refl
 owned-insert (e ∷ es) k t = map-match owned_entry (string_cmp k e.0) _ _ _ ∙ rw (owned-insert es k t)
 
+-- an entry that is put into a map with owned names goes among its entries by their bytes
 pub put_owned : (old new : List (String Global × Tree)) (es : Entries Tree) (k : String Global) (t : Tree)
     → new ≡ insert_entry string_cmp old k t → map owned_entry old ≡ es
     → map owned_entry new ≡ insert_entry (slice_cmp nat_cmp) es (string_bytes k) t
@@ -117,11 +124,13 @@ members-match Less a b c = refl
 members-match Equal a b c = refl
 members-match Greater a b c = refl
 
+-- a pair that is inserted among pairs is put among the members that they make
 pub members-insert : (ps : List Pair) (k : List ℕ) (d : Data) → pairs_data (insert_entry (slice_cmp nat_cmp) ps k d)
     ≡ put k d (pairs_data ps)
 members-insert [] k d = refl
 members-insert (p ∷ ps) k d = members-match (slice_cmp nat_cmp k p.0) _ _ _ ∙ rw (members-insert ps k d)
 
+-- a pair that is inserted among pairs has its tree inserted among their trees
 pub trees-insert : (ps : List Pair) (k : List ℕ) (d : Data) → map tree_pair (insert_entry (slice_cmp nat_cmp) ps k d)
     ≡ insert_entry (slice_cmp nat_cmp) (map tree_pair ps) k (tree_of_data d)
 trees-insert [] k d = refl
@@ -142,6 +151,7 @@ whole-match Less a b c x y z = x
 whole-match Equal a b c x y z = y
 whole-match Greater a b c x y z = z
 
+-- pairs without floats have none once data without floats is inserted
 pub whole-insert : (ps : List Pair) (k : List ℕ) (d : Data) → members_have_float (pairs_data ps) ≡ false
     → has_float d ≡ false → members_have_float (pairs_data (insert_entry (slice_cmp nat_cmp) ps k d)) ≡ false
 whole-insert [] k d e f = both (has_float d) false f refl

@@ -59,6 +59,7 @@ mutual
       (print_from true ts)))
       ∙ sym (append_assoc (comma_if later) (quoted k ++ 58 ∷ (compact_text d ++ members_text true ms)) (print_from true ts))
 
+-- the tokens of data are printed as its compact text
 pub text_of_data : (d : Data) → print (data_tokens d) ≡ compact_text d
 unfolding print_from
 text_of_data d =

@@ -16,6 +16,7 @@ use Rattle.openapi_json.specs.Writing.{AllFit, lent, standing}
 abbrev Named : Type 0
 Named = List ℕ × Tree
 
+-- what two equal options hold is the same
 pub some_same : {A : Type 0} {x y : A} → Some x ≡ Some y → x ≡ y
 some_same e = cc
 
@@ -63,6 +64,7 @@ rises e [] h = tt
 rises e (f ∷ es) h =
     (h zero e f (omega arith) refl refl, rises f es (λ j a b l p q. h (suc j) a b (omega (arith, l)) p q))
 
+-- members are in order where each was seen to be below the next, as far as the last
 pub all_ascending : (es : Entries Tree) → AscendsTo (length es) es → Ascends es
 all_ascending [] h = tt
 all_ascending (e ∷ es) h = rises e es h
@@ -77,6 +79,7 @@ standing-match Greater a b c = refl
 abbrev pub name_cmp : Bor (List ℕ) → Bor (List ℕ) → Ordering
 name_cmp a b = slice_cmp nat_cmp a.now b.now
 
+-- a lent pair that is inserted among lent pairs is put among their data
 pub lent-insert : (es : List (Bor (List ℕ) × Bor Tree)) (k : Bor (List ℕ)) (v : Bor Tree)
     → standing (lent (insert_entry name_cmp es k v)) ≡ put k.now (data_of v.now) (standing (lent es))
 lent-insert [] k v = refl
@@ -87,6 +90,7 @@ members_data-push : (ms : Entries Tree) (e : Named) (ds : Members)
 members_data-push [] e ds = refl
 members_data-push (m ∷ ms) e ds = members_data-push ms e (put m.0 (data_of m.1) ds)
 
+-- the data of one member more is that of the members before it, with the member put among them
 pub put_next : (ms : Entries Tree) (i : ℕ) (e : Named) → slice_get ms i ≡ Some e
     → members_data (members_of (take (i + 1) ms)) no_members
     ≡ put e.0 (data_of e.1) (members_data (members_of (take i ms)) no_members)
@@ -100,6 +104,7 @@ fit-match s Less a b c x y z = x
 fit-match s Equal a b c x y z = y
 fit-match s Greater a b c x y z = z
 
+-- lent trees that fit a size still do once one more that fits is inserted
 pub fit-insert : (s : ℕ) (es : List (Bor (List ℕ) × Bor Tree)) (k : Bor (List ℕ)) (v : Bor Tree) → AllFit s (lent es)
     → size_of v.now ≤ s → AllFit s (lent (insert_entry name_cmp es k v))
 fit-insert s [] k v h g = (g, tt)
@@ -107,6 +112,7 @@ fit-insert s (e ∷ es) k v h g =
     fit-match s (name_cmp k e.0) ((k, v) ∷ e ∷ es) ((e.0, v) ∷ es) (e ∷ insert_entry name_cmp es k v) (g, h) (g, h.1)
     (h.0, fit-insert s es k v h.1 g)
 
+-- a member is no larger than all members together
 pub fits_in : (ms : Entries Tree) (i : ℕ) (e : Named) → slice_get ms i ≡ Some e → size_of e.1 ≤ members_size (members_of ms)
 fits_in [] i e at = cc
 fits_in (m ∷ ms) zero e at =

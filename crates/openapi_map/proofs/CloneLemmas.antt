@@ -1,6 +1,6 @@
 -- A clone of what the code keeps, beside the entries.
-use Rattle.std.proofs.Common.{◌≡◌, ℕ, List, [], ◌∷◌, Option, Some, None, Vec, string_bytes, refl, ◌∙◌}
-use Rattle.std.proofs.Common.{get_or, length, slice_index, vec_len, sym, ap, arith}
+use Rattle.std.proofs.Common.{◌≡◌, ℕ, List, [], ◌∷◌, Option, Some, None, Vec, string_bytes, refl, ◌∙◌, get_or, length}
+use Rattle.std.proofs.Common.{slice_index, vec_len, sym, ap, arith}
 use Rattle.std.proofs.lemmas.List.Elements.{same_from_all_zip}
 use Rattle.std.specs.List.{AllZip}
 use Rattle.std.specs.declared.alloc.Global.{Global}

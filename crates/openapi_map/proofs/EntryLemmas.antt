@@ -1,7 +1,7 @@
 -- The entries of a map: what the code keeps of them, the place of a name, and one entry after another.
-use Rattle.std.proofs.Common.{◌≡◌, ℕ, zero, suc, ◌+◌, ◌<◌, Bool, false, cond, not, List, [], ◌∷◌, ◌++◌}
-use Rattle.std.proofs.Common.{map, length, get_or, set, position, slice_get, Option, Some, None, is_some, nat_lt}
-use Rattle.std.proofs.Common.{string_bytes, take, drop, drop-cons, refl, sym, ap, subst, ◌∙◌, arith, true≢false}
+use Rattle.std.proofs.Common.{◌≡◌, ℕ, zero, suc, ◌+◌, ◌<◌, Bool, false, cond, not, List, [], ◌∷◌, ◌++◌, map, length}
+use Rattle.std.proofs.Common.{get_or, set, position, slice_get, Option, Some, None, is_some, nat_lt, string_bytes, take}
+use Rattle.std.proofs.Common.{drop, drop-cons, refl, sym, ap, subst, ◌∙◌, arith, true≢false}
 use Rattle.std.proofs.lemmas.List.{map-append, take-append-drop, take_more}
 use Rattle.std.proofs.lemmas.Map.Made.{is_some-lookup}
 use Rattle.std.proofs.lemmas.Option.{slice_get_within, get_or_from_slice_get}
@@ -9,8 +9,8 @@ use Rattle.std.specs.Cmp.Lexicographic.{nat_list_eq_equiv}
 use Rattle.std.specs.List.{list_any, position_or_len}
 use Rattle.std.specs.Map.{keys_of, values_of}
 use Rattle.std.specs.Str.{bytes_eq}
-use Rattle.indexmap.proofs.MapLemmas.{Found-position, insert_entry-first, insert_entry-absent}
-use Rattle.indexmap.proofs.MapLemmas.{absent_from_lookup, absent_before, some_index}
+use Rattle.indexmap.proofs.MapLemmas.{Found-position, insert_entry-first, insert_entry-absent, absent_from_lookup}
+use Rattle.indexmap.proofs.MapLemmas.{absent_before, some_index}
 use Rattle.indexmap.specs.IndexMap.{set_value_at}
 use Rattle.openapi_map.specs.Entries.{Entries, entries_of, names_of, get, insert_entry, HasDistinctNames}
 use Rattle.openapi_map.specs.declared.Member.{Member}
@@ -93,6 +93,7 @@ position-map {A} f t xs = λ i. cond (nat_lt (places xs i) (lengths xs i)) (Some
     lengths [] = refl
     lengths (y ∷ ys) = ap suc (lengths ys)
 
+-- the bytes of the names that the code keeps are the names of the entries
 pub names_of-map : {V : Type 0} (es : List (Member V)) → map (λ e. string_bytes e.name) es ≡ names_of es
 names_of-map [] = refl
 names_of-map (e ∷ es) = ap (λ r. string_bytes e.name ∷ r) (names_of-map es)

@@ -1,7 +1,7 @@
 -- The index: what it is once a name comes or goes, and what a look-up by it finds.
-use Rattle.std.proofs.Common.{◌≡◌, ◌≢◌, ℕ, suc, ◌+◌, ◌-◌, ◌<◌, ◌≤◌, Bool, true, false, cond, eqb, nat_lt, List, [], ◌∷◌, ◌++◌}
-use Rattle.std.proofs.Common.{length, get_or, set, remove, replicate, position, Option, Some, None, IfSome, Vec, vec_len, slice_index}
-use Rattle.std.proofs.Common.{refl, sym, ap, subst, ◌∙◌, arith, true≢false, get_or-set_other}
+use Rattle.std.proofs.Common.{◌≡◌, ◌≢◌, ℕ, suc, ◌+◌, ◌-◌, ◌<◌, ◌≤◌, Bool, true, false, cond, eqb, nat_lt, List, [], ◌∷◌}
+use Rattle.std.proofs.Common.{◌++◌, length, get_or, set, remove, replicate, position, Option, Some, None, IfSome, Vec}
+use Rattle.std.proofs.Common.{vec_len, slice_index, refl, sym, ap, subst, ◌∙◌, arith, true≢false, get_or-set_other}
 use Rattle.std.proofs.lemmas.Bool.{cases_lt, eqb-true, eq-eqb, lt-ltb}
 use Rattle.std.proofs.lemmas.Bool.Decides.{eqb_tells, nat_tests}
 use Rattle.std.proofs.lemmas.Grind.{get_or-set_at}
@@ -24,8 +24,8 @@ use Rattle.openapi_map.specs.Index.{bucket, link_at, moved_link, IsIndex, IsInde
 use Rattle.openapi_map.specs.declared.Member.{Member}
 use Rattle.openapi_map.specs.declared.index.NameIndex.{NameIndex}
 use Rattle.openapi_map.proofs.EntryLemmas.{none-among}
-use Rattle.openapi_map.proofs.LinkLemmas.{link_at-same, link_at-push, link_at-moved, link_at-below, Leads, link_at-Leads}
-use Rattle.openapi_map.proofs.LinkLemmas.{moved-low}
+use Rattle.openapi_map.proofs.LinkLemmas.{link_at-same, link_at-push, link_at-moved, link_at-below, Leads}
+use Rattle.openapi_map.proofs.LinkLemmas.{link_at-Leads, moved-low}
 
 -- ---- names that are distinct
 pub distinct-nil : IsDistinct bytes_eq []

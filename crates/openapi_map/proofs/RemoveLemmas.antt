@@ -1,6 +1,6 @@
 -- What is left of a map, and of the names in its index, once a name is gone.
-use Rattle.std.proofs.Common.{◌≡◌, ℕ, zero, suc, Bool, true, false, cond, List, [], ◌∷◌, remove, position}
-use Rattle.std.proofs.Common.{Some, None, string_bytes, refl, sym, ap, ◌∙◌}
+use Rattle.std.proofs.Common.{◌≡◌, ℕ, zero, suc, Bool, true, false, cond, List, [], ◌∷◌, remove, position, Some, None}
+use Rattle.std.proofs.Common.{string_bytes, refl, sym, ap, ◌∙◌}
 use Rattle.std.specs.List.{IsDistinct, AllByRecursion}
 use Rattle.std.specs.Map.{keys_of}
 use Rattle.std.specs.Set.{remove_key}
@@ -41,10 +41,9 @@ module _ {V : Type 0} where
 
   -- the name at a place goes with its entry
   pub names_of-remove : (es : List (Member V)) (i : ℕ) → names_of (remove es i) ≡ remove (names_of es) i
-  names_of-remove [] zero = refl
-  names_of-remove [] (suc i) = refl
-  names_of-remove (e ∷ es) zero = refl
   names_of-remove (e ∷ es) (suc i) = ap (λ r. string_bytes e.name ∷ r) (names_of-remove es i)
+  names_of-remove es zero = refl
+  names_of-remove es i = refl
 
   module _ (name : List ℕ) (es : List (Member V)) (i : ℕ) (found : Some i ≡ position (bytes_eq name) (names_of es)) where
     -- the entry at the place of a name goes

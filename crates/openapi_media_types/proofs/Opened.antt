@@ -1,16 +1,16 @@
 -- The forms of headers and contents, by the forms of their fields.
-use Rattle.std.proofs.Common.{◌≡◌, ℕ, true, cond, Some, List, Result, Ok, Err, [], ◌∷◌, refl, sym, ap, ◌∙◌, subst, codes, rules, string_bytes}
+use Rattle.std.proofs.Common.{◌≡◌, ℕ, true, cond, Some, List, Result, Ok, Err, [], ◌∷◌, refl, sym, ap, ◌∙◌, subst}
+use Rattle.std.proofs.Common.{codes, rules, string_bytes}
 use Rattle.openapi_map.specs.Entries.{Entries}
 use Rattle.openapi_node.specs.Tree.{Tree, Members, object}
 use Rattle.openapi_node.specs.declared.fault.Fault.{Fault}
 use Rattle.openapi_node.specs.declared.node.Node.{Node}
-use Rattle.openapi_tables.specs.Form.{Form, Pair, an_item, deciding, leaf, name, named, named_of, reference}
-use Rattle.openapi_tables.specs.Kind.{by, encoding, header, media_type, schema_or_content}
-use Rattle.openapi_tables.specs.Lists.{same_text}
-use Rattle.openapi_tables.specs.Tables.{content, final_tables, schema_ref, tables_with}
-use Rattle.openapi_tables.specs.ByRow.{AreRows, is_named}
-use Rattle.openapi_tables.specs.Slots.{Slot, pairs_of, slot_where}
-use Rattle.openapi_fields.specs.Forms.{text_form, flag_form, optional_form, map_form, extensions_form, is_either, record_form}
+use Rattle.openapi_tables.specs.Prelude.{Form, Pair, an_item, deciding, leaf, name, named, named_of, reference, by}
+use Rattle.openapi_tables.specs.Prelude.{encoding, header, media_type, schema_or_content, same_text, content}
+use Rattle.openapi_tables.specs.Prelude.{final_tables, schema_ref, tables_with, AreRows, is_named, Slot, pairs_of}
+use Rattle.openapi_tables.specs.Prelude.{slot_where}
+use Rattle.openapi_fields.specs.Forms.{text_form, flag_form, optional_form, map_form, extensions_form, is_either}
+use Rattle.openapi_fields.specs.Forms.{record_form}
 use Rattle.openapi_fields.specs.Returned.{ReadAs, RowReadAs, RowsReadAs, WrittenAs}
 use Rattle.openapi_fields.specs.Writing.{HoldsDecided}
 use Rattle.openapi_fields.proofs.EntryReading.{table_read}
@@ -20,57 +20,36 @@ use Rattle.openapi_values.specs.declared.reference.ReferenceOr.{ReferenceOr}
 use Rattle.openapi_values.specs.declared.reference.ReferenceOr.TheVariants as r
 use Rattle.openapi_schema.specs.SchemaForms.{schema_form}
 use Rattle.openapi_schema.specs.declared.schema.Schema.{Schema}
-use Rattle.openapi_media_types.specs.ContentForms.{
-  deciding_name,
-  deciding_value,
-  encoding_form,
-  encoding_rows,
-  encoding_step,
-  example_ref_form,
-  format_form,
-  format_step,
-  header_form,
-  header_rows,
-  header_step,
-  media_type_form,
-  media_type_rows,
-  media_type_step,
-  of_rows,
-}
-use Rattle.openapi_media_types.specs.Fields.{encoding_fields, format_fields, format_row, header_fields, media_type_fields}
+use Rattle.openapi_media_types.specs.ContentForms.{deciding_name, deciding_value, encoding_form, encoding_rows}
+use Rattle.openapi_media_types.specs.ContentForms.{encoding_step, example_ref_form, format_form, format_step}
+use Rattle.openapi_media_types.specs.ContentForms.{header_form, header_rows, header_step, media_type_form}
+use Rattle.openapi_media_types.specs.ContentForms.{media_type_rows, media_type_step, of_rows}
+use Rattle.openapi_media_types.specs.Fields.{encoding_fields, format_fields, format_row, header_fields}
+use Rattle.openapi_media_types.specs.Fields.{media_type_fields}
 use Rattle.openapi_media_types.specs.declared.encoding.Encoding.{Encoding, out-Encoding, roll-Encoding}
 use Rattle.openapi_media_types.specs.declared.header.Header.{Header, out-Header, roll-Header}
 use Rattle.openapi_media_types.specs.declared.media_type.MediaType.{MediaType, out-MediaType, roll-MediaType}
 use Rattle.openapi_media_types.specs.declared.format.ParameterSchemaOrContent.{the_lemmas}
 use Rattle.openapi_media_types.specs.declared.format.ParameterSchemaOrContent.TheVariants as format
-use Rattle.openapi_media_types.specs.declared.format.ParameterSchemaOrContent.TheViews.{out-ParameterSchemaOrContent, roll-ParameterSchemaOrContent}
+use Rattle.openapi_media_types.specs.declared.format.ParameterSchemaOrContent.TheViews.{out-ParameterSchemaOrContent}
+use Rattle.openapi_media_types.specs.declared.format.ParameterSchemaOrContent.TheViews.{roll-ParameterSchemaOrContent}
 use Rattle.openapi_media_types.specs.declared.format.ParameterSchemaOrContent.{ParameterSchemaOrContent}
-use Rattle.openapi_media_types.specs.declared.format.ParameterSchemaOrContent.TheBlock.{
-  the_data,
-  the_data-1,
-  the_data-2,
-  the_data-3,
-}
-use Rattle.openapi_media_types.specs.declared.format.ParameterSchemaOrContent.TheFolds.{
-  fold-roll-ParameterSchemaOrContent,
-  fold-roll-Encoding,
-  fold-roll-Header,
-  fold-roll-MediaType,
-  fold_out-Encoding,
-  fold_out-ParameterSchemaOrContent,
-  fold_out-Header,
-  fold_out-MediaType,
-  map-ParameterSchemaOrContent,
-  map-Encoding,
-  map-Header,
-  map-MediaType,
-}
-use Rattle.openapi_media_types.specs.declared.format.ParameterSchemaOrContent.TheOpen.{
-  ParameterSchemaOrContent-F,
-  Encoding-F,
-  Header-F,
-  MediaType-F,
-}
+use Rattle.openapi_media_types.specs.declared.format.ParameterSchemaOrContent.TheBlock.{the_data, the_data-1}
+use Rattle.openapi_media_types.specs.declared.format.ParameterSchemaOrContent.TheBlock.{the_data-2, the_data-3}
+use Rattle.openapi_media_types.specs.declared.format.ParameterSchemaOrContent.TheFolds.{fold-roll-ParameterSchemaOrContent}
+use Rattle.openapi_media_types.specs.declared.format.ParameterSchemaOrContent.TheFolds.{fold-roll-Encoding}
+use Rattle.openapi_media_types.specs.declared.format.ParameterSchemaOrContent.TheFolds.{fold-roll-Header}
+use Rattle.openapi_media_types.specs.declared.format.ParameterSchemaOrContent.TheFolds.{fold-roll-MediaType}
+use Rattle.openapi_media_types.specs.declared.format.ParameterSchemaOrContent.TheFolds.{fold_out-Encoding}
+use Rattle.openapi_media_types.specs.declared.format.ParameterSchemaOrContent.TheFolds.{fold_out-ParameterSchemaOrContent}
+use Rattle.openapi_media_types.specs.declared.format.ParameterSchemaOrContent.TheFolds.{fold_out-Header}
+use Rattle.openapi_media_types.specs.declared.format.ParameterSchemaOrContent.TheFolds.{fold_out-MediaType}
+use Rattle.openapi_media_types.specs.declared.format.ParameterSchemaOrContent.TheFolds.{map-ParameterSchemaOrContent}
+use Rattle.openapi_media_types.specs.declared.format.ParameterSchemaOrContent.TheFolds.{map-Encoding, map-Header}
+use Rattle.openapi_media_types.specs.declared.format.ParameterSchemaOrContent.TheFolds.{map-MediaType}
+use Rattle.openapi_media_types.specs.declared.format.ParameterSchemaOrContent.TheOpen.{ParameterSchemaOrContent-F}
+use Rattle.openapi_media_types.specs.declared.format.ParameterSchemaOrContent.TheOpen.{Encoding-F, Header-F}
+use Rattle.openapi_media_types.specs.declared.format.ParameterSchemaOrContent.TheOpen.{MediaType-F}
 use denote.Hole.Carrier.{roll}
 
 -- one level of each type, and the same with what stands inside seen as forms
@@ -116,6 +95,7 @@ content_level : (es : Entries MediaType) → content_pairs (format_level (Parame
 content_level [] = refl
 content_level ((n, x) ∷ es) = ap (λ l. record { key = name n; value = media_type_form x } ∷ l) (content_level es)
 
+-- contents in the place of a schema: `content` decides, with the map of their forms
 pub format-content : (m : Entries MediaType) → format_form (format.Content m)
     ≡ deciding (codes "content") (map_form media_type_form m)
 unfolding roll-ParameterSchemaOrContent roll
@@ -140,11 +120,13 @@ header_parts d =
 header_step-level : (d : AHeader) → header_step (header_level d) ≡ header_parts d
 header_step-level d = refl
 
+-- the rows of a header are the forms of its fields
 pub header_rows-out : (x : Header) → header_rows x ≡ header_fields x
 header_rows-out x =
     fold_out-Header Form (List Form) (List Form) (List Form) format_step encoding_step header_step media_type_step x
     ∙ header_step-level (out-Header x)
 
+-- what is read as the fields of one level is read as those of the header that is made of it
 pub header_read : (d : AHeader) (ms : Members) → AreRows final_tables (final_tables header) (header_parts d) ms
     → AreRows final_tables (final_tables header) (header_fields (roll-Header d)) ms
 header_read d ms h =
@@ -174,11 +156,13 @@ media_type_step-level d =
     ∷ map_form example_ref_form d.examples ∷ named (named_of (encodings_level d d.encoding i))
     ∷ extensions_form d.extensions ∷ [])
 
+-- the rows of a media type are the forms of its fields
 pub media_type_rows-out : (x : MediaType) → media_type_rows x ≡ media_type_fields x
 media_type_rows-out x =
     fold_out-MediaType Form (List Form) (List Form) (List Form) format_step encoding_step header_step media_type_step x
     ∙ media_type_step-level (out-MediaType x)
 
+-- what is read as the fields of one level is read as those of the media type that is made of it
 pub media_type_read : (d : AMediaType) (ms : Members)
     → AreRows final_tables (final_tables media_type) (media_type_parts d) ms
     → AreRows final_tables (final_tables media_type) (media_type_fields (roll-MediaType d)) ms
@@ -213,11 +197,13 @@ encoding_step-level d =
     ∷ optional_form (word_form query_style_word) d.style ∷ flag_form d.explode ∷ flag_form d.allow_reserved
     ∷ extensions_form d.extensions ∷ [])
 
+-- the rows of an encoding are the forms of its fields
 pub encoding_rows-out : (x : Encoding) → encoding_rows x ≡ encoding_fields x
 encoding_rows-out x =
     fold_out-Encoding Form (List Form) (List Form) (List Form) format_step encoding_step header_step media_type_step x
     ∙ encoding_step-level (out-Encoding x)
 
+-- what is read as the fields of one level is read as those of the encoding that is made of it
 pub encoding_read : (d : AnEncoding) (ms : Members)
     → AreRows final_tables (final_tables encoding) (encoding_parts d) ms
     → AreRows final_tables (final_tables encoding) (encoding_fields (roll-Encoding d)) ms
@@ -226,12 +212,15 @@ encoding_read d ms h =
     (sym (fold-roll-Encoding Form (List Form) (List Form) (List Form) format_step encoding_step header_step
     media_type_step d ∙ encoding_step-level d) ∙ encoding_rows-out (roll-Encoding d)) h
 
+-- for headers, the forms of the fields and the rows are one function
 pub header_same : header_fields ≡ header_rows
 header_same i x = sym (header_rows-out x) i
 
+-- for media types, the forms of the fields and the rows are one function
 pub media_type_same : media_type_fields ≡ media_type_rows
 media_type_same i x = sym (media_type_rows-out x) i
 
+-- for encodings, the forms of the fields and the rows are one function
 pub encoding_same : encoding_fields ≡ encoding_rows
 encoding_same i x = sym (encoding_rows-out x) i
 

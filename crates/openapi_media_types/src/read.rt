@@ -1,3 +1,4 @@
+#![tactic(auto, unfolding(openapi_tables::specs::Tables::final_tables, openapi_tables::specs::Tables::tables_with))]
 //! How headers and contents are read. The functions are mutually recursive: a header may hold a content, a content
 //! holds media types, these hold encodings, and these hold headers. Each gets a smaller part of the tree in the end. A
 //! value is looked at once, and handed down as the view of that look.
@@ -21,7 +22,7 @@ use openapi_fields::{
     Either, FromNode, as_item, at_name, decider, extensions, members_at, members_shown, nullable,
     optional, or_implied, put_read, read_reference,
 };
-use openapi_node::{Fault, Node, OrderedMap, Steps, View};
+use openapi_node::{Fault, Members, Node, OrderedMap, Steps, View};
 use openapi_values::ReferenceOr;
 use std::alloc::Global;
 
@@ -60,8 +61,7 @@ pub(crate) fn read_header(
 
 /// Reads a header among the members of an object, what is plain first and what is large last.
 #[cycle(read)]
-#[tactic(auto, unfolding(openapi_tables::specs::Tables::final_tables, openapi_tables::specs::Tables::tables_with))]
-fn header_of(alloc: Global, members: &OrderedMap<Node>, steps: &mut Steps) -> Result<Header, Fault>
+fn header_of(alloc: Global, members: &Members, steps: &mut Steps) -> Result<Header, Fault>
     ensures reads { RowsReadAs header_fields result (kinds.by kinds.header) (members_of members.now) }
     ensures rises { steps.old ≤ steps.new }
     ensures count { steps.new ≤ steps.old + 3 * rows_weight (rows_asked final_tables (kinds.by kinds.header))
@@ -92,7 +92,7 @@ fn header_of(alloc: Global, members: &OrderedMap<Node>, steps: &mut Steps) -> Re
 #[cycle(read)]
 pub fn read_format(
     alloc: Global,
-    members: &OrderedMap<Node>,
+    members: &Members,
     steps: &mut Steps,
 ) -> Result<ParameterSchemaOrContent, Fault>
     ensures reads { (i : TableName) → row_where (is_named (codes "schema")) (final_tables i) ≡ Some format_row
@@ -131,11 +131,7 @@ fn read_content(alloc: Global, view: &View<'_>, steps: &mut Steps) -> Result<Con
 
 /// The media types among the members of an object, in order.
 #[cycle(read)]
-fn media_types_of(
-    alloc: Global,
-    members: &OrderedMap<Node>,
-    steps: &mut Steps,
-) -> Result<Content, Fault>
+fn media_types_of(alloc: Global, members: &Members, steps: &mut Steps) -> Result<Content, Fault>
     ensures reads { ReadAs (map_form media_type_form) result content
         (object (members_of members.now)) }
     ensures count { RisesBy steps.old steps.new (3 * members_size (members_of members.now)) }
@@ -175,12 +171,7 @@ pub(crate) fn read_media_type(
 
 /// Reads a media type among the members of an object, what is large last.
 #[cycle(read)]
-#[tactic(auto, unfolding(openapi_tables::specs::Tables::final_tables, openapi_tables::specs::Tables::tables_with))]
-fn media_type_of(
-    alloc: Global,
-    members: &OrderedMap<Node>,
-    steps: &mut Steps,
-) -> Result<MediaType, Fault>
+fn media_type_of(alloc: Global, members: &Members, steps: &mut Steps) -> Result<MediaType, Fault>
     ensures reads { RowsReadAs media_type_fields result (kinds.by kinds.media_type) (members_of members.now) }
     ensures count { RisesBy steps.old steps.new
         (3 * rows_weight (rows_asked final_tables (kinds.by kinds.media_type)) (members_of members.now)) }
@@ -203,7 +194,7 @@ fn media_type_of(
 #[cycle(read)]
 fn read_encodings(
     alloc: Global,
-    members: &OrderedMap<Node>,
+    members: &Members,
     steps: &mut Steps,
 ) -> Result<OrderedMap<Encoding>, Fault>
     ensures reads { RowReadAs (map_form encoding_form) result (kinds.by kinds.media_type)
@@ -222,7 +213,7 @@ fn read_encodings(
 #[cycle(read)]
 fn encodings_of(
     alloc: Global,
-    members: &OrderedMap<Node>,
+    members: &Members,
     steps: &mut Steps,
 ) -> Result<OrderedMap<Encoding>, Fault>
     ensures reads { ReadAs (map_form encoding_form) result (kinds.map_of (kinds.by kinds.encoding))
@@ -264,12 +255,7 @@ pub(crate) fn read_encoding(
 
 /// Reads an encoding among the members of an object, what is plain first.
 #[cycle(read)]
-#[tactic(auto, unfolding(openapi_tables::specs::Tables::final_tables, openapi_tables::specs::Tables::tables_with))]
-fn encoding_of(
-    alloc: Global,
-    members: &OrderedMap<Node>,
-    steps: &mut Steps,
-) -> Result<Encoding, Fault>
+fn encoding_of(alloc: Global, members: &Members, steps: &mut Steps) -> Result<Encoding, Fault>
     ensures reads { RowsReadAs encoding_fields result (kinds.by kinds.encoding) (members_of members.now) }
     ensures count { RisesBy steps.old steps.new
         (3 * rows_weight (rows_asked final_tables (kinds.by kinds.encoding)) (members_of members.now)) }
@@ -294,7 +280,7 @@ fn encoding_of(
 #[cycle(read)]
 fn read_headers(
     alloc: Global,
-    members: &OrderedMap<Node>,
+    members: &Members,
     steps: &mut Steps,
 ) -> Result<OrderedMap<ReferenceOr<Header>>, Fault>
     ensures reads { RowReadAs (map_form (reference_form header_form)) result (kinds.by kinds.encoding)
@@ -314,7 +300,7 @@ fn read_headers(
 #[cycle(read)]
 fn headers_of(
     alloc: Global,
-    members: &OrderedMap<Node>,
+    members: &Members,
     steps: &mut Steps,
 ) -> Result<OrderedMap<ReferenceOr<Header>>, Fault>
     ensures reads { ReadAs (map_form (reference_form header_form)) result (kinds.map_of (kinds.ref_to (kinds.by kinds.header)))

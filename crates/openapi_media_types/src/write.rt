@@ -1,3 +1,4 @@
+#![tactic(auto, unfolding(openapi_tables::specs::Tables::final_tables, openapi_tables::specs::Tables::tables_with))]
 //! How headers and contents are written. The functions are mutually recursive, as those that read them do: each
 //! gets a smaller part of the value in the end.
 ghost use Rattle.std.specs.Prelude.{◌≡◌, cond, codes};
@@ -20,7 +21,7 @@ use openapi_fields::{
     ToNode, put_decided, put_extensions, put_implied, put_nullable, put_optional, put_row,
     put_written, whole_object, write_reference,
 };
-use openapi_node::{Fault, Node, OrderedMap};
+use openapi_node::{Fault, Members, Node, OrderedMap};
 use openapi_values::ReferenceOr;
 use std::alloc::Global;
 
@@ -45,8 +46,7 @@ pub(crate) fn write_header(alloc: Global, header: &Header) -> Result<Node, Fault
 
 /// The members that a header is written as.
 #[cycle(write)]
-#[tactic(auto, unfolding(openapi_tables::specs::Tables::final_tables, openapi_tables::specs::Tables::tables_with))]
-fn header_members(alloc: Global, header: &Header) -> Result<OrderedMap<Node>, Fault>
+fn header_members(alloc: Global, header: &Header) -> Result<Members, Fault>
     ensures { RowsWritten (header_slots header.now) result }
 {
     let mut out = OrderedMap::new(alloc);
@@ -106,8 +106,7 @@ pub(crate) fn write_media_type(alloc: Global, media_type: &MediaType) -> Result<
 
 /// The members that a media type is written as.
 #[cycle(write)]
-#[tactic(auto, unfolding(openapi_tables::specs::Tables::final_tables, openapi_tables::specs::Tables::tables_with))]
-fn media_type_members(alloc: Global, media_type: &MediaType) -> Result<OrderedMap<Node>, Fault>
+fn media_type_members(alloc: Global, media_type: &MediaType) -> Result<Members, Fault>
     ensures { RowsWritten (media_type_slots media_type.now) result }
 {
     let mut out = OrderedMap::new(alloc);
@@ -161,8 +160,7 @@ pub(crate) fn write_encoding(alloc: Global, encoding: &Encoding) -> Result<Node,
 
 /// The members that an encoding is written as.
 #[cycle(write)]
-#[tactic(auto, unfolding(openapi_tables::specs::Tables::final_tables, openapi_tables::specs::Tables::tables_with))]
-fn encoding_members(alloc: Global, encoding: &Encoding) -> Result<OrderedMap<Node>, Fault>
+fn encoding_members(alloc: Global, encoding: &Encoding) -> Result<Members, Fault>
     ensures { RowsWritten (encoding_slots encoding.now) result }
 {
     let mut out = OrderedMap::new(alloc);

@@ -3,12 +3,9 @@ use Rattle.std.proofs.Common.{◌≡◌, ℕ, zero, suc, Bool, true, List, [], �
 use Rattle.std.proofs.lemmas.Bool.{and_parts}
 use Rattle.openapi_map.specs.Entries.{Entries, get}
 use Rattle.openapi_node.specs.Tree.{Tree}
-use Rattle.openapi_tables.specs.Form.{leaf}
-use Rattle.openapi_tables.specs.ByRow.{is_class, rows_asked}
-use Rattle.openapi_tables.specs.Kind.{any_tree, by, class, extensions, tag}
-use Rattle.openapi_tables.specs.Lists.{every}
-use Rattle.openapi_tables.specs.Slots.{slot_where, slots, through}
-use Rattle.openapi_tables.specs.Tables.{final_tables, tables_with}
+use Rattle.openapi_tables.specs.Prelude.{leaf, is_class, rows_asked, any_tree, by, class, extensions, every, slot_where}
+use Rattle.openapi_tables.specs.Prelude.{slots, through, final_tables, tables_with}
+use Rattle.openapi_tables.specs.Kind.{tag}
 use Rattle.openapi_fields.specs.Entries.{written_entries, all_whole}
 use Rattle.openapi_fields.specs.Forms.{extensions_form, record_slots}
 use Rattle.openapi_fields.specs.Writing.{AreNew}
@@ -20,6 +17,7 @@ pub as_they_are : (es : Entries Tree) → written_entries leaf any_tree es ≡ e
 as_they_are [] = refl
 as_they_are (e ∷ es) = ap (λ l. e ∷ l) (as_they_are es)
 
+-- nothing is lost of entries whose values are trees of any kind
 pub none_lost : (es : Entries Tree) → all_whole leaf any_tree es ≡ true
 none_lost [] = refl
 none_lost (e ∷ es) = none_lost es
@@ -39,15 +37,18 @@ pub all_new : (p : List ℕ → Bool) (es out : Entries Tree) → every (λ (e :
     → ((n : List ℕ) → p n ≡ true → get n out ≡ None) → AreNew es out
 all_new p es out h none j e at = none e.0 (passes p es h j e at)
 
+-- the extensions of a tag stand in the slot of their class
 pub tag_extensions : (x : Tag) → slot_where (is_class extensions) (record_slots tag tag_rows x)
     ≡ Some (class extensions any_tree, extensions_form x.extensions)
 unfolding final_tables tables_with
 tag_extensions x = refl
 
+-- the slots of a tag end with that of its extensions
 pub tag_ends : (x : Tag) → through (is_class extensions) (record_slots tag tag_rows x) ≡ record_slots tag tag_rows x
 unfolding final_tables tables_with
 tag_ends x = refl
 
+-- the slots of a tag are those of the rows that its kind asks
 pub tag_slots : (x : Tag) → record_slots tag tag_rows x ≡ slots (rows_asked final_tables (by tag)) (tag_rows x)
 unfolding final_tables tables_with
 tag_slots x = refl

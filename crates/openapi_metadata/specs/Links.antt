@@ -1,4 +1,4 @@
--- The forms of links.
+-- The forms of links, and of the operation that a link leads to, by their fields in the order of the rows.
 use Rattle.std.specs.Prelude.{List, [], ◌∷◌, codes}
 use Rattle.openapi_tables.specs.Kind.{any_text, Row, either}
 use Rattle.openapi_tables.specs.Form.{Form, leaf, deciding}

@@ -4,7 +4,7 @@ ghost use Rattle.openapi_tables.specs.Kind.{contact};
 ghost use Rattle.openapi_metadata.specs.Objects.{contact_rows};
 
 use openapi_fields::{Object, Record, extensions, optional, put_extensions, put_optional};
-use openapi_node::{Fault, Node, OrderedMap, Steps};
+use openapi_node::{Fault, Members, Node, OrderedMap, Steps};
 use std::alloc::Global;
 
 /// The Contact Object (OpenAPI 3.0.3, section 4.7.3): contact information of the API.
@@ -43,13 +43,8 @@ impl Object for Contact {
     ghost rows_of = { contact_rows };
 }
 
-#[tactic(auto, unfolding(openapi_tables::specs::Tables::final_tables, openapi_tables::specs::Tables::tables_with))]
 impl Record for Contact {
-    fn from_members(
-        alloc: Global,
-        members: &OrderedMap<Node>,
-        steps: &mut Steps,
-    ) -> Result<Self, Fault> {
+    fn from_members(alloc: Global, members: &Members, steps: &mut Steps) -> Result<Self, Fault> {
         Ok(Contact {
             name: optional::<Self, _>(alloc, members, "name", steps)?,
             url: optional::<Self, _>(alloc, members, "url", steps)?,
@@ -58,7 +53,7 @@ impl Record for Contact {
         })
     }
 
-    fn put_rows(&self, alloc: Global, out: &mut OrderedMap<Node>) -> Result<(), Fault> {
+    fn put_rows(&self, alloc: Global, out: &mut Members) -> Result<(), Fault> {
         put_optional(alloc, self, out, "name", &self.name)?;
         put_optional(alloc, self, out, "url", &self.url)?;
         put_optional(alloc, self, out, "email", &self.email)?;

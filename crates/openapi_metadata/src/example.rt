@@ -11,7 +11,7 @@ ghost use Rattle.openapi_metadata.specs.Objects.{example_rows};
 use openapi_fields::{
     FromNode, Object, Record, Referable, ToNode, extensions, optional, put_extensions, put_optional,
 };
-use openapi_node::{Fault, Node, OrderedMap, Steps};
+use openapi_node::{Fault, Members, Node, OrderedMap, Steps};
 use openapi_values::ReferenceOr;
 use std::alloc::Global;
 
@@ -56,13 +56,8 @@ impl Object for Example {
     ghost rows_of = { example_rows };
 }
 
-#[tactic(auto, unfolding(openapi_tables::specs::Tables::final_tables, openapi_tables::specs::Tables::tables_with))]
 impl Record for Example {
-    fn from_members(
-        alloc: Global,
-        members: &OrderedMap<Node>,
-        steps: &mut Steps,
-    ) -> Result<Self, Fault> {
+    fn from_members(alloc: Global, members: &Members, steps: &mut Steps) -> Result<Self, Fault> {
         Ok(Example {
             summary: optional::<Self, _>(alloc, members, "summary", steps)?,
             description: optional::<Self, _>(alloc, members, "description", steps)?,
@@ -72,7 +67,7 @@ impl Record for Example {
         })
     }
 
-    fn put_rows(&self, alloc: Global, out: &mut OrderedMap<Node>) -> Result<(), Fault> {
+    fn put_rows(&self, alloc: Global, out: &mut Members) -> Result<(), Fault> {
         put_optional(alloc, self, out, "summary", &self.summary)?;
         put_optional(alloc, self, out, "description", &self.description)?;
         put_optional(alloc, self, out, "value", &self.value)?;

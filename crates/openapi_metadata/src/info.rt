@@ -8,7 +8,7 @@ use crate::license::License;
 use openapi_fields::{
     Object, Record, extensions, optional, put_extensions, put_optional, put_required, required,
 };
-use openapi_node::{Fault, Node, OrderedMap, Steps};
+use openapi_node::{Fault, Members, Node, OrderedMap, Steps};
 use std::alloc::Global;
 
 /// The Info Object (OpenAPI 3.0.3, section 4.7.2): metadata about the API.
@@ -59,13 +59,8 @@ impl Object for Info {
     ghost rows_of = { info_rows };
 }
 
-#[tactic(auto, unfolding(openapi_tables::specs::Tables::final_tables, openapi_tables::specs::Tables::tables_with))]
 impl Record for Info {
-    fn from_members(
-        alloc: Global,
-        members: &OrderedMap<Node>,
-        steps: &mut Steps,
-    ) -> Result<Self, Fault> {
+    fn from_members(alloc: Global, members: &Members, steps: &mut Steps) -> Result<Self, Fault> {
         Ok(Info {
             title: required::<Self, _>(alloc, members, "title", steps)?,
             description: optional::<Self, _>(alloc, members, "description", steps)?,
@@ -77,7 +72,7 @@ impl Record for Info {
         })
     }
 
-    fn put_rows(&self, alloc: Global, out: &mut OrderedMap<Node>) -> Result<(), Fault> {
+    fn put_rows(&self, alloc: Global, out: &mut Members) -> Result<(), Fault> {
         put_required(alloc, self, out, "title", &self.title)?;
         put_optional(alloc, self, out, "description", &self.description)?;
         put_optional(alloc, self, out, "termsOfService", &self.terms_of_service)?;

@@ -1,4 +1,4 @@
-#![tactic(auto)]
+#![tactic(auto, unfolding(openapi_tables::specs::Tables::final_tables, openapi_tables::specs::Tables::tables_with))]
 //! The objects of OpenAPI 3.0 documents that hold no schema, read from trees and written as trees.
 mod contact;
 mod example;

@@ -6,7 +6,7 @@ ghost use Rattle.openapi_metadata.specs.Objects.{license_rows};
 use openapi_fields::{
     Object, Record, extensions, optional, put_extensions, put_optional, put_required, required,
 };
-use openapi_node::{Fault, Node, OrderedMap, Steps};
+use openapi_node::{Fault, Members, Node, OrderedMap, Steps};
 use std::alloc::Global;
 
 /// The License Object (OpenAPI 3.0.3, section 4.7.4): license information of the API.
@@ -41,13 +41,8 @@ impl Object for License {
     ghost rows_of = { license_rows };
 }
 
-#[tactic(auto, unfolding(openapi_tables::specs::Tables::final_tables, openapi_tables::specs::Tables::tables_with))]
 impl Record for License {
-    fn from_members(
-        alloc: Global,
-        members: &OrderedMap<Node>,
-        steps: &mut Steps,
-    ) -> Result<Self, Fault> {
+    fn from_members(alloc: Global, members: &Members, steps: &mut Steps) -> Result<Self, Fault> {
         Ok(License {
             name: required::<Self, _>(alloc, members, "name", steps)?,
             url: optional::<Self, _>(alloc, members, "url", steps)?,
@@ -55,7 +50,7 @@ impl Record for License {
         })
     }
 
-    fn put_rows(&self, alloc: Global, out: &mut OrderedMap<Node>) -> Result<(), Fault> {
+    fn put_rows(&self, alloc: Global, out: &mut Members) -> Result<(), Fault> {
         put_required(alloc, self, out, "name", &self.name)?;
         put_optional(alloc, self, out, "url", &self.url)?;
         put_extensions(alloc, self, out, &self.extensions)

@@ -14,7 +14,7 @@ use openapi_fields::{
     FromNode, Object, Record, Referable, ToNode, extensions, optional, or_implied, put_extensions,
     put_implied, put_optional,
 };
-use openapi_node::{Fault, Node, OrderedMap, Steps};
+use openapi_node::{Fault, Members, Node, OrderedMap, Steps};
 use openapi_values::ReferenceOr;
 use std::alloc::Global;
 
@@ -42,13 +42,8 @@ impl Object for Link {
     ghost rows_of = { link_rows };
 }
 
-#[tactic(auto, unfolding(openapi_tables::specs::Tables::final_tables, openapi_tables::specs::Tables::tables_with))]
 impl Record for Link {
-    fn from_members(
-        alloc: Global,
-        members: &OrderedMap<Node>,
-        steps: &mut Steps,
-    ) -> Result<Self, Fault> {
+    fn from_members(alloc: Global, members: &Members, steps: &mut Steps) -> Result<Self, Fault> {
         Ok(Link {
             description: optional::<Self, _>(alloc, members, "description", steps)?,
             operation: operation::<Self>(alloc, members, steps)?,
@@ -59,7 +54,7 @@ impl Record for Link {
         })
     }
 
-    fn put_rows(&self, alloc: Global, out: &mut OrderedMap<Node>) -> Result<(), Fault> {
+    fn put_rows(&self, alloc: Global, out: &mut Members) -> Result<(), Fault> {
         put_optional(alloc, self, out, "description", &self.description)?;
         put_operation(alloc, self, out, &self.operation)?;
         put_optional(alloc, self, out, "requestBody", &self.request_body)?;

@@ -9,7 +9,7 @@ ghost use Rattle.openapi_fields.specs.Returned.{RowReadAs, NotWritable, RisesBy}
 ghost use Rattle.openapi_metadata.specs.Links.{operation_row, operation_form, link_operation_rows};
 
 use openapi_fields::{Either, HasSlots, Object, Record, decided, put_first, put_second};
-use openapi_node::{Fault, Node, OrderedMap, Steps};
+use openapi_node::{Fault, Members, Node, Steps};
 use std::alloc::Global;
 
 /// The operation that a Link Object (OpenAPI 3.0.3, section 4.7.20) leads to. OpenAPI lets a link name it in one way only;
@@ -25,7 +25,7 @@ pub enum LinkOperation {
 /// Reads the operation among the members of an object.
 pub(crate) fn operation<R: Object>(
     alloc: Global,
-    members: &OrderedMap<Node>,
+    members: &Members,
     steps: &mut Steps,
 ) -> Result<LinkOperation, Fault>
     requires row { row_where (is_named (codes "operationRef")) (final_tables R.table)
@@ -44,7 +44,7 @@ pub(crate) fn operation<R: Object>(
 pub(crate) fn put_operation<R: HasSlots>(
     alloc: Global,
     owner: &R,
-    out: &mut OrderedMap<Node>,
+    out: &mut Members,
     operation: &LinkOperation,
 ) -> Result<(), Fault>
     requires slot { slot_where (is_named (codes "operationRef")) (R.slots_of owner.now)
@@ -72,17 +72,12 @@ impl Object for LinkOperation {
     ghost rows_of = { link_operation_rows };
 }
 
-#[tactic(auto, unfolding(openapi_tables::specs::Tables::final_tables, openapi_tables::specs::Tables::tables_with))]
 impl Record for LinkOperation {
-    fn from_members(
-        alloc: Global,
-        members: &OrderedMap<Node>,
-        steps: &mut Steps,
-    ) -> Result<Self, Fault> {
+    fn from_members(alloc: Global, members: &Members, steps: &mut Steps) -> Result<Self, Fault> {
         operation::<Self>(alloc, members, steps)
     }
 
-    fn put_rows(&self, alloc: Global, out: &mut OrderedMap<Node>) -> Result<(), Fault> {
+    fn put_rows(&self, alloc: Global, out: &mut Members) -> Result<(), Fault> {
         put_operation(alloc, self, out, self)
     }
 }

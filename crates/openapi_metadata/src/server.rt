@@ -7,7 +7,7 @@ use crate::server_variable::ServerVariable;
 use openapi_fields::{
     Object, Record, extensions, optional, put_extensions, put_optional, put_required, required,
 };
-use openapi_node::{Fault, Node, OrderedMap, Steps};
+use openapi_node::{Fault, Members, Node, OrderedMap, Steps};
 use std::alloc::Global;
 
 /// The Server Object (OpenAPI 3.0.3, section 4.7.5): a server that offers the API.
@@ -47,13 +47,8 @@ impl Object for Server {
     ghost rows_of = { server_rows };
 }
 
-#[tactic(auto, unfolding(openapi_tables::specs::Tables::final_tables, openapi_tables::specs::Tables::tables_with))]
 impl Record for Server {
-    fn from_members(
-        alloc: Global,
-        members: &OrderedMap<Node>,
-        steps: &mut Steps,
-    ) -> Result<Self, Fault> {
+    fn from_members(alloc: Global, members: &Members, steps: &mut Steps) -> Result<Self, Fault> {
         Ok(Server {
             url: required::<Self, _>(alloc, members, "url", steps)?,
             description: optional::<Self, _>(alloc, members, "description", steps)?,
@@ -62,7 +57,7 @@ impl Record for Server {
         })
     }
 
-    fn put_rows(&self, alloc: Global, out: &mut OrderedMap<Node>) -> Result<(), Fault> {
+    fn put_rows(&self, alloc: Global, out: &mut Members) -> Result<(), Fault> {
         put_required(alloc, self, out, "url", &self.url)?;
         put_optional(alloc, self, out, "description", &self.description)?;
         put_optional(alloc, self, out, "variables", &self.variables)?;

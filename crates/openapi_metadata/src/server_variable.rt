@@ -7,7 +7,7 @@ use openapi_fields::{
     Object, Record, extensions, nullable, or_implied, put_extensions, put_implied, put_nullable,
     put_required, required,
 };
-use openapi_node::{Fault, Node, OrderedMap, Steps};
+use openapi_node::{Fault, Members, Node, OrderedMap, Steps};
 use std::alloc::Global;
 
 /// The Server Variable Object (OpenAPI 3.0.3, section 4.7.6): a variable of the URL of a server.
@@ -46,13 +46,8 @@ impl Object for ServerVariable {
     ghost rows_of = { server_variable_rows };
 }
 
-#[tactic(auto, unfolding(openapi_tables::specs::Tables::final_tables, openapi_tables::specs::Tables::tables_with))]
 impl Record for ServerVariable {
-    fn from_members(
-        alloc: Global,
-        members: &OrderedMap<Node>,
-        steps: &mut Steps,
-    ) -> Result<Self, Fault> {
+    fn from_members(alloc: Global, members: &Members, steps: &mut Steps) -> Result<Self, Fault> {
         Ok(ServerVariable {
             enumeration: or_implied::<Self, _>(alloc, members, "enum", steps)?,
             default: required::<Self, _>(alloc, members, "default", steps)?,
@@ -61,7 +56,7 @@ impl Record for ServerVariable {
         })
     }
 
-    fn put_rows(&self, alloc: Global, out: &mut OrderedMap<Node>) -> Result<(), Fault> {
+    fn put_rows(&self, alloc: Global, out: &mut Members) -> Result<(), Fault> {
         put_implied(alloc, self, out, "enum", &self.enumeration)?;
         put_required(alloc, self, out, "default", &self.default)?;
         put_nullable(alloc, self, out, "description", &self.description)?;

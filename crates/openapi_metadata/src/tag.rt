@@ -14,7 +14,7 @@ use openapi_fields::{
     IntoNode, Object, Record, ToNode, extensions, optional, put_extensions, put_optional,
     put_required, required,
 };
-use openapi_node::{Fault, Node, OrderedMap, Steps};
+use openapi_node::{Fault, Members, Node, OrderedMap, Steps};
 use openapi_schema_annotations::ExternalDocumentation;
 use std::alloc::Global;
 
@@ -48,10 +48,9 @@ impl Tag {
     }
 }
 
-#[tactic(auto, unfolding(openapi_tables::specs::Tables::final_tables, openapi_tables::specs::Tables::tables_with))]
 impl Tag {
     /// Writes the rows but for the extensions into an object that has no members yet.
-    fn put_named(&self, alloc: Global, out: &mut OrderedMap<Node>) -> Result<(), Fault>
+    fn put_named(&self, alloc: Global, out: &mut Members) -> Result<(), Fault>
         requires { IsWritten final_tables [] out.old }
         ensures ok { OnOk result (IsWritten final_tables
             (before (is_class kinds.extensions) (record_slots tag tag_rows self.now)) out.new) }
@@ -63,7 +62,7 @@ impl Tag {
     }
 
     /// The extensions, taken out of the tag.
-    fn into_extensions(self) -> OrderedMap<Node>
+    fn into_extensions(self) -> Members
         ensures { result ≡ self.extensions }
     {
         self.extensions
@@ -76,13 +75,8 @@ impl Object for Tag {
     ghost rows_of = { tag_rows };
 }
 
-#[tactic(auto, unfolding(openapi_tables::specs::Tables::final_tables, openapi_tables::specs::Tables::tables_with))]
 impl Record for Tag {
-    fn from_members(
-        alloc: Global,
-        members: &OrderedMap<Node>,
-        steps: &mut Steps,
-    ) -> Result<Self, Fault> {
+    fn from_members(alloc: Global, members: &Members, steps: &mut Steps) -> Result<Self, Fault> {
         Ok(Tag {
             name: required::<Self, _>(alloc, members, "name", steps)?,
             description: optional::<Self, _>(alloc, members, "description", steps)?,
@@ -91,7 +85,7 @@ impl Record for Tag {
         })
     }
 
-    fn put_rows(&self, alloc: Global, out: &mut OrderedMap<Node>) -> Result<(), Fault> {
+    fn put_rows(&self, alloc: Global, out: &mut Members) -> Result<(), Fault> {
         self.put_named(alloc, out)?;
         put_extensions(alloc, self, out, &self.extensions)
     }

@@ -1,7 +1,6 @@
 -- The members of an object stand in the order of their names, so what is found at each name says what they are.
-use Rattle.std.proofs.Common.{◌≡◌, ℕ, ◌≤◌, List, Option, Some, None, Ordering, Less, Equal, Greater}
-use Rattle.std.proofs.Common.{nat_cmp, is_eq, is_some}
-use Rattle.std.proofs.Common.{refl, sym, ap, ◌∙◌, true≢false, arith}
+use Rattle.std.proofs.Common.{◌≡◌, ℕ, ◌≤◌, List, Option, Some, None, Ordering, Less, Equal, Greater, nat_cmp, is_eq}
+use Rattle.std.proofs.Common.{is_some, refl, sym, ap, ◌∙◌, true≢false, arith}
 use Rattle.std.proofs.lemmas.Cmp.{nat_list_cmp_total, tied_itself}
 use Rattle.std.proofs.lemmas.Map.Text.{is_eq-slice_cmp}
 use Rattle.std.proofs.lemmas.Slice.Eq.{bytes_eq-Decides}
@@ -38,6 +37,7 @@ Below-put k l d (member m e ms) h b = by (slice_cmp nat_cmp l m) (Below-put k l 
 turned : (k l : List ℕ) → slice_cmp nat_cmp k l ≡ Greater → slice_cmp nat_cmp l k ≡ Less
 turned k l h = nat_list_cmp_total.antisymm l k ∙ ap ordering_reverse h
 
+-- members in order stay in order when one is put among them
 pub InOrder-put : (k : List ℕ) (d : Data) (ms : Members) → InOrder ms → InOrder (put k d ms)
 InOrder-put k d no_members o = (tt, tt)
 InOrder-put k d (member l e ms) o = by (slice_cmp nat_cmp k l) refl (InOrder-put k d ms o.1)
@@ -57,6 +57,7 @@ first_found : (k : List ℕ) (d : Data) (ms : Members) → get_member k (member 
 first_found k d ms =
     ap (λ o. match_ordering o (get_member k ms) (Some d) (get_member k ms)) (tied_itself nat_list_cmp_total k)
 
+-- two names of which none is below the other are the same
 pub tied : (k l : List ℕ) → slice_cmp nat_cmp k l ≡ Equal → k ≡ l
 tied k l h = (bytes_eq-Decides k l).0 (sym (is_eq-slice_cmp k l) ∙ ap is_eq h)
 
@@ -86,6 +87,7 @@ pub record Fits (ms ns : Members) : Type 0 where
   pub fewer : members_len ms ≤ members_len ns
   pub same : members_len ns ≤ members_len ms → ms ≡ ns
 
+-- members in order that are all found among others in order are no more than these, and the same if as many
 pub fits : (ms ns : Members) → InOrder ms → InOrder ns → Within ms ns → Fits ms ns
 fits no_members no_members o p within = record { fewer = omega arith; same = λ h. refl }
 fits no_members (member l e ns) o p within = record { fewer = omega arith; same = λ h. absurd (omega arith) }

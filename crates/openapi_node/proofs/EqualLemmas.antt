@@ -1,8 +1,7 @@
 -- When the data of two lists or of two objects is the same, told child by child.
-use Rattle.std.proofs.Common.{◌≡◌, ℕ, zero, suc, ◌+◌, ◌<◌, Bool, true, false, cond, List, [], ◌∷◌, ◌++◌}
-use Rattle.std.proofs.Common.{length, get_or, slice_get}
-use Rattle.std.proofs.Common.{Option, Some, None, Ordering, Less, Equal, Greater, nat_cmp}
-use Rattle.std.proofs.Common.{refl, sym, ap, subst, ◌∙◌, true≢false, arith}
+use Rattle.std.proofs.Common.{◌≡◌, ℕ, zero, suc, ◌+◌, ◌<◌, Bool, true, false, cond, List, [], ◌∷◌, ◌++◌, length, get_or}
+use Rattle.std.proofs.Common.{slice_get, Option, Some, None, Ordering, Less, Equal, Greater, nat_cmp, refl, sym, ap}
+use Rattle.std.proofs.Common.{subst, ◌∙◌, true≢false, arith}
 use Rattle.std.proofs.lemmas.Slice.Eq.{bytes_eq-Decides}
 use Rattle.std.specs.Cmp.Lexicographic.{slice_cmp, nat_list_eq_equiv}
 use Rattle.std.specs.List.{IsDistinct, AllByRecursion}
@@ -156,6 +155,7 @@ abbrev pub AreFoundIn : Entries Tree → Entries Tree → Type 0
 AreFoundIn ns [] = Unit {0}
 AreFoundIn ns (m ∷ ms) = IsFoundIn ns m × AreFoundIn ns ms
 
+-- where members are found in an object and one more is, all of these are
 pub AreFoundIn-push : (ns ms : Entries Tree) (m : List ℕ × Tree) → AreFoundIn ns ms → IsFoundIn ns m
     → AreFoundIn ns (ms ++ m ∷ [])
 AreFoundIn-push ns [] m h f = (f, tt)

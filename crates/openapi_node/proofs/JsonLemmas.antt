@@ -1,7 +1,7 @@
 -- Where a number that is no integer stands, and the trees of lists and maps of values.
-use Rattle.std.proofs.Common.{◌≡◌, ℕ, ◌<◌, List, [], ◌∷◌, ◌++◌, map, length, get_or, Some, None, Bool, true}
-use Rattle.std.proofs.Common.{false, cond, ◌||◌, string_bytes, string_cmp, Less, Greater, nat_cmp, Float, ◌⊎◌}
-use Rattle.std.proofs.Common.{inl, inr, refl, sym, ap, ◌∙◌, subst, option_and_then, is_eq}
+use Rattle.std.proofs.Common.{◌≡◌, ℕ, ◌<◌, List, [], ◌∷◌, ◌++◌, map, length, get_or, Some, None, Bool, true, false}
+use Rattle.std.proofs.Common.{cond, ◌||◌, string_bytes, string_cmp, Less, Greater, nat_cmp, Float, ◌⊎◌, inl, inr, refl}
+use Rattle.std.proofs.Common.{sym, ap, ◌∙◌, subst, option_and_then, is_eq}
 use Rattle.std.proofs.lemmas.Cmp.{nat_list_cmp_total, tied_itself}
 use Rattle.std.proofs.lemmas.Map.Text.{is_eq-slice_cmp}
 use Rattle.std.specs.Str.{bytes_eq}
@@ -15,15 +15,14 @@ use Rattle.serde_json.specs.Data as json
 use Rattle.serde_json.specs.Data.{Data, Num, unsigned, negative, float, put}
 use Rattle.serde_json.specs.Find.{get_member, as_integer}
 use Rattle.serde_json.specs.Written.{has_float, items_have_float, members_have_float}
-use Rattle.serde_json.specs.View.{view, items_view, members_view}
-use Rattle.serde_json.specs.View.{items_of as view_items_of}
+use Rattle.serde_json.specs.View.{view, items_view, members_view, items_of as view_items_of}
 use Rattle.serde_json.proofs.Views.{Entry, get_item_within}
 use Rattle.serde_json.specs.declared.value.Value.{Value}
 use Rattle.openapi_node.specs.Fault.{IsMemory, GoesUp, place_of, step_of}
 use Rattle.openapi_node.specs.declared.fault.Cause.TheVariants.{NotWhole}
 use Rattle.openapi_node.specs.Place.{Step, named, indexed}
-use Rattle.openapi_node.specs.Json.{data_of, items_data, members_data, IsNotWhole, data_at, tree_of_data}
-use Rattle.openapi_node.specs.Json.{items_of_data, members_of_data}
+use Rattle.openapi_node.specs.Json.{data_of, items_data, members_data, IsNotWhole, data_at, tree_of_data, items_of_data}
+use Rattle.openapi_node.specs.Json.{members_of_data}
 use Rattle.openapi_node.specs.Tree.{Tree, item, member, items_of, members_of}
 use Rattle.openapi_node.specs.declared.fault.Fault.{Fault}
 
@@ -47,6 +46,7 @@ module _ (step : Step) (inside outside : Data) (below above : Fault) (up : GoesU
   goes_up goes (inl m) = inl (up.keeps_memory m)
   goes_up goes (inr w) = elim up.otherwise [ inl m ↦ inl m | inr s ↦ inr (moved w.number goes w s) ]
 
+-- a place that begins with an index leads where its rest leads in the item there
 pub at_item : (vs : List Value) (i : ℕ) (v : Value) → i < length vs → v ≡ get_or vs i v → (p : List Step)
     → data_at (indexed i ∷ p) (json.array (items_view vs)) ≡ data_at p (view v)
 at_item vs i v h e p = ap (option_and_then (data_at p)) (sym (get_item_within vs i v h))
@@ -70,6 +70,7 @@ found_middle (first ∷ done) e more h =
     ∙ ap ordering_reverse (below_middle first done e more h.0) in
     rw above (found_middle done e more h.1)
 
+-- a place that begins with a name leads where its rest leads in the member of that name
 pub at_member : (done : List Entry) (e : Entry) (more es : List Entry) (name : List ℕ) → es ≡ done ++ e ∷ more
     → name ≡ string_bytes e.0 → IsStrictlySortedBy string_cmp (keys_of es)
     → (p : List Step) → data_at (named name ∷ p) (json.object (members_view es)) ≡ data_at p (view e.1)
@@ -82,13 +83,16 @@ at_member done e more es name split is ordered p =
 abbrev pub trees : List Value → List Tree
 trees vs = map (λ v. tree_of_data (view v)) vs
 
+-- the tree of each member, beside the bytes of its name
 abbrev pub named_trees : List Entry → List (List ℕ × Tree)
 named_trees es = map (λ e. (string_bytes e.0, tree_of_data (view e.1))) es
 
+-- the items that the trees of values make are those of the data of the values
 pub items_of-trees : (vs : List Value) → items_of (trees vs) ≡ items_of_data (items_view vs)
 items_of-trees [] = refl
 items_of-trees (v ∷ vs) = ap (λ is. item (tree_of_data (view v)) is) (items_of-trees vs)
 
+-- the members that these trees make are those of the data of the members
 pub members_of-named_trees : (es : List Entry) → members_of (named_trees es) ≡ members_of_data (members_view es)
 members_of-named_trees [] = refl
 members_of-named_trees (e ∷ es) =
@@ -98,20 +102,24 @@ grows : (b c d : Bool) → (c ≡ false → d ≡ false) → (b || c) ≡ false 
 grows true c d f e = e
 grows false c d f e = f e
 
+-- values without floats, and one more without, have none together
 pub no_float-push : (vs : List Value) (v : Value) → items_have_float (items_view vs) ≡ false
     → has_float (view v) ≡ false → items_have_float (items_view (vs ++ v ∷ [])) ≡ false
 no_float-push [] v e f = ap (λ b. b || false) f
 no_float-push (w ∷ vs) v e f = grows (has_float (view w)) _ _ (λ s. no_float-push vs v s f) e
 
+-- members without floats, and one more without, have none together
 pub no_float-member : (es : List Entry) (e : Entry) → members_have_float (members_view es) ≡ false
     → has_float (view e.1) ≡ false → members_have_float (members_view (es ++ e ∷ [])) ≡ false
 no_float-member [] e s f = ap (λ b. b || false) f
 no_float-member (x ∷ es) e s f = grows (has_float (view x.1)) _ _ (λ r. no_float-member es e r f) s
 
+-- the trees of values and of one more are their trees, and its tree
 pub trees-push : (vs : List Value) (v : Value) → trees (vs ++ v ∷ []) ≡ trees vs ++ tree_of_data (view v) ∷ []
 trees-push [] v = refl
 trees-push (w ∷ vs) v = ap (λ ts. tree_of_data (view w) ∷ ts) (trees-push vs v)
 
+-- the trees of members and of one more, beside their names, are theirs and then its own
 pub named_trees-push : (es : List Entry) (e : Entry)
     → named_trees (es ++ e ∷ []) ≡ named_trees es ++ (string_bytes e.0, tree_of_data (view e.1)) ∷ []
 named_trees-push [] e = refl
@@ -143,6 +151,7 @@ not_whole_here f n d place cause is none =
       there = ap (λ steps. data_at (map step_of steps) d) place ∙ ap Some (is ∙ ap json.number x.1);
     }
 
+-- the data of trees, as the items of an array, is the data of the list of these trees
 pub items_data-items_of : (ts : List Tree) → view_items_of (map data_of ts) ≡ items_data (items_of ts)
 items_data-items_of [] = refl
 items_data-items_of (t ∷ ts) = ap (λ ds. json.item (data_of t) ds) (items_data-items_of ts)

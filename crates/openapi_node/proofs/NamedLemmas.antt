@@ -48,12 +48,14 @@ members_named-from (m ∷ ms) d h =
     and_from (lacks m.0 (members_of ms)) _ (lacks-apart m.0 ms d.0)
     (and_from (well_named m.1) _ p.0 (members_named-from ms d.1 p.1))
 
+-- the value at an index is that of the member there
 pub value-at : (ms : Entries Tree) (i : ℕ) (m : List ℕ × Tree) → slice_get ms i ≡ Some m
     → slice_get (values_of ms) i ≡ Some m.1
 value-at [] i m h = cc
 value-at (n ∷ ms) zero m h = let same : n ≡ m = cc in ap (λ x. Some x.1) same
 value-at (n ∷ ms) (suc i) m h = value-at ms i m h
 
+-- there are as many values as members
 pub length-values_of : (ms : Entries Tree) → length (values_of ms) ≡ length ms
 length-values_of [] = refl
 length-values_of (m ∷ ms) = ap suc (length-values_of ms)

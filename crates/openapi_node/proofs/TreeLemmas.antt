@@ -1,13 +1,13 @@
 -- The values in a part of a list or of an object, one child after another.
-use Rattle.std.proofs.Common.{◌≡◌, ℕ, ◌+◌, ◌<◌, ◌≤◌, List, [], ◌∷◌, ◌++◌, length, get_or, take, drop, Bool}
-use Rattle.std.proofs.Common.{true, false, cond, Option, None, Some, IfSome, slice_get, refl, sym, ap, ◌∙◌, arith}
-use Rattle.std.proofs.Common.{append_assoc}
+use Rattle.std.proofs.Common.{◌≡◌, ℕ, ◌+◌, ◌<◌, ◌≤◌, List, [], ◌∷◌, ◌++◌, length, get_or, take, drop, Bool, true, false}
+use Rattle.std.proofs.Common.{cond, Option, None, Some, IfSome, slice_get, refl, sym, ap, ◌∙◌, arith, append_assoc}
 use Rattle.std.proofs.lemmas.List.{take_more, take-append-drop}
 use Rattle.std.proofs.lemmas.Option.{slice_get_within, get_or_from_slice_get}
 use Rattle.std.specs.Str.{bytes_eq}
 use Rattle.openapi_map.specs.Entries.{get}
 use Rattle.openapi_node.specs.Tree.{Tree, find, object, size_of, items_size, members_size, items_of, members_of}
 
+-- the first i + 1 elements are the first i and the one at index i
 pub take_next : {X : Type 0} (xs : List X) (i : ℕ) (x : X) → slice_get xs i ≡ Some x
     → take (i + 1) xs ≡ take i xs ++ x ∷ []
 take_next xs i x at = take_more xs i x (slice_get_within xs i x at)
@@ -28,6 +28,7 @@ pub record ItemAfter (ts done : List Tree) (t : Tree) : Type 0 where
   pub adds : items_size (items_of (done ++ t ∷ [])) ≡ items_size (items_of done) + size_of t
   pub within : items_size (items_of done) + size_of t ≤ items_size (items_of ts)
 
+-- this holds of the item with which a list goes on behind those that are done
 pub item_after : (ts done : List Tree) (t : Tree) (more : List Tree) → ts ≡ done ++ t ∷ more → ItemAfter ts done t
 item_after ts done t more split =
     let whole : items_size (items_of ts) ≡ items_size (items_of done) + items_size (items_of (t ∷ more)) =
@@ -40,6 +41,7 @@ pub record MemberAfter (ms done : List (List ℕ × Tree)) (t : Tree) : Type 0 w
       → members_size (members_of (done ++ (name, t) ∷ [])) ≡ members_size (members_of done) + size_of t
   pub within : members_size (members_of done) + size_of t ≤ members_size (members_of ms)
 
+-- this holds of the member with which an object goes on behind those that are done
 pub member_after : (ms done : List (List ℕ × Tree)) (m : List ℕ × Tree) (more : List (List ℕ × Tree))
     → ms ≡ done ++ m ∷ more → MemberAfter ms done m.1
 member_after ms done m more split =
@@ -61,6 +63,7 @@ pub record NextItem (ts : List Tree) (i : ℕ) (t : Tree) : Type 0 where
   pub adds : items_size (items_of (take (i + 1) ts)) ≡ items_size (items_of (take i ts)) + size_of t
   pub within : items_size (items_of (take i ts)) + size_of t ≤ items_size (items_of ts)
 
+-- this holds of the item at each index within the list
 pub next_item : (ts : List Tree) (i : ℕ) (t : Tree) → i < length ts → t ≡ get_or ts i t → NextItem ts i t
 next_item ts i t h e =
     let next : take (i + 1) ts ≡ take i ts ++ t ∷ [] =
@@ -72,6 +75,7 @@ pub record NextMember (ms : List (List ℕ × Tree)) (i : ℕ) (t : Tree) : Type
   pub adds : members_size (members_of (take (i + 1) ms)) ≡ members_size (members_of (take i ms)) + size_of t
   pub within : members_size (members_of (take i ms)) + size_of t ≤ members_size (members_of ms)
 
+-- the member at an index adds its size to that of those before it, within that of the object
 pub next_member : (ms : List (List ℕ × Tree)) (i : ℕ) (m : List ℕ × Tree) → slice_get ms i ≡ Some m
     → NextMember ms i m.1
 next_member ms i m at =
@@ -79,6 +83,7 @@ next_member ms i m at =
     let after = member_after ms (take i ms) m (drop (i + 1) ms) (split_at ms i m next) in
     record { adds = ap (λ ns. members_size (members_of ns)) next ∙ after.adds m.0; within = after.within }
 
+-- the members as far as an index hold no more values than all members
 pub members_size-take : (ms : List (List ℕ × Tree)) (i : ℕ)
     → members_size (members_of (take i ms)) ≤ members_size (members_of ms)
 members_size-take ms i =
@@ -91,6 +96,7 @@ members_size-take ms i =
 find_cond : (b : Bool) (t : Tree) (r s : Option Tree) → r ≡ s → cond b (Some t) r ≡ cond b (Some t) s
 find_cond b t r s e = ap (λ x. cond b (Some t) x) e
 
+-- the value of a name among entries is the member of that name in the object that they make
 pub get-find : (name : List ℕ) (ms : List (List ℕ × Tree)) → get name ms ≡ find name (members_of ms)
 get-find name [] = refl
 get-find name (m ∷ ms) = find_cond (bytes_eq name m.0) m.1 _ _ (get-find name ms)

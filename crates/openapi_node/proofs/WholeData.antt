@@ -1,6 +1,6 @@
 -- The data of a tree has no float.
-use Rattle.std.proofs.Common.{◌≡◌, ℕ, List, Bool, true, false, ◌||◌, Ordering, Less, Equal, Greater, pos}
-use Rattle.std.proofs.Common.{negsuc, nat_cmp, refl, true≢false}
+use Rattle.std.proofs.Common.{◌≡◌, ℕ, List, Bool, true, false, ◌||◌, Ordering, Less, Equal, Greater, pos, negsuc}
+use Rattle.std.proofs.Common.{nat_cmp, refl, true≢false}
 use Rattle.std.specs.Cmp.Lexicographic.{slice_cmp}
 use Rattle.std.specs.Ordering.{match_ordering}
 use Rattle.serde_json.specs.Data as json
@@ -14,10 +14,12 @@ both : (b c : Bool) → b ≡ false → c ≡ false → (b || c) ≡ false
 both true c e f = e
 both false c e f = f
 
+-- of two flags of which none is set, the first is not
 pub first_of_none : (b c : Bool) → (b || c) ≡ false → b ≡ false
 first_of_none true c e = e
 first_of_none false c e = refl
 
+-- of two flags of which none is set, the second is not
 pub rest_of_none : (b c : Bool) → (b || c) ≡ false → c ≡ false
 rest_of_none true c e = absurd (true≢false e)
 rest_of_none false c e = e

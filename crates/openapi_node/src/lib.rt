@@ -19,7 +19,7 @@ mod write_value;
 pub use copy::copy_shown;
 pub use fault::{Cause, Expected, Fault, PlaceStep, Pointer, ReferenceToken};
 pub use member::find_member;
-pub use node::{Node, View};
+pub use node::{Members, Node, View};
 pub use openapi_map::OrderedMap;
 pub use steps::Steps;
 pub use whole::Whole;

@@ -35,6 +35,9 @@ pub(crate) enum Shape {
     Object(OrderedMap<Node>),
 }
 
+/// The members of an object: its values by their names, in their order.
+pub type Members = OrderedMap<Node>;
+
 /// What a look at a node shows: its kind, and what it holds, which is lent and not copied.
 #[derive(Clone, Copy)]
 pub enum View<'a> {

@@ -3,13 +3,7 @@ use Rattle.std.proofs.Common.{◌≡◌, ℕ, ◌+◌, Bool, true, false, List, 
 use Rattle.openapi_map.specs.Entries.{Entries, get, HasDistinctNames}
 use Rattle.openapi_node.specs.Tree.{Tree}
 use Rattle.openapi_node.specs.declared.fault.Fault.{Fault}
-use Rattle.openapi_tables.specs.Kind.{Kind}
-use Rattle.openapi_tables.specs.Lists.{every}
-use Rattle.openapi_tables.specs.Tables.{final_tables}
-use Rattle.openapi_tables.specs.Conforms.{conforms}
-use Rattle.openapi_tables.specs.Form.{Form}
-use Rattle.openapi_tables.specs.Read.{form}
-use Rattle.openapi_tables.specs.Slots.{pairs_of}
+use Rattle.openapi_tables.specs.Prelude.{Kind, every, final_tables, conforms, Form, form, pairs_of}
 use Rattle.openapi_fields.specs.Entries.{EntriesReadAs, chosen}
 use Rattle.openapi_fields.proofs.Chosen.{entry_fails, next_holds, next_new, next_same, next_skipped}
 use Rattle.openapi_fields.specs.Reading.{PutRead}

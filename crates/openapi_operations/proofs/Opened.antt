@@ -3,59 +3,31 @@ use Rattle.std.proofs.Common.{◌≡◌, List, [], ◌∷◌, Option, Some, None
 use Rattle.openapi_map.specs.Entries.{Entries}
 use Rattle.openapi_node.specs.Tree.{Tree, Members, object}
 use Rattle.openapi_node.specs.declared.fault.Fault.{Fault}
-use Rattle.openapi_tables.specs.Form.{Form, an_item, name, named, named_of, reference}
-use Rattle.openapi_tables.specs.Kind.{by, callback_object, operation, path_item}
-use Rattle.openapi_tables.specs.Tables.{final_tables}
-use Rattle.openapi_tables.specs.ByRow.{AreRows}
-use Rattle.openapi_tables.specs.Slots.{pairs_of}
+use Rattle.openapi_tables.specs.Prelude.{Form, an_item, name, named, named_of, reference, by, callback_object}
+use Rattle.openapi_tables.specs.Prelude.{operation, path_item, final_tables, AreRows, pairs_of}
 use Rattle.openapi_values.specs.Reference.{reference_form}
 use Rattle.openapi_values.specs.declared.reference.ReferenceOr.{ReferenceOr}
 use Rattle.openapi_values.specs.declared.reference.ReferenceOr.TheVariants as r
-use Rattle.openapi_fields.specs.Forms.{
-  text_form,
-  flag_form,
-  optional_form,
-  list_form,
-  map_form,
-  extensions_form,
-  record_form,
-}
+use Rattle.openapi_fields.specs.Forms.{text_form, flag_form, optional_form, list_form, map_form, extensions_form}
+use Rattle.openapi_fields.specs.Forms.{record_form}
 use Rattle.openapi_fields.specs.Returned.{ReadAs, RowsReadAs}
 use Rattle.openapi_fields.proofs.EntryReading.{table_read}
 use Rattle.openapi_security.specs.Schemes.{security_requirement_form}
 use Rattle.openapi_media_types.specs.ContentForms.{of_rows}
 use Rattle.openapi_responses.specs.Messages.{responses_rows}
 use Rattle.openapi_operations.specs.Fields.{callback_fields, operation_fields, path_item_fields}
-use Rattle.openapi_operations.specs.OperationForms.{
-  body_ref_form,
-  callback_form,
-  callback_rows,
-  callback_step,
-  docs_form,
-  operation_form,
-  operation_rows,
-  operation_step,
-  parameter_ref_form,
-  path_item_form,
-  path_item_rows,
-  path_item_step,
-  server_form,
-}
+use Rattle.openapi_operations.specs.OperationForms.{body_ref_form, callback_form, callback_rows, callback_step}
+use Rattle.openapi_operations.specs.OperationForms.{docs_form, operation_form, operation_rows, operation_step}
+use Rattle.openapi_operations.specs.OperationForms.{parameter_ref_form, path_item_form, path_item_rows, path_item_step}
+use Rattle.openapi_operations.specs.OperationForms.{server_form}
 use Rattle.openapi_operations.specs.declared.callback.Callback.{Callback, out-Callback, roll-Callback}
 use Rattle.openapi_operations.specs.declared.operation.Operation.{Operation, out-Operation, roll-Operation}
 use Rattle.openapi_operations.specs.declared.path_item.PathItem.{PathItem, out-PathItem, roll-PathItem}
 use Rattle.openapi_operations.specs.declared.callback.Callback.TheBlock.{the_data, the_data-1, the_data-2}
-use Rattle.openapi_operations.specs.declared.callback.Callback.TheFolds.{
-  fold-roll-Callback,
-  fold-roll-Operation,
-  fold-roll-PathItem,
-  fold_out-Callback,
-  fold_out-Operation,
-  fold_out-PathItem,
-  map-Callback,
-  map-Operation,
-  map-PathItem,
-}
+use Rattle.openapi_operations.specs.declared.callback.Callback.TheFolds.{fold-roll-Callback, fold-roll-Operation}
+use Rattle.openapi_operations.specs.declared.callback.Callback.TheFolds.{fold-roll-PathItem, fold_out-Callback}
+use Rattle.openapi_operations.specs.declared.callback.Callback.TheFolds.{fold_out-Operation, fold_out-PathItem}
+use Rattle.openapi_operations.specs.declared.callback.Callback.TheFolds.{map-Callback, map-Operation, map-PathItem}
 use Rattle.openapi_operations.specs.declared.callback.Callback.TheOpen.{Callback-F, Operation-F, PathItem-F}
 
 -- one level of each type, and the same with what stands inside seen as forms
@@ -96,11 +68,13 @@ requests_level d ((n, x) ∷ es) =
 callback_step-level : (d : ACallback) → callback_step (callback_level d) ≡ callback_parts d
 callback_step-level d = λ i. named (named_of (requests_level d d.paths i)) ∷ extensions_form d.extensions ∷ []
 
+-- the rows of a callback are the forms of its fields
 pub callback_rows-out : (x : Callback) → callback_rows x ≡ callback_fields x
 callback_rows-out x =
     fold_out-Callback (List Form) (List Form) (List Form) callback_step operation_step path_item_step x
     ∙ callback_step-level (out-Callback x)
 
+-- what is read as the fields of one level is read as those of the callback that is made of it
 pub callback_read : (d : ACallback) (ms : Members)
     → AreRows final_tables (final_tables callback_object) (callback_parts d) ms
     → AreRows final_tables (final_tables callback_object) (callback_fields (roll-Callback d)) ms
@@ -145,11 +119,13 @@ operation_step-level d =
     ∷ flag_form d.deprecated ∷ optional_form (list_form security_requirement_form) d.security
     ∷ list_form server_form d.servers ∷ extensions_form d.extensions ∷ [])
 
+-- the rows of an operation are the forms of its fields
 pub operation_rows-out : (x : Operation) → operation_rows x ≡ operation_fields x
 operation_rows-out x =
     fold_out-Operation (List Form) (List Form) (List Form) callback_step operation_step path_item_step x
     ∙ operation_step-level (out-Operation x)
 
+-- an operation that is made of one level has the forms of the fields of that level
 pub operation_fields-roll : (d : AnOperation) → operation_fields (roll-Operation d) ≡ operation_parts d
 operation_fields-roll d =
     sym (operation_rows-out (roll-Operation d))
@@ -187,11 +163,13 @@ path_item_step-level d =
     ∷ method_level d d.head i ∷ method_level d d.patch i ∷ method_level d d.trace i ∷ list_form server_form d.servers
     ∷ list_form parameter_ref_form d.parameters ∷ extensions_form d.extensions ∷ [])
 
+-- the rows of a path item are the forms of its fields
 pub path_item_rows-out : (x : PathItem) → path_item_rows x ≡ path_item_fields x
 path_item_rows-out x =
     fold_out-PathItem (List Form) (List Form) (List Form) callback_step operation_step path_item_step x
     ∙ path_item_step-level (out-PathItem x)
 
+-- a path item that is made of one level has the forms of the fields of that level
 pub path_item_fields-roll : (d : APathItem) → path_item_fields (roll-PathItem d) ≡ path_item_parts d
 path_item_fields-roll d =
     sym (path_item_rows-out (roll-PathItem d))
@@ -202,8 +180,10 @@ path_item_fields-roll d =
 pub callback_same : callback_fields ≡ callback_rows
 callback_same i x = sym (callback_rows-out x) i
 
+-- for operations, the forms of the fields and the rows are one function
 pub operation_same : operation_fields ≡ operation_rows
 operation_same i x = sym (operation_rows-out x) i
 
+-- for path items, the forms of the fields and the rows are one function
 pub path_item_same : path_item_fields ≡ path_item_rows
 path_item_same i x = sym (path_item_rows-out x) i

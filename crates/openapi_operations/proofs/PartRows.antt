@@ -2,23 +2,16 @@
 use Rattle.std.proofs.Common.{◌≡◌, ◌+◌, [], ◌∷◌, Option, Result, Ok, Err, arith, codes}
 use Rattle.openapi_node.specs.Tree.{Members}
 use Rattle.openapi_node.specs.declared.fault.Fault.{Fault}
-use Rattle.openapi_tables.specs.ByRow.{RowGives, row_weight, rows_asked, rows_weight}
-use Rattle.openapi_tables.specs.Form.{Form}
-use Rattle.openapi_tables.specs.Kind.{any_tree, by, class, extensions, listed, map_of, operation, path_item, row}
+use Rattle.openapi_tables.specs.Prelude.{RowGives, row_weight, rows_asked, rows_weight, Form, any_tree, by, class}
+use Rattle.openapi_tables.specs.Prelude.{extensions, listed, map_of, operation, path_item, row, callback_ref}
+use Rattle.openapi_tables.specs.Prelude.{final_tables, tables_with}
 use Rattle.openapi_tables.specs.Rows.{optional_row}
-use Rattle.openapi_tables.specs.Tables.{callback_ref, final_tables, tables_with}
 use Rattle.openapi_fields.specs.Forms.{optional_form}
 use Rattle.openapi_fields.specs.Returned.{RowReadAs}
 use Rattle.openapi_fields.specs.Reading.{PartReadAs}
 use Rattle.openapi_operations.specs.OperationForms.{operation_form}
 use Rattle.openapi_operations.specs.declared.operation.Operation.{Operation}
-use Rattle.openapi_operations.specs.Parts.{
-  beside_rows,
-  message_rows,
-  method_rows,
-  setting_rows,
-  text_rows,
-}
+use Rattle.openapi_operations.specs.Parts.{beside_rows, message_rows, method_rows, setting_rows, text_rows}
 
 -- how much the parts weigh
 pub path_item_weight : (ms : Members)

@@ -5,9 +5,7 @@ use Rattle.std.specs.Borrow.{Bor}
 use Rattle.std.specs.Map.{values_of}
 use Rattle.std.specs.Map.Iter.{TakesFirst, ShowsInOrder, ShowsValuesInOrder}
 use Rattle.std.specs.Option.{option_copied}
-use Rattle.openapi_tables.specs.Form.{Form, fields, forms_of}
-use Rattle.openapi_tables.specs.Lists.{each, join}
-use Rattle.openapi_tables.specs.Members.{plain}
+use Rattle.openapi_tables.specs.Prelude.{Form, fields, forms_of, each, join, plain}
 use Rattle.openapi_tables.specs.Operations.{methods, present_ops, those_there}
 use Rattle.openapi_fields.specs.Forms.{optional_form}
 use Rattle.openapi_operations.specs.OperationForms.{operation_form, path_item_form}
@@ -22,6 +20,7 @@ pub shows_in_order : {A X : Type 0} (shows : A → X) → ShowsInOrder shows
 shows_in_order shows =
     from_front (TakesFirst shows) shows (λ s. s) (λ s t h. ap length h.0) (λ s x t h. h)
 
+-- an iterator over pairs gives their values in the order of what it has left
 pub shows_values_in_order : {A K X : Type 0} (shows : A → K × X) → ShowsValuesInOrder shows
 shows_values_in_order shows =
     from_front (TakesFirst shows) (λ x. (shows x).1) values_of
@@ -51,6 +50,7 @@ forms_held (n ∷ ns) (None ∷ os) rest f = forms_held ns os rest f
 forms_held (n ∷ ns) (Some x ∷ os) rest f =
     ap (λ l. record { name = n; value = operation_form x } ∷ l) (forms_held ns os rest f)
 
+-- the operations of a path item have the forms of the operations that its form holds
 pub present_forms : (x : PathItem) → forms_under operation_form (present_operations x) ≡ present_ops (path_item_form x)
 present_forms x =
     forms_held methods (operations_in x) (take 3 (drop 10 (path_item_fields x))) tt

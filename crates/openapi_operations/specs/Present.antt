@@ -1,4 +1,5 @@
--- The operations of a path item that are there, each under its method.
+-- The operations of a path item that are there, each under its method. Their forms are `present_ops` of Operations in
+-- openapi_tables.
 use Rattle.std.specs.Prelude.{ℕ, List, [], ◌∷◌, Option, Some, None}
 use Rattle.std.specs.Borrow.{Bor}
 use Rattle.openapi_map.specs.Entries.{Entries}

@@ -1,3 +1,4 @@
+#![tactic(auto, unfolding(openapi_tables::specs::Tables::final_tables, openapi_tables::specs::Tables::tables_with))]
 //! What is read and written of operations and path items in parts, but for what leads back to path items.
 ghost use Rattle.std.specs.Prelude.{◌≡◌, ◌+◌, ◌*◌, ◌≤◌, [], codes, OnOk, IfErr};
 ghost use Rattle.openapi_node.specs.Tree.{members_of};
@@ -21,7 +22,7 @@ use openapi_fields::{
     required,
 };
 use openapi_metadata::Server;
-use openapi_node::{Fault, Node, OrderedMap, Steps};
+use openapi_node::{Fault, Members, Node, OrderedMap, Steps};
 use openapi_parameters::Parameter;
 use openapi_responses::{RequestBody, Responses};
 use openapi_schema_annotations::ExternalDocumentation;
@@ -66,10 +67,9 @@ pub(crate) struct PathItemValues {
 }
 
 /// Reads the texts of an operation, and its flag first.
-#[tactic(auto, unfolding(openapi_tables::specs::Tables::final_tables, openapi_tables::specs::Tables::tables_with))]
 pub(crate) fn read_texts(
     alloc: Global,
-    members: &OrderedMap<Node>,
+    members: &Members,
     steps: &mut Steps,
 ) -> Result<OperationTexts, Fault>
     ensures reads { PartReadAs text_forms result (kinds.by kinds.operation) text_rows (members_of members.now) }
@@ -85,10 +85,9 @@ pub(crate) fn read_texts(
 }
 
 /// Reads what an operation is documented by, and where and how it is called.
-#[tactic(auto, unfolding(openapi_tables::specs::Tables::final_tables, openapi_tables::specs::Tables::tables_with))]
 pub(crate) fn read_settings(
     alloc: Global,
-    members: &OrderedMap<Node>,
+    members: &Members,
     steps: &mut Steps,
 ) -> Result<OperationSettings, Fault>
     ensures reads { PartReadAs setting_forms result (kinds.by kinds.operation) setting_rows (members_of members.now) }
@@ -102,10 +101,9 @@ pub(crate) fn read_settings(
 }
 
 /// Reads what is sent to an operation, and what it answers.
-#[tactic(auto, unfolding(openapi_tables::specs::Tables::final_tables, openapi_tables::specs::Tables::tables_with))]
 pub(crate) fn read_messages(
     alloc: Global,
-    members: &OrderedMap<Node>,
+    members: &Members,
     steps: &mut Steps,
 ) -> Result<OperationMessages, Fault>
     ensures reads { PartReadAs message_forms result (kinds.by kinds.operation) message_rows (members_of members.now) }
@@ -119,10 +117,9 @@ pub(crate) fn read_messages(
 }
 
 /// Reads what a path item has beside its operations.
-#[tactic(auto, unfolding(openapi_tables::specs::Tables::final_tables, openapi_tables::specs::Tables::tables_with))]
 pub(crate) fn read_beside(
     alloc: Global,
-    members: &OrderedMap<Node>,
+    members: &Members,
     steps: &mut Steps,
 ) -> Result<PathItemValues, Fault>
     ensures reads { PartReadAs beside_forms result (kinds.by kinds.path_item) beside_rows (members_of members.now) }
@@ -141,7 +138,7 @@ pub(crate) fn read_beside(
 #[inline(never)]
 pub(crate) fn path_item_with(
     alloc: Global,
-    members: &OrderedMap<Node>,
+    members: &Members,
     methods: Methods<Operation>,
     steps: &mut Steps,
 ) -> Result<PathItem, Fault>
@@ -207,11 +204,10 @@ pub(crate) fn joined_path_item(beside: PathItemValues, methods: Methods<Operatio
 }
 
 /// Writes what stands before the callbacks of an operation, into an object that has no members yet.
-#[tactic(auto, unfolding(openapi_tables::specs::Tables::final_tables, openapi_tables::specs::Tables::tables_with))]
 pub(crate) fn put_before_callbacks(
     alloc: Global,
     operation: &Operation,
-    out: &mut OrderedMap<Node>,
+    out: &mut Members,
 ) -> Result<(), Fault>
     requires { IsWritten final_tables [] out.old }
     ensures ok { OnOk result (IsWritten final_tables (before (is_named (codes "callbacks"))
@@ -247,11 +243,10 @@ pub(crate) fn put_before_callbacks(
 }
 
 /// Writes what stands behind the callbacks of an operation.
-#[tactic(auto, unfolding(openapi_tables::specs::Tables::final_tables, openapi_tables::specs::Tables::tables_with))]
 pub(crate) fn put_behind_callbacks(
     alloc: Global,
     operation: &Operation,
-    out: &mut OrderedMap<Node>,
+    out: &mut Members,
 ) -> Result<(), Fault>
     requires { IsWritten final_tables (through (is_named (codes "callbacks")) (operation_slots operation.now)) out.old }
     ensures ok { OnOk result (IsWritten final_tables (operation_slots operation.now) out.new) }

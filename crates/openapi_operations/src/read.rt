@@ -1,3 +1,4 @@
+#![tactic(auto, unfolding(openapi_tables::specs::Tables::final_tables, openapi_tables::specs::Tables::tables_with))]
 //! How operations, path items and callbacks are read. The functions are mutually recursive: a path item has
 //! operations, an operation may have callbacks, and these have path items. Each gets a smaller part of the tree in the
 //! end. A value is looked at once, and handed down as the view of that look.
@@ -24,7 +25,7 @@ use openapi_fields::{
     Extensions, Names, as_item, as_member, at_name, extensions, members_at, members_shown,
     present_view, put_read, read_reference,
 };
-use openapi_node::{Fault, Node, OrderedMap, Steps, View};
+use openapi_node::{Fault, Members, Node, OrderedMap, Steps, View};
 use openapi_values::ReferenceOr;
 use std::alloc::Global;
 
@@ -46,12 +47,7 @@ pub(crate) fn read_path_item(
 
 /// Reads a path item among the members of an object, its operations first.
 #[cycle(read)]
-#[tactic(auto, unfolding(openapi_tables::specs::Tables::final_tables, openapi_tables::specs::Tables::tables_with))]
-fn path_item_of(
-    alloc: Global,
-    members: &OrderedMap<Node>,
-    steps: &mut Steps,
-) -> Result<PathItem, Fault>
+fn path_item_of(alloc: Global, members: &Members, steps: &mut Steps) -> Result<PathItem, Fault>
     ensures reads { RowsReadAs path_item_fields result (kinds.by kinds.path_item) (members_of members.now) }
     ensures count { RisesBy steps.old steps.new
         (3 * rows_weight (rows_asked final_tables (kinds.by kinds.path_item)) (members_of members.now)) }
@@ -68,10 +64,9 @@ fn path_item_of(
 
 /// Reads the operations of a path item to where they are kept, since they are large.
 #[cycle(read)]
-#[tactic(auto, unfolding(openapi_tables::specs::Tables::final_tables, openapi_tables::specs::Tables::tables_with))]
 fn read_methods(
     alloc: Global,
-    members: &OrderedMap<Node>,
+    members: &Members,
     methods: &mut Methods<Operation>,
     steps: &mut Steps,
 ) -> Result<(), Fault>
@@ -101,7 +96,7 @@ fn read_methods(
 #[cycle(read)]
 fn read_method(
     alloc: Global,
-    members: &OrderedMap<Node>,
+    members: &Members,
     method: &'static str,
     place: &mut Option<Operation>,
     steps: &mut Steps,
@@ -145,11 +140,7 @@ pub(crate) fn read_operation(
 /// Reads an operation among the members of an object, what is large last.
 #[cycle(read)]
 #[tactic(auto, using(crate::proofs::PartRows::operation_weight), unfolding(openapi_tables::specs::Tables::final_tables, openapi_tables::specs::Tables::tables_with))]
-fn operation_of(
-    alloc: Global,
-    members: &OrderedMap<Node>,
-    steps: &mut Steps,
-) -> Result<Operation, Fault>
+fn operation_of(alloc: Global, members: &Members, steps: &mut Steps) -> Result<Operation, Fault>
     ensures reads { RowsReadAs operation_fields result (kinds.by kinds.operation) (members_of members.now) }
     ensures count { RisesBy steps.old steps.new
         (3 * rows_weight (rows_asked final_tables (kinds.by kinds.operation)) (members_of members.now)) }
@@ -166,7 +157,7 @@ fn operation_of(
 #[cycle(read)]
 fn read_callbacks(
     alloc: Global,
-    members: &OrderedMap<Node>,
+    members: &Members,
     steps: &mut Steps,
 ) -> Result<OrderedMap<ReferenceOr<Callback>>, Fault>
     ensures reads { RowReadAs (map_form (reference_form callback_form)) result (kinds.by kinds.operation)
@@ -185,7 +176,7 @@ fn read_callbacks(
 #[cycle(read)]
 fn callbacks_of(
     alloc: Global,
-    members: &OrderedMap<Node>,
+    members: &Members,
     steps: &mut Steps,
 ) -> Result<OrderedMap<ReferenceOr<Callback>>, Fault>
     ensures reads { ReadAs (map_form (reference_form callback_form)) result (kinds.map_of callback_ref)
@@ -244,12 +235,7 @@ pub(crate) fn read_callback(
 
 /// Reads a callback among the members of an object.
 #[cycle(read)]
-#[tactic(auto, unfolding(openapi_tables::specs::Tables::final_tables, openapi_tables::specs::Tables::tables_with))]
-fn callback_of(
-    alloc: Global,
-    members: &OrderedMap<Node>,
-    steps: &mut Steps,
-) -> Result<Callback, Fault>
+fn callback_of(alloc: Global, members: &Members, steps: &mut Steps) -> Result<Callback, Fault>
     ensures reads { RowsReadAs callback_fields result (kinds.by kinds.callback_object) (members_of members.now) }
     ensures count { RisesBy steps.old steps.new
         (3 * rows_weight (rows_asked final_tables (kinds.by kinds.callback_object)) (members_of members.now)) }
@@ -263,7 +249,7 @@ fn callback_of(
 #[cycle(read)]
 fn read_requests(
     alloc: Global,
-    members: &OrderedMap<Node>,
+    members: &Members,
     steps: &mut Steps,
 ) -> Result<OrderedMap<PathItem>, Fault>
     ensures reads { RowReadAs (map_form path_item_form) result (kinds.by kinds.callback_object)

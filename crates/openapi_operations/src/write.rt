@@ -1,3 +1,4 @@
+#![tactic(auto, unfolding(openapi_tables::specs::Tables::final_tables, openapi_tables::specs::Tables::tables_with))]
 //! How operations, path items and callbacks are written. The functions are mutually recursive, as those that read
 //! them do: each gets a smaller part of the value in the end.
 ghost use Rattle.std.specs.Prelude.{codes, IfErr, IfOk, OnOk};
@@ -20,7 +21,7 @@ use openapi_fields::{
     Extensions, Names, as_some, put_extensions, put_implied, put_optional, put_row, put_written,
     whole_object, write_reference,
 };
-use openapi_node::{Cause, Fault, Node, OrderedMap};
+use openapi_node::{Cause, Fault, Members, Node, OrderedMap};
 use openapi_values::ReferenceOr;
 use std::alloc::Global;
 
@@ -34,8 +35,7 @@ pub(crate) fn write_path_item(alloc: Global, path_item: &PathItem) -> Result<Nod
 
 /// The members that a path item is written as.
 #[cycle(write)]
-#[tactic(auto, unfolding(openapi_tables::specs::Tables::final_tables, openapi_tables::specs::Tables::tables_with))]
-fn path_item_members(alloc: Global, path_item: &PathItem) -> Result<OrderedMap<Node>, Fault>
+fn path_item_members(alloc: Global, path_item: &PathItem) -> Result<Members, Fault>
     ensures { RowsWritten (path_item_slots path_item.now) result }
 {
     let mut out = OrderedMap::new(alloc);
@@ -62,8 +62,7 @@ fn path_item_members(alloc: Global, path_item: &PathItem) -> Result<OrderedMap<N
 
 /// Writes the operations of a path item, behind its texts.
 #[cycle(write)]
-#[tactic(auto, unfolding(openapi_tables::specs::Tables::final_tables, openapi_tables::specs::Tables::tables_with))]
-fn put_methods(alloc: Global, path_item: &PathItem, out: &mut OrderedMap<Node>) -> Result<(), Fault>
+fn put_methods(alloc: Global, path_item: &PathItem, out: &mut Members) -> Result<(), Fault>
     requires { IsWritten final_tables (before (is_named (codes "get")) (path_item_slots path_item.now)) out.old }
     ensures ok { OnOk result (IsWritten final_tables (through (is_named (codes "trace"))
         (path_item_slots path_item.now)) out.new) }
@@ -108,8 +107,7 @@ pub(crate) fn write_operation(alloc: Global, operation: &Operation) -> Result<No
 
 /// The members that an operation is written as.
 #[cycle(write)]
-#[tactic(auto, unfolding(openapi_tables::specs::Tables::final_tables, openapi_tables::specs::Tables::tables_with))]
-fn operation_members(alloc: Global, operation: &Operation) -> Result<OrderedMap<Node>, Fault>
+fn operation_members(alloc: Global, operation: &Operation) -> Result<Members, Fault>
     ensures { RowsWritten (operation_slots operation.now) result }
 {
     let mut out = OrderedMap::new(alloc);
@@ -169,8 +167,7 @@ pub(crate) fn write_callback(alloc: Global, callback: &Callback) -> Result<Node,
 
 /// The members that a callback is written as.
 #[cycle(write)]
-#[tactic(auto, unfolding(openapi_tables::specs::Tables::final_tables, openapi_tables::specs::Tables::tables_with))]
-fn callback_members(alloc: Global, callback: &Callback) -> Result<OrderedMap<Node>, Fault>
+fn callback_members(alloc: Global, callback: &Callback) -> Result<Members, Fault>
     ensures { RowsWritten (callback_slots callback.now) result }
 {
     let mut out = request_members(alloc, callback)?;
@@ -180,8 +177,7 @@ fn callback_members(alloc: Global, callback: &Callback) -> Result<OrderedMap<Nod
 
 /// The members that the path items of a callback are written as. Err also at a name that begins with `x-`.
 #[cycle(write)]
-#[tactic(auto, unfolding(openapi_tables::specs::Tables::final_tables, openapi_tables::specs::Tables::tables_with))]
-fn request_members(alloc: Global, callback: &Callback) -> Result<OrderedMap<Node>, Fault>
+fn request_members(alloc: Global, callback: &Callback) -> Result<Members, Fault>
     ensures ok { IfOk result (λ out. IsWritten final_tables (through (is_class kinds.callback_names)
         (callback_slots callback.now)) out) }
     ensures err { IfErr result (λ f. NotWritable f (slots_lost final_tables (callback_slots callback.now))) }

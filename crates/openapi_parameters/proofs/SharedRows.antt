@@ -3,16 +3,10 @@ use Rattle.std.proofs.Common.{◌≡◌, List, [], ◌∷◌, drop, refl, sym, a
 use Rattle.openapi_node.specs.Place.{Place}
 use Rattle.openapi_node.specs.Tree.{object, Members}
 use Rattle.openapi_node.specs.declared.fault.Fault.{Fault}
-use Rattle.openapi_tables.specs.Kind.{Row, TableName, by, parameter_data}
-use Rattle.openapi_tables.specs.Lists.{each, flat, join}
-use Rattle.openapi_tables.specs.Tree.{an_object, members_list, of_members}
-use Rattle.openapi_tables.specs.Tables.{final_tables}
-use Rattle.openapi_tables.specs.Members.{checked_rows}
-use Rattle.openapi_tables.specs.Form.{Form}
-use Rattle.openapi_tables.specs.Read.{tree_of_root}
-use Rattle.openapi_tables.specs.Faults.{Asking, Cause, asked, asks_rows, causes, root_asks, row_misses}
-use Rattle.openapi_tables.specs.Laws.{Among}
-use Rattle.openapi_tables.specs.ByRow.{AreRows, Broken, asking}
+use Rattle.openapi_tables.specs.Prelude.{Row, TableName, by, parameter_data, each, flat, join, an_object, members_list}
+use Rattle.openapi_tables.specs.Prelude.{of_members, final_tables, checked_rows, Form, tree_of_root, Asking, Cause}
+use Rattle.openapi_tables.specs.Prelude.{asked, asks_rows, causes, root_asks, row_misses, Among, AreRows, Broken}
+use Rattle.openapi_tables.specs.Prelude.{asking}
 use Rattle.openapi_tables.proofs.ByRowLaws.{among_left, broken_root}
 use Rattle.openapi_tables.proofs.ListLaws.{join_assoc}
 use Rattle.openapi_tables.proofs.TreeLaws.{tree_of_root-seen}

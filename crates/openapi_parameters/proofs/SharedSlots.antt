@@ -4,21 +4,15 @@ use Rattle.openapi_map.specs.Entries.{Entries}
 use Rattle.openapi_node.specs.Place.{Place}
 use Rattle.openapi_node.specs.Tree.{Tree}
 use Rattle.openapi_node.specs.declared.fault.Fault.{Fault}
-use Rattle.openapi_tables.specs.Form.{absent}
-use Rattle.openapi_tables.specs.Kind.{constant, parameter_data}
-use Rattle.openapi_tables.specs.Lists.{join}
-use Rattle.openapi_tables.specs.Tables.{final_tables, tables_with}
-use Rattle.openapi_tables.specs.Laws.{Among}
-use Rattle.openapi_tables.specs.ByRow.{is_named}
-use Rattle.openapi_tables.specs.Slots.{Slot, slots_apart, slots_lost, through, IsWritten}
+use Rattle.openapi_tables.specs.Prelude.{absent, constant, parameter_data, join, final_tables, tables_with, Among}
+use Rattle.openapi_tables.specs.Prelude.{is_named, Slot, slots_apart, slots_lost, through, IsWritten}
 use Rattle.openapi_tables.proofs.SlotWriting.{slots_apart-rows}
 use Rattle.openapi_fields.specs.Forms.{record_slots}
 use Rattle.openapi_fields.specs.Returned.{NotWritable}
 use Rattle.openapi_fields.specs.Writing.{AreNew, RowsWritten}
-use Rattle.openapi_fields.proofs.JoinedSlots.{loses_first, loses_second, new_behind, written_behind}
-use Rattle.openapi_fields.proofs.JoinedSlots.{loses_wider}
-use Rattle.openapi_parameters.specs.Parameters.{data_of_parameter, parameter_data_rows, parameter_slots}
-use Rattle.openapi_parameters.specs.Parameters.{parameter_word, shared_slots}
+use Rattle.openapi_fields.proofs.JoinedSlots.{loses_first, loses_second, new_behind, written_behind, loses_wider}
+use Rattle.openapi_parameters.specs.Parameters.{data_of_parameter, parameter_data_rows, parameter_slots, parameter_word}
+use Rattle.openapi_parameters.specs.Parameters.{shared_slots}
 use Rattle.openapi_parameters.specs.declared.parameter.Parameter.{Parameter}
 use Rattle.openapi_parameters.specs.declared.parameter_data.ParameterData.{ParameterData}
 use Rattle.openapi_parameters.specs.declared.parameter.Parameter.TheVariants as parameters
@@ -27,9 +21,7 @@ use Rattle.openapi_parameters.specs.declared.parameter.Parameter.TheVariants as 
 behind : (x : Parameter) → parameter_slots x ≡ join (shared_slots x) (drop 10 (parameter_slots x))
 unfolding final_tables tables_with
 behind (parameters.Query d r s e) = refl
-behind (parameters.Header d s) = refl
-behind (parameters.Path d s) = refl
-behind (parameters.Cookie d s) = refl
+behind x = refl
 
 module _ (x : Parameter) where
   abbrev its_place : List Slot

@@ -1,3 +1,4 @@
+#![tactic(auto, unfolding(openapi_tables::specs::Tables::final_tables, openapi_tables::specs::Tables::tables_with))]
 //! How the members of a parameter are read, by the table of its place.
 ghost use Rattle.std.specs.Prelude.{◌≡◌, ◌*◌, [], codes, IfOk};
 ghost use Rattle.openapi_node.specs.Tree.{members_of};
@@ -11,7 +12,7 @@ ghost use Rattle.openapi_parameters.specs.Parameters.{parameter_rows, parameter_
 use crate::parameter::Parameter;
 use crate::parameter_data::ParameterData;
 use openapi_fields::{Object, Record, optional, or_implied};
-use openapi_node::{Fault, Node, OrderedMap, Steps};
+use openapi_node::{Fault, Members, Node, Steps};
 use std::alloc::Global;
 
 /// The table of the parameters in a query.
@@ -51,10 +52,9 @@ impl Object for CookieTable {
 }
 
 /// Reads a parameter in a query.
-#[tactic(auto, unfolding(openapi_tables::specs::Tables::final_tables, openapi_tables::specs::Tables::tables_with))]
 pub(crate) fn read_query(
     alloc: Global,
-    members: &OrderedMap<Node>,
+    members: &Members,
     steps: &mut Steps,
 ) -> Result<Parameter, Fault>
     ensures reads { RowsReadAs parameter_rows result (by kinds.query_parameter) (members_of members.now) }
@@ -74,10 +74,9 @@ pub(crate) fn read_query(
 }
 
 /// Reads a parameter in a header.
-#[tactic(auto, unfolding(openapi_tables::specs::Tables::final_tables, openapi_tables::specs::Tables::tables_with))]
 pub(crate) fn read_header(
     alloc: Global,
-    members: &OrderedMap<Node>,
+    members: &Members,
     steps: &mut Steps,
 ) -> Result<Parameter, Fault>
     ensures reads { RowsReadAs parameter_rows result (by kinds.header_parameter) (members_of members.now) }
@@ -93,10 +92,9 @@ pub(crate) fn read_header(
 }
 
 /// Reads a parameter in a path.
-#[tactic(auto, unfolding(openapi_tables::specs::Tables::final_tables, openapi_tables::specs::Tables::tables_with))]
 pub(crate) fn read_path(
     alloc: Global,
-    members: &OrderedMap<Node>,
+    members: &Members,
     steps: &mut Steps,
 ) -> Result<Parameter, Fault>
     ensures reads { RowsReadAs parameter_rows result (by kinds.path_parameter) (members_of members.now) }
@@ -112,10 +110,9 @@ pub(crate) fn read_path(
 }
 
 /// Reads a parameter in a cookie.
-#[tactic(auto, unfolding(openapi_tables::specs::Tables::final_tables, openapi_tables::specs::Tables::tables_with))]
 pub(crate) fn read_cookie(
     alloc: Global,
-    members: &OrderedMap<Node>,
+    members: &Members,
     steps: &mut Steps,
 ) -> Result<Parameter, Fault>
     ensures reads { RowsReadAs parameter_rows result (by kinds.cookie_parameter) (members_of members.now) }

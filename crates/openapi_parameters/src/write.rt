@@ -10,7 +10,7 @@ ghost use Rattle.openapi_parameters.specs.Parameters.{shared_slots};
 use crate::location::ParameterLocation;
 use crate::parameter::Parameter;
 use openapi_fields::{append, put_implied, put_optional, put_tag, record_rows};
-use openapi_node::{Fault, Node, OrderedMap};
+use openapi_node::{Fault, Members, Node};
 use openapi_values::Word;
 use std::alloc::Global;
 
@@ -27,7 +27,7 @@ fn location(value: &Parameter) -> ParameterLocation
 }
 
 /// Writes the `in` of a parameter, and behind it what parameters of all places have.
-fn put_shared(alloc: Global, value: &Parameter, out: &mut OrderedMap<Node>) -> Result<(), Fault>
+fn put_shared(alloc: Global, value: &Parameter, out: &mut Members) -> Result<(), Fault>
     requires { IsWritten final_tables [] out.old }
     ensures ok { OnOk result (IsWritten final_tables (shared_slots value.now) out.new) }
     ensures err { IfErr result (λ f. NotWritable f (slots_lost final_tables (parameter_slots value.now))) }
@@ -41,7 +41,7 @@ fn put_shared(alloc: Global, value: &Parameter, out: &mut OrderedMap<Node>) -> R
 pub(crate) fn put_parameter(
     alloc: Global,
     value: &Parameter,
-    out: &mut OrderedMap<Node>,
+    out: &mut Members,
 ) -> Result<(), Fault>
     requires { IsWritten final_tables [] out.old }
     ensures ok { OnOk result (IsWritten final_tables (parameter_slots value.now) out.new) }

@@ -2,8 +2,7 @@
 use Rattle.std.proofs.Common.{◌≡◌, Bool, true, false, cond, if◌then◌else◌, List, [], ◌∷◌, refl, ap, ◌∙◌, subst, eqb-true, eq-eqb}
 use Rattle.std.specs.Cmp.{IsEquivalence, decided}
 use Rattle.indexmap.specs.IndexMap.{insert_entry}
-use Rattle.openapi_tables.specs.Form.{Form, Pair, coded}
-use Rattle.openapi_tables.specs.Read.{put, same_code}
+use Rattle.openapi_tables.specs.Prelude.{Form, Pair, coded, put, same_code}
 use Rattle.openapi_values.specs.StatusCode.{code_in}
 use Rattle.openapi_values.specs.declared.status_code.StatusCode.{StatusCode}
 use Rattle.openapi_values.specs.declared.status_code.StatusCode.TheVariants.{Code, Range}
@@ -25,10 +24,12 @@ status-refl : (a : StatusCode) → same_status a a ≡ true
 status-refl (Code n) = eq-eqb n n refl
 status-refl (Range n) = eq-eqb n n refl
 
+-- `==` on status codes is an equivalence
 pub status_equiv : IsEquivalence same_status
 status_equiv =
     decided same_status (λ a b. (status_eq a b, λ e. subst (λ c. same_status a c ≡ true) e (status-refl a)))
 
+-- an entry that is inserted into a map by status codes is put at its code in the form
 pub coded-insert : {X : Type 0} (view : X → Form) (es : List (StatusCode × X)) (s : StatusCode) (x : X)
     → coded_pairs view (insert_entry same_status es s x) ≡ put (coded (code_in s)) (view x) (coded_pairs view es)
 coded-insert view [] s x = refl
@@ -44,7 +45,6 @@ coded-insert view (e ∷ es) s x =
         → coded_pairs view (if b then (e.0, x) ∷ es else e ∷ insert_entry same_status es s x)
         ≡ cond c (record { key = coded (code_in e.0); value = view x } ∷ coded_pairs view es)
         (record { key = coded (code_in e.0); value = view e.1 } ∷ put (coded (code_in s)) (view x) (coded_pairs view es))
-    go true true p h = refl
-    go true false p h = cc
-    go false true p h = cc
     go false false p h = ap (λ l. record { key = coded (code_in e.0); value = view e.1 } ∷ l) h
+    go b true p h = cc
+    go b c p h = cc

@@ -7,18 +7,12 @@ use Rattle.openapi_node.specs.Fault.{IsMemory}
 use Rattle.openapi_node.specs.Place.{Place, named}
 use Rattle.openapi_node.specs.Tree.{Tree, object, members_of}
 use Rattle.openapi_node.specs.declared.fault.Fault.{Fault}
-use Rattle.openapi_tables.specs.Kind.{Kind, status_names, class, in_class, is_code, code_of}
-use Rattle.openapi_tables.specs.Lists.{each, every}
-use Rattle.openapi_tables.specs.Tables.{final_tables}
-use Rattle.openapi_tables.specs.Tree.{Entry, Seen, Shape, of_tree, of_members}
-use Rattle.openapi_tables.specs.Members.{own}
-use Rattle.openapi_tables.specs.Conforms.{conforms, root_conforms}
-use Rattle.openapi_tables.specs.Form.{Form, Key, Pair, name, coded, named as named_form, named_of}
-use Rattle.openapi_tables.specs.Read.{form, root_form, key_in, code_key, pairs_as, gather, put, put_all}
-use Rattle.openapi_tables.specs.Faults.{root_asks, asked, asks_members, asks_row, below}
-use Rattle.openapi_tables.specs.Laws.{Among}
-use Rattle.openapi_tables.specs.ByRow.{is_class, row_where, rows_asked, row_conforms, row_form, asking, StepsTo}
-use Rattle.openapi_tables.specs.Slots.{pairs_of}
+use Rattle.openapi_tables.specs.Prelude.{Kind, status_names, class, in_class, is_code, code_of, each, every}
+use Rattle.openapi_tables.specs.Prelude.{final_tables, Entry, Seen, Shape, of_tree, of_members, own, conforms}
+use Rattle.openapi_tables.specs.Prelude.{root_conforms, Form, Key, Pair, name, coded, named as named_form, named_of}
+use Rattle.openapi_tables.specs.Prelude.{form, root_form, key_in, code_key, pairs_as, gather, put, put_all, root_asks}
+use Rattle.openapi_tables.specs.Prelude.{asked, asks_members, asks_row, below, Among, is_class, row_where, rows_asked}
+use Rattle.openapi_tables.specs.Prelude.{row_conforms, row_form, asking, StepsTo, pairs_of}
 use Rattle.openapi_tables.proofs.ByRowLaws.{among_left, among_right, among_below, among_flat, rows_ask}
 use Rattle.openapi_values.specs.StatusCode.{code_in}
 use Rattle.openapi_values.specs.declared.status_code.StatusCode.{StatusCode}

@@ -13,16 +13,10 @@ use Rattle.openapi_node.specs.Fault.{place_of}
 use Rattle.openapi_node.specs.Place.{named}
 use Rattle.openapi_node.specs.Tree.{Tree}
 use Rattle.openapi_node.specs.declared.fault.Fault.{Fault}
-use Rattle.openapi_tables.specs.Kind.{Kind, status_names, class, in_class, writable_code}
-use Rattle.openapi_tables.specs.Lists.{every, is_empty, same_text}
-use Rattle.openapi_tables.specs.Tables.{final_tables}
-use Rattle.openapi_tables.specs.Form.{Form, coded, named as named_form, named_of}
-use Rattle.openapi_tables.specs.Print.{print}
-use Rattle.openapi_tables.specs.Unwritable.{unwritable}
-use Rattle.openapi_tables.specs.Proper.{is_written}
-use Rattle.openapi_tables.specs.Laws.{Among}
-use Rattle.openapi_tables.specs.ByRow.{is_class}
-use Rattle.openapi_tables.specs.Slots.{Slot, slot_where, before, through, slots_apart, slots_lost, IsWritten}
+use Rattle.openapi_tables.specs.Prelude.{Kind, status_names, class, in_class, writable_code, every, is_empty, same_text}
+use Rattle.openapi_tables.specs.Prelude.{final_tables, Form, coded, named as named_form, named_of, print, unwritable}
+use Rattle.openapi_tables.specs.Prelude.{is_written, Among, is_class, Slot, slot_where, before, through, slots_apart}
+use Rattle.openapi_tables.specs.Prelude.{slots_lost, IsWritten}
 use Rattle.openapi_tables.proofs.ByRowLaws.{same_bytes}
 use Rattle.openapi_tables.proofs.DistinctLaws.{texts_differ}
 use Rattle.openapi_tables.proofs.SlotLists.{get_none-append}

@@ -1,4 +1,5 @@
--- Maps by status codes, as they are read and written.
+-- Maps by status codes, as they are read and written: the form of a map, the name that a code is written under, and a
+-- refusal of one entry.
 use Rattle.std.specs.Prelude.{◌≡◌, ℕ, false, List, [], ◌∷◌, ◌⊎◌}
 use Rattle.std.specs.declared.hash.FoldHasher.{FoldHasher}
 use Rattle.std.specs.declared.hash.BuildHasherDefault.{BuildHasherDefault}

@@ -16,7 +16,7 @@ ghost use Rattle.openapi_responses.specs.Codes.{coded_form, code_text, CodeNotWr
 
 use indexmap::IndexMap;
 use openapi_fields::{FromNode, HasSlots, ToNode, at_name, put_value};
-use openapi_node::{Cause, Fault, Node, OrderedMap, Steps};
+use openapi_node::{Cause, Fault, Members, Node, Steps};
 use openapi_values::StatusCode;
 use std::alloc::Global;
 use std::str::FromStr;
@@ -42,7 +42,7 @@ fn put_at<V: Drop>(
 /// stands in the place of the earlier.
 pub(crate) fn coded_entries<R: HasSlots, T: FromNode + Drop>(
     alloc: Global,
-    members: &OrderedMap<Node>,
+    members: &Members,
     steps: &mut Steps,
 ) -> Result<IndexMap<StatusCode, T>, Fault>
     requires row { row_where (is_class kinds.status_names) (rows_asked final_tables R.object) ≡ Some
@@ -70,7 +70,7 @@ pub(crate) fn coded_entries<R: HasSlots, T: FromNode + Drop>(
 /// again is refused.
 fn put_code<T: ToNode>(
     alloc: Global,
-    out: &mut OrderedMap<Node>,
+    out: &mut Members,
     code: &StatusCode,
     value: &T,
 ) -> Result<(), Fault>
@@ -97,7 +97,7 @@ fn put_code<T: ToNode>(
 pub(crate) fn put_coded<R: HasSlots, T: ToNode>(
     alloc: Global,
     owner: &R,
-    out: &mut OrderedMap<Node>,
+    out: &mut Members,
     values: &IndexMap<StatusCode, T>,
 ) -> Result<(), Fault>
     requires slot { slot_where (is_class kinds.status_names) (R.slots_of owner.now) ≡ Some

@@ -13,7 +13,7 @@ use openapi_fields::{
     put_implied, put_optional,
 };
 use openapi_media_types::Content;
-use openapi_node::{Fault, Node, OrderedMap, Steps};
+use openapi_node::{Fault, Members, Node, OrderedMap, Steps};
 use openapi_values::ReferenceOr;
 use std::alloc::Global;
 
@@ -56,11 +56,7 @@ impl Object for RequestBody {
 
 #[tactic(auto, unfolding(openapi_tables::specs::Tables::final_tables, openapi_tables::specs::Tables::tables_with))]
 impl Record for RequestBody {
-    fn from_members(
-        alloc: Global,
-        members: &OrderedMap<Node>,
-        steps: &mut Steps,
-    ) -> Result<Self, Fault> {
+    fn from_members(alloc: Global, members: &Members, steps: &mut Steps) -> Result<Self, Fault> {
         Ok(RequestBody {
             required: or_implied::<Self, _>(alloc, members, "required", steps)?,
             description: optional::<Self, _>(alloc, members, "description", steps)?,
@@ -69,7 +65,7 @@ impl Record for RequestBody {
         })
     }
 
-    fn put_rows(&self, alloc: Global, out: &mut OrderedMap<Node>) -> Result<(), Fault> {
+    fn put_rows(&self, alloc: Global, out: &mut Members) -> Result<(), Fault> {
         put_optional(alloc, self, out, "description", &self.description)?;
         put_implied(alloc, self, out, "content", &self.content)?;
         put_implied(alloc, self, out, "required", &self.required)?;

@@ -14,7 +14,7 @@ use openapi_fields::{
 };
 use openapi_media_types::{Content, Header};
 use openapi_metadata::Link;
-use openapi_node::{Fault, Node, OrderedMap, Steps};
+use openapi_node::{Fault, Members, Node, OrderedMap, Steps};
 use openapi_values::ReferenceOr;
 use std::alloc::Global;
 
@@ -61,11 +61,7 @@ impl Object for Response {
 
 #[tactic(auto, unfolding(openapi_tables::specs::Tables::final_tables, openapi_tables::specs::Tables::tables_with))]
 impl Record for Response {
-    fn from_members(
-        alloc: Global,
-        members: &OrderedMap<Node>,
-        steps: &mut Steps,
-    ) -> Result<Self, Fault> {
+    fn from_members(alloc: Global, members: &Members, steps: &mut Steps) -> Result<Self, Fault> {
         Ok(Response {
             description: required::<Self, _>(alloc, members, "description", steps)?,
             headers: or_implied::<Self, _>(alloc, members, "headers", steps)?,
@@ -75,7 +71,7 @@ impl Record for Response {
         })
     }
 
-    fn put_rows(&self, alloc: Global, out: &mut OrderedMap<Node>) -> Result<(), Fault> {
+    fn put_rows(&self, alloc: Global, out: &mut Members) -> Result<(), Fault> {
         put_required(alloc, self, out, "description", &self.description)?;
         put_implied(alloc, self, out, "headers", &self.headers)?;
         put_implied(alloc, self, out, "content", &self.content)?;

@@ -3,47 +3,23 @@
 use Rattle.std.proofs.Common.{◌≡◌, List, [], ◌∷◌, Option, Some, None, refl, ap, ◌∙◌, map, string_bytes}
 use Rattle.std.specs.Global.{Box}
 use Rattle.openapi_map.specs.Entries.{Entries}
-use Rattle.openapi_tables.specs.Lists.{each}
-use Rattle.openapi_tables.specs.Form.{Form, leaf, reference, an_item, named, named_of, name, sequence, forms_of}
-use Rattle.openapi_tables.specs.Slots.{pairs_of}
+use Rattle.openapi_tables.specs.Prelude.{each, Form, leaf, reference, an_item, named, named_of, name, sequence}
+use Rattle.openapi_tables.specs.Prelude.{forms_of, pairs_of}
 use Rattle.openapi_fields.specs.Forms.{text_form, optional_form, map_form}
 use Rattle.openapi_values.specs.Reference.{reference_form}
 use Rattle.openapi_values.specs.declared.reference.ReferenceOr.{ReferenceOr}
 use Rattle.openapi_values.specs.declared.reference.ReferenceOr.TheVariants as r
-use Rattle.openapi_schema.specs.SchemaForms.{
-  Sorted,
-  inner,
-  additional_step,
-  schema_kind_step,
-  schema_type_step,
-  any_schema_step,
-  array_type_step,
-  object_type_step,
-  schema_step,
-  schema_form,
-  additional_form,
-  schema_kind_rows,
-  schema_type_rows,
-  object_type_rows,
-  array_type_rows,
-  any_schema_rows,
-  flag_form,
-  number_form,
-  size_form,
-  list_form,
-}
+use Rattle.openapi_schema.specs.SchemaForms.{Sorted, inner, additional_step, schema_kind_step, schema_type_step}
+use Rattle.openapi_schema.specs.SchemaForms.{any_schema_step, array_type_step, object_type_step, schema_step}
+use Rattle.openapi_schema.specs.SchemaForms.{schema_form, additional_form, schema_kind_rows, schema_type_rows}
+use Rattle.openapi_schema.specs.SchemaForms.{object_type_rows, array_type_rows, any_schema_rows, flag_form, number_form}
+use Rattle.openapi_schema.specs.SchemaForms.{size_form, list_form}
 use Rattle.openapi_schema.specs.declared.any_schema.AnySchema.{roll-AnySchema}
 use Rattle.openapi_schema.specs.declared.schema.Schema.{Schema}
 use Rattle.openapi_schema.specs.declared.schema.AdditionalProperties.{AdditionalProperties}
-use Rattle.openapi_schema.specs.declared.schema.AdditionalProperties.TheBlock.{
-  the_data,
-  the_data-1,
-  the_data-2,
-  the_data-3,
-  the_data-4,
-  the_data-5,
-  the_data-6,
-}
+use Rattle.openapi_schema.specs.declared.schema.AdditionalProperties.TheBlock.{the_data, the_data-1, the_data-2}
+use Rattle.openapi_schema.specs.declared.schema.AdditionalProperties.TheBlock.{the_data-3, the_data-4, the_data-5}
+use Rattle.openapi_schema.specs.declared.schema.AdditionalProperties.TheBlock.{the_data-6}
 use Rattle.openapi_schema.specs.declared.schema.AdditionalProperties.TheFolds.{fold-roll-AnySchema, map-AnySchema}
 use Rattle.openapi_schema.specs.declared.schema.AdditionalProperties.TheOpen.{AnySchema-F}
 
@@ -77,15 +53,16 @@ any_items : (d : Any) (o : Option (ReferenceOr (Box Schema))) → optional_form 
     (any_level (record d { items = o })).items
     ≡ optional_form (reference_form (λ b. schema_form b.value)) o
 any_items d None = refl
-any_items d (Some (r.Reference s)) = refl
-any_items d (Some (r.Item b)) = refl
+any_items d o = refl
 
+-- if each element has its form once it is mapped too, a list that is mapped has the forms of the list
 pub each_map : {X Y : Type 0} → (g : X → Y) (view : Y → Form) (kept : X → Form) → ((x : X) → view (g x) ≡ kept x)
     → (xs : List X)
     → each view (map g xs) ≡ each kept xs
 each_map g view kept h [] = refl
 each_map g view kept h (x ∷ xs) = λ i. h x i ∷ each_map g view kept h xs i
 
+-- two functions from a reference or schema to forms agree if they agree on references and on schemas
 pub by_cases : (p q : ReferenceOr Schema → Form) → ((s : _) → p (r.Reference s) ≡ q (r.Reference s)) → ((y : Schema)
     → p (r.Item y) ≡ q (r.Item y))
     → (x : ReferenceOr Schema) → p x ≡ q x
@@ -153,6 +130,7 @@ listed_any d =
     ∷ optional_form (λ b. reference_form schema_form b.value) d.not
     ∷ []
 
+-- one level of such a schema, with what stands inside seen as forms, gives these forms
 pub any_rows-level : (d : Any) → any_schema_step (any_level d) ≡ listed_any d
 any_rows-level d =
     (λ i. optional_form text_form d.typ
@@ -181,6 +159,7 @@ any_rows-level d =
     ∷ any_not d d.not i
     ∷ [])
 
+-- a schema that is made of such a level has these forms as its rows
 pub any_rows-roll : (d : Any) → any_schema_rows (roll-AnySchema d) ≡ listed_any d
 any_rows-roll d =
     fold-roll-AnySchema Form Sorted Sorted (List Form) (List Form) (List Form) Form additional_step schema_kind_step

@@ -1,27 +1,6 @@
 -- The slot of a format, and other slots of what may be missing.
-use Rattle.std.proofs.Common.{
-  ◌≡◌,
-  ℕ,
-  Bool,
-  false,
-  cond,
-  List,
-  [],
-  ◌∷◌,
-  Option,
-  Some,
-  None,
-  Result,
-  Ok,
-  Err,
-  refl,
-  sym,
-  ap,
-  ◌∙◌,
-  String,
-  string_bytes,
-  unwrap_or,
-}
+use Rattle.std.proofs.Common.{◌≡◌, ℕ, Bool, false, cond, List, [], ◌∷◌, Option, Some, None, Result, Ok, Err, refl, sym}
+use Rattle.std.proofs.Common.{ap, ◌∙◌, String, string_bytes, unwrap_or}
 use Rattle.std.specs.Global.{Vec}
 use Rattle.std.specs.declared.alloc.Global.{Global}
 use Rattle.openapi_map.specs.Entries.{Entries}
@@ -30,11 +9,10 @@ use Rattle.std.specs.Borrow.{Bor}
 use Rattle.openapi_node.specs.Tree.{Tree, null}
 use Rattle.openapi_node.specs.declared.node.Node.{Node}
 use Rattle.openapi_node.specs.declared.fault.Fault.{Fault}
-use Rattle.openapi_tables.specs.Lists.{each}
+use Rattle.openapi_tables.specs.Prelude.{each, Form, leaf, known, other, sequence, named, no_forms, no_named, forms_of}
 use Rattle.openapi_schema_types.specs.Enumerations.{entry_tree, EntriesReadAs}
 use Rattle.openapi_schema.specs.KindNames.{trees_form}
 use Rattle.openapi_schema.specs.Kinds.{EnumerationReadAs, trees_in, trees_or_none}
-use Rattle.openapi_tables.specs.Form.{Form, leaf, known, other, sequence, named, no_forms, no_named, forms_of}
 use Rattle.openapi_fields.specs.Forms.{optional_form, text_form, map_form}
 use Rattle.openapi_values.specs.VariantOr.{IsVariantOrEmptyOf, variant_or_empty_form}
 use Rattle.openapi_values.specs.Words.{IsWordRead}
@@ -63,11 +41,13 @@ pub map_slot : {X : Type 0} → (view : X → Form) (m : Option (Entries X))
 map_slot view None = refl
 map_slot view (Some m) = refl
 
+-- a list, empty where it is missing, has the form of the slot of a list
 pub list_slot : {X : Type 0} → (view : X → Form) (v : Option (Vec X)) (d : Vec X) → d.items ≡ []
     → list_form view (unwrap_or v d) ≡ or_else (sequence no_forms) (optional_form (list_form view) v)
 list_slot view None d h = rw h refl
 list_slot view (Some v) d h = refl
 
+-- a flag, false where it is missing, has the form of the slot of a flag
 pub flag_slot : (b : Option Bool) → flag_form (unwrap_or b false) ≡ or_else (leaf (flag false))
     (optional_form flag_form b)
 flag_slot None = refl
@@ -86,6 +66,7 @@ entry_forms tree_in [] = refl
 entry_forms tree_in (None ∷ os) = ap (λ fs. leaf null ∷ fs) (entry_forms tree_in os)
 entry_forms tree_in (Some x ∷ os) = ap (λ fs. leaf (tree_in x) ∷ fs) (entry_forms tree_in os)
 
+-- what was read of the entries one by one is what is read of an enumeration that is there
 pub entries_given : {X : Type 0} → (test : Tree → Bool) (tree_in : X → Tree) (r : Result (Option (Vec
     (Option X))) Fault) (ts : List Tree)
     → EntriesReadAs test tree_in r ts → EnumerationReadAs test tree_in r (Some ts)

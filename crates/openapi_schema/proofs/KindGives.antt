@@ -3,18 +3,11 @@ use Rattle.std.proofs.Common.{◌≡◌, ◌+◌, ◌≤◌, true, List, [], ref
 use Rattle.openapi_node.specs.Place.{Place}
 use Rattle.openapi_node.specs.Tree.{Tree, object, Members, members_size}
 use Rattle.openapi_node.specs.declared.fault.Fault.{Fault}
-use Rattle.openapi_tables.specs.Lists.{each, join}
-use Rattle.openapi_tables.specs.Tree.{of_members, members_list}
-use Rattle.openapi_tables.specs.Kind.{a_schema, a_schema_kind, schema_data, Tables}
-use Rattle.openapi_tables.specs.Tables.{final_tables, tables_with, any_rows}
-use Rattle.openapi_tables.specs.Members.{sort, sort_of, sort_rows, made_optional, checked_rows, rows_of}
-use Rattle.openapi_tables.specs.Conforms.{conforms}
-use Rattle.openapi_tables.specs.Form.{Form, fields, forms_of}
-use Rattle.openapi_tables.specs.Read.{form, root_form, slot}
-use Rattle.openapi_tables.specs.Faults.{Asking, Cause, asked, causes, root_asks}
-use Rattle.openapi_tables.specs.Laws.{Among}
-use Rattle.openapi_tables.specs.Sound.{rows_apart}
-use Rattle.openapi_tables.specs.ByRow.{row_form, AreRows, rows_weight, asking, Broken}
+use Rattle.openapi_tables.specs.Prelude.{each, join, of_members, members_list, a_schema, a_schema_kind, schema_data}
+use Rattle.openapi_tables.specs.Prelude.{Tables, final_tables, tables_with, any_rows, sort, sort_of, sort_rows}
+use Rattle.openapi_tables.specs.Prelude.{made_optional, checked_rows, rows_of, conforms, Form, fields, forms_of, form}
+use Rattle.openapi_tables.specs.Prelude.{root_form, slot, Asking, Cause, asked, causes, root_asks, Among, rows_apart}
+use Rattle.openapi_tables.specs.Prelude.{row_form, AreRows, rows_weight, asking, Broken}
 use Rattle.openapi_tables.proofs.ListLaws.{each-join}
 use Rattle.openapi_tables.proofs.Taken.{trees_of-members}
 use Rattle.openapi_tables.proofs.ByRowLaws.{rows_hold, rows_weight-le}
@@ -77,6 +70,7 @@ kind_broken T ms p c b = record { kind = b.kind; tree = b.tree; is_asked = go b.
     go (inr h) = inr (among_rows (asking p b.kind b.tree) (of_members (root_asks T) ms) (T schema_data)
         (each made_optional any_rows) h)
 
+-- a refusal of an object as the kind of a schema is one of it as a schema
 pub kind_fails : (f : Fault) (ms : Members) → Fails f a_schema_kind (object ms) → Fails f a_schema (object ms)
 kind_fails f ms h = fails_moved f a_schema_kind a_schema (object ms) (object ms) (kind_broken final_tables ms) h
 
@@ -85,6 +79,7 @@ schema_apart : rows_apart (join (final_tables schema_data) optional_rows) ≡ tr
 unfolding final_tables tables_with optional_rows any_rows
 schema_apart = refl
 
+-- the rows that every schema has and those of the kind names weigh at most what the members do
 pub schema_weight-le : (ms : Members) → rows_weight (final_tables schema_data) ms + rows_weight optional_rows ms ≤
     members_size ms
 schema_weight-le ms =

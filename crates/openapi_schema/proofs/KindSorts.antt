@@ -1,30 +1,10 @@
 -- The sort of a schema, by what stands under the kind names.
-use Rattle.std.proofs.Common.{
-  ◌≡◌,
-  ℕ,
-  true,
-  false,
-  not,
-  cond,
-  List,
-  Option,
-  Some,
-  None,
-  is_some,
-  string_bytes,
-  refl,
-  sym,
-  ap,
-  ◌∙◌,
-}
+use Rattle.std.proofs.Common.{◌≡◌, ℕ, true, false, not, cond, List, Option, Some, None, is_some, string_bytes, refl}
+use Rattle.std.proofs.Common.{sym, ap, ◌∙◌}
 use Rattle.std.specs.Option.{option_map}
 use Rattle.openapi_node.specs.Tree.{Tree, Members}
-use Rattle.openapi_tables.specs.Tree.{Entry, members_list}
-use Rattle.openapi_tables.specs.Tables.{any_rows, final_tables}
-use Rattle.openapi_tables.specs.Members.{Sort, any_sort, sort_of, further}
-use Rattle.openapi_tables.specs.Form.{Form}
-use Rattle.openapi_tables.specs.Proper.{is_absent}
-use Rattle.openapi_tables.specs.ByRow.{AreRows}
+use Rattle.openapi_tables.specs.Prelude.{Entry, members_list, any_rows, final_tables, Sort, any_sort, sort_of, further}
+use Rattle.openapi_tables.specs.Prelude.{Form, is_absent, AreRows}
 use Rattle.openapi_fields.specs.Forms.{optional_form}
 use Rattle.openapi_schema_types.specs.Masks.{mask_of, presence, sort_by_names, IsType}
 use Rattle.openapi_schema.specs.RawSlots.{optional_rows}
@@ -39,12 +19,14 @@ pub flag_there : {X : Type 0} → (view : X → Form) → ((x : X) → is_absent
 flag_there view h None = refl
 flag_there view h (Some x) = sym (ap not (h x))
 
+-- the mask of what was read under the kind names is that of the names that are present
 pub mask_read : (a : FirstNames) (b : LastNames) (ms : Members) (m : ℕ)
     → AreRows final_tables optional_rows (kind_name_rows a b) ms
     → m ≡ mask_of (flags_in a b) → m ≡ mask_of (presence (members_list ms))
 mask_read a b ms m rows h =
     h ∙ ap mask_of (sym (presence-read final_tables ms (kind_name_rows a b) rows))
 
+-- the type that was read is what stands under `type`
 pub type_in : (a : FirstNames) (b : LastNames) (ms : Members) → AreRows final_tables optional_rows
     (kind_name_rows a b) ms
     → IsType (option_map string_bytes a.plain.typ) (members_list ms)
@@ -56,6 +38,7 @@ pub sort_passes : (es : List (Entry Tree)) (s : Sort) → s ≡ sort_by_names es
 sort_passes es s e h =
     sort_of-names es ∙ ap (λ x. cond (further x es) x any_sort) (sym e) ∙ ap (λ b. cond b s any_sort) h
 
+-- where the further condition of the sort that the names allow fails, there is no sort in particular
 pub sort_fails : (es : List (Entry Tree)) (s : Sort) → s ≡ sort_by_names es → further s es ≡ false → sort_of es
     ≡ any_sort
 sort_fails es s e h =

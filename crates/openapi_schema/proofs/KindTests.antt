@@ -1,57 +1,19 @@
 -- The further conditions of the sorts, by what stands under the kind names.
-use Rattle.std.proofs.Common.{
-  ◌≡◌,
-  Bool,
-  true,
-  false,
-  ◌&&◌,
-  List,
-  Option,
-  Some,
-  None,
-  Result,
-  Ok,
-  Err,
-  IfOk,
-  codes,
-  refl,
-  sym,
-  ap,
-  ◌∙◌,
-  subst,
-}
+use Rattle.std.proofs.Common.{◌≡◌, Bool, true, false, ◌&&◌, List, Option, Some, None, Result, Ok, Err, IfOk, codes}
+use Rattle.std.proofs.Common.{refl, sym, ap, ◌∙◌, subst}
 use Rattle.std.specs.Borrow.{Bor}
 use Rattle.std.specs.Global.{Vec}
 use Rattle.openapi_node.specs.Tree.{Tree, Members}
-use Rattle.openapi_tables.specs.Tree.{members_list}
-use Rattle.openapi_tables.specs.Kind.{any_tree, list_of, optional, row}
-use Rattle.openapi_tables.specs.Tables.{final_tables, any_rows}
-use Rattle.openapi_tables.specs.Members.{
-  Sort,
-  any_sort,
-  further,
-  integer_sort,
-  held,
-  entries_pass,
-  is_null_or_signed,
-}
-use Rattle.openapi_tables.specs.Form.{Form, sequence, no_forms}
-use Rattle.openapi_tables.specs.ByRow.{AreRows, RowGives}
+use Rattle.openapi_tables.specs.Prelude.{members_list, any_tree, list_of, optional, row, final_tables, any_rows, Sort}
+use Rattle.openapi_tables.specs.Prelude.{any_sort, further, integer_sort, held, entries_pass, is_null_or_signed, Form}
+use Rattle.openapi_tables.specs.Prelude.{sequence, no_forms, AreRows, RowGives}
 use Rattle.openapi_fields.specs.Forms.{optional_form}
 use Rattle.openapi_schema_types.specs.Masks.{sort_by_names}
 use Rattle.openapi_schema.specs.RawSlots.{optional_rows, or_else}
 use Rattle.openapi_schema.specs.SchemaForms.{list_form, entry_form}
 use Rattle.openapi_schema.specs.KindNames.{kind_name_rows, trees_form}
-use Rattle.openapi_schema.specs.Kinds.{
-  IsEnumeration,
-  enumeration_slot,
-  IsKindOf,
-  IsKindBy,
-  entries_test,
-  trees_in,
-  limit_test,
-  IsKind,
-}
+use Rattle.openapi_schema.specs.Kinds.{IsEnumeration, enumeration_slot, IsKindOf, IsKindBy, entries_test, trees_in}
+use Rattle.openapi_schema.specs.Kinds.{limit_test, IsKind}
 use Rattle.openapi_schema.specs.declared.kind_names.FirstNames.{FirstNames}
 use Rattle.openapi_schema.specs.declared.kind_names.LastNames.{LastNames}
 use Rattle.openapi_node.specs.declared.fault.Fault.{Fault}
@@ -99,6 +61,7 @@ passes_by s a b k h g = λ ms rows e.
     let P : Sort → Type 0 = λ x. IsKindOf x k a b in
     subst P (sym (sort_passes (members_list ms) s e (h ms rows))) g
 
+-- a kind of no sort in particular, where the further condition of the sort that the names allow fails
 pub fails_by : (s : Sort) (a : FirstNames) (b : LastNames) (r : Result SchemaKind Fault)
     → ((ms : Members) → AreRows final_tables optional_rows (kind_name_rows a b) ms → further s (members_list ms)
     ≡ false)
@@ -114,6 +77,7 @@ pub chosen_kind : (s : Sort) (a : FirstNames) (b : LastNames) (k : SchemaKind)
     → IsKindBy s k a b → IsKind k a b
 chosen_kind s a b k h g = λ ms rows. g ms rows (h ms rows)
 
+-- a kind of no sort in particular, where the names allow no other
 pub chosen_any : (a : FirstNames) (b : LastNames) (r : Result SchemaKind Fault)
     → ((ms : Members) → AreRows final_tables optional_rows (kind_name_rows a b) ms → any_sort ≡ sort_by_names
     (members_list ms))

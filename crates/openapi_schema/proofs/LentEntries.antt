@@ -1,15 +1,10 @@
 -- The entries of an enumeration, which are kept as trees.
-use Rattle.std.proofs.Common.{◌≡◌, ℕ, ◌+◌, ◌*◌, ◌<◌, ◌≤◌, true, ◌&&◌, List, [], ◌∷◌, Option, Some, None, Result, Ok, Err}
-use Rattle.std.proofs.Common.{IfOk, refl, ap, arith}
+use Rattle.std.proofs.Common.{◌≡◌, ℕ, ◌+◌, ◌*◌, ◌<◌, ◌≤◌, true, ◌&&◌, List, [], ◌∷◌, Option, Some, None, Result, Ok}
+use Rattle.std.proofs.Common.{Err, IfOk, refl, ap, arith}
 use Rattle.std.specs.Borrow.{Bor}
 use Rattle.openapi_node.specs.Tree.{Tree, list, items_of, items_size, size_of}
 use Rattle.openapi_node.specs.declared.fault.Fault.{Fault}
-use Rattle.openapi_tables.specs.Lists.{each, every}
-use Rattle.openapi_tables.specs.Kind.{any_tree, list_of}
-use Rattle.openapi_tables.specs.Tables.{final_tables}
-use Rattle.openapi_tables.specs.Conforms.{conforms}
-use Rattle.openapi_tables.specs.Form.{leaf}
-use Rattle.openapi_tables.specs.Read.{form}
+use Rattle.openapi_tables.specs.Prelude.{each, every, any_tree, list_of, final_tables, conforms, leaf, form}
 use Rattle.openapi_tables.proofs.ByRowLaws.{any_conforms, any_form}
 use Rattle.openapi_fields.specs.Presence.{AtMember}
 use Rattle.openapi_fields.proofs.Elements.{list_gives}
@@ -25,6 +20,7 @@ all_leaves : (ts : List Tree) → each (form final_tables any_tree) ts ≡ each 
 all_leaves [] = refl
 all_leaves (t ∷ ts) = λ i. any_form final_tables t i ∷ all_leaves ts i
 
+-- a list of any trees conforms, and its form holds them as they are
 pub trees_read : (ts : List Tree) → (conforms final_tables (list_of any_tree) (list (items_of ts)) ≡ true)
     × (form final_tables (list_of any_tree) (list (items_of ts)) ≡ trees_form ts)
 trees_read ts = list_gives any_tree ts (each leaf ts) (all_conform ts) (all_leaves ts)

@@ -1,31 +1,13 @@
 -- The forms of values that hold schemas, by the forms of their fields.
 use Rattle.std.proofs.Common.{◌≡◌, List, ◌∷◌, ◌∙◌, sym, rules}
-use Rattle.openapi_tables.specs.Lists.{join}
-use Rattle.openapi_tables.specs.Form.{Form, absent, fields, forms_of}
-use Rattle.openapi_tables.specs.Members.{sort, string_sort, number_sort, integer_sort, boolean_sort}
-use Rattle.openapi_tables.specs.Members.{object_sort, array_sort}
+use Rattle.openapi_tables.specs.Prelude.{join, Form, absent, fields, forms_of, sort, string_sort, number_sort}
+use Rattle.openapi_tables.specs.Prelude.{integer_sort, boolean_sort, object_sort, array_sort}
 use Rattle.openapi_schema.specs.Fields.{object_fields, array_fields, any_fields}
-use Rattle.openapi_schema.specs.SchemaForms.{
-  Sorted,
-  additional_step,
-  schema_kind_step,
-  schema_type_step,
-  any_schema_step,
-  array_type_step,
-  object_type_step,
-  schema_step,
-  schema_form,
-  schema_kind_rows,
-  schema_type_rows,
-  object_type_rows,
-  array_type_rows,
-  any_schema_rows,
-  schema_data_rows,
-  string_type_rows,
-  number_type_rows,
-  integer_type_rows,
-  boolean_type_rows,
-}
+use Rattle.openapi_schema.specs.SchemaForms.{Sorted, additional_step, schema_kind_step, schema_type_step}
+use Rattle.openapi_schema.specs.SchemaForms.{any_schema_step, array_type_step, object_type_step, schema_step}
+use Rattle.openapi_schema.specs.SchemaForms.{schema_form, schema_kind_rows, schema_type_rows, object_type_rows}
+use Rattle.openapi_schema.specs.SchemaForms.{array_type_rows, any_schema_rows, schema_data_rows, string_type_rows}
+use Rattle.openapi_schema.specs.SchemaForms.{number_type_rows, integer_type_rows, boolean_type_rows}
 use Rattle.openapi_schema.specs.declared.any_schema.AnySchema.{AnySchema, out-AnySchema}
 use Rattle.openapi_schema.specs.declared.composite_types.ArrayType.{ArrayType, out-ArrayType}
 use Rattle.openapi_schema.specs.declared.composite_types.ObjectType.{ObjectType, out-ObjectType}
@@ -35,13 +17,9 @@ use Rattle.openapi_schema_types.specs.declared.integer_type.IntegerType.{Integer
 use Rattle.openapi_schema_types.specs.declared.number_type.NumberType.{NumberType}
 use Rattle.openapi_schema_types.specs.declared.string_type.StringType.{StringType}
 use Rattle.openapi_schema.specs.declared.schema.AdditionalProperties.{the_lemmas}
-use Rattle.openapi_schema.specs.declared.schema.AdditionalProperties.TheFolds.{
-  fold_out-AnySchema,
-  fold_out-ArrayType,
-  fold_out-ObjectType,
-  fold_out-Schema,
-  fold-roll-Schema,
-}
+use Rattle.openapi_schema.specs.declared.schema.AdditionalProperties.TheFolds.{fold_out-AnySchema, fold_out-ArrayType}
+use Rattle.openapi_schema.specs.declared.schema.AdditionalProperties.TheFolds.{fold_out-ObjectType, fold_out-Schema}
+use Rattle.openapi_schema.specs.declared.schema.AdditionalProperties.TheFolds.{fold-roll-Schema}
 use Rattle.openapi_schema.specs.declared.schema.Schema.{Schema, out-Schema, roll-Schema}
 use Rattle.openapi_schema.specs.declared.schema.SchemaKind.{SchemaKind}
 use Rattle.openapi_schema.specs.declared.schema.SchemaKind.TheVariants as kind
@@ -49,23 +27,29 @@ use Rattle.openapi_schema.specs.declared.schema.SchemaType.TheVariants as typ
 use Rattle.openapi_schema.proofs.AnyForms.{any_rows-level}
 use Rattle.openapi_schema.proofs.KindForms.{array_rows-level, object_rows-level}
 
+-- the type of a text: its sort, an absent slot for `type`, and the slots of its rows
 pub string_rows-type : (x : StringType) → schema_type_rows (typ.String x) ≡ (string_sort, absent ∷ string_type_rows x)
 string_rows-type x = search (rules, the_lemmas)
 
+-- the type of a number: its sort, an absent slot for `type`, and the slots of its rows
 pub number_rows-type : (x : NumberType) → schema_type_rows (typ.Number x) ≡ (number_sort, absent ∷ number_type_rows x)
 number_rows-type x = search (rules, the_lemmas)
 
+-- the type of a whole number: its sort, an absent slot for `type`, and the slots of its rows
 pub integer_rows-type : (x : IntegerType)
     → schema_type_rows (typ.Integer x) ≡ (integer_sort, absent ∷ integer_type_rows x)
 integer_rows-type x = search (rules, the_lemmas)
 
+-- the type of a flag: its sort, an absent slot for `type`, and the slot of its row
 pub boolean_rows-type : (x : BooleanType)
     → schema_type_rows (typ.Boolean x) ≡ (boolean_sort, absent ∷ boolean_type_rows x)
 boolean_rows-type x = search (rules, the_lemmas)
 
+-- the type of an object: its sort, an absent slot for `type`, and the slots of its rows
 pub object_rows-type : (x : ObjectType) → schema_type_rows (typ.Object x) ≡ (object_sort, absent ∷ object_type_rows x)
 object_rows-type x = search (rules, the_lemmas)
 
+-- the type of an array: its sort, an absent slot for `type`, and the slots of its rows
 pub array_rows-type : (x : ArrayType) → schema_type_rows (typ.Array x) ≡ (array_sort, absent ∷ array_type_rows x)
 array_rows-type x = search (rules, the_lemmas)
 
@@ -76,12 +60,14 @@ object_rows-out x =
     schema_type_step any_schema_step array_type_step object_type_step schema_step x
     ∙ object_rows-level (out-ObjectType x)
 
+-- the rows of an array are the forms of its fields
 pub array_rows-out : (x : ArrayType) → array_type_rows x ≡ array_fields x
 array_rows-out x =
     fold_out-ArrayType Form Sorted Sorted (List Form) (List Form) (List Form) Form additional_step schema_kind_step
     schema_type_step any_schema_step array_type_step object_type_step schema_step x
     ∙ array_rows-level (out-ArrayType x)
 
+-- the rows of a schema of no sort in particular are the forms of its fields
 pub any_rows-out : (x : AnySchema) → any_schema_rows x ≡ any_fields x
 any_rows-out x =
     fold_out-AnySchema Form Sorted Sorted (List Form) (List Form) (List Form) Form additional_step schema_kind_step

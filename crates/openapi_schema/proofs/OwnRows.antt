@@ -1,19 +1,15 @@
 -- What the rows of a type that holds schemas read, by its own table.
-use Rattle.std.proofs.Common.{◌≡◌, ◌+◌, Bool, true, false, ◌&&◌, cond, List, [], ◌∷◌, refl, sym, ◌∙◌, subst, codes, arith, inl, inr}
+use Rattle.std.proofs.Common.{◌≡◌, ◌+◌, Bool, true, false, ◌&&◌, cond, List, [], ◌∷◌, refl, sym, ◌∙◌, subst, codes}
+use Rattle.std.proofs.Common.{arith, inl, inr}
 use Rattle.openapi_node.specs.Place.{Place}
 use Rattle.openapi_node.specs.Tree.{object, Members}
 use Rattle.openapi_node.specs.declared.fault.Fault.{Fault}
-use Rattle.openapi_tables.specs.Conforms.{skips_null}
-use Rattle.openapi_tables.specs.Faults.{Asking, Asks, Cause, asked, asks_own, asks_row, asks_rows, root_asks}
-use Rattle.openapi_tables.specs.Form.{Form}
-use Rattle.openapi_tables.specs.Kind.{object_type, array_type, any_schema, by, a_schema_kind, any_tree, list_of, listed}
-use Rattle.openapi_tables.specs.Kind.{optional, Row, row, either, class, constant}
-use Rattle.openapi_tables.specs.Laws.{Among}
-use Rattle.openapi_tables.specs.Lists.{each, join}
-use Rattle.openapi_tables.specs.Members.{checked_rows, is_null, made_optional, own}
-use Rattle.openapi_tables.specs.Tables.{final_tables, tables_with, any_rows}
-use Rattle.openapi_tables.specs.ByRow.{AreRows, Broken, RowGives, asking, row_weight, rows_weight}
-use Rattle.openapi_tables.specs.Tree.{Entry, of_members}
+use Rattle.openapi_tables.specs.Prelude.{skips_null, Asking, Asks, Cause, asked, asks_own, asks_row, asks_rows}
+use Rattle.openapi_tables.specs.Prelude.{root_asks, Form, by, a_schema_kind, any_tree, list_of, listed, optional, Row}
+use Rattle.openapi_tables.specs.Prelude.{row, Among, each, join, checked_rows, is_null, made_optional, own}
+use Rattle.openapi_tables.specs.Prelude.{final_tables, tables_with, any_rows, AreRows, Broken, RowGives, asking}
+use Rattle.openapi_tables.specs.Prelude.{row_weight, rows_weight, Entry, of_members}
+use Rattle.openapi_tables.specs.Kind.{object_type, array_type, any_schema}
 use Rattle.openapi_tables.proofs.ByRowLaws.{among_left, among_right}
 use Rattle.openapi_fields.specs.Returned.{Fails}
 use Rattle.openapi_fields.specs.Forms.{text_form, optional_form, map_form, flag_form, size_form, list_form}
@@ -69,6 +65,7 @@ any_last_read : (e : Form) (b : LastNames) (ms : Members)
 unfolding any_rest any_last final_tables tables_with any_rows
 any_last_read e b ms g h = (h.0, (h.1.0, (h.1.1.0, (h.1.1.1.0, (g, h.1.1.1.1)))))
 
+-- what the rows of both halves and that of `enum` read is what the table of such a schema reads
 pub any_read : (a : FirstNames) (e : Form) (b : LastNames) (x : AnySchema) (ms : Members)
     → any_fields x ≡ join (any_first_rows a) (any_last_rows e b)
     → AreRows final_tables any_first (any_first_rows a) ms
@@ -80,6 +77,7 @@ any_read a e b x ms same h g k =
     (subst (λ fs. AreRows final_tables (join any_first any_last) fs ms) (sym same)
     (rows_join final_tables any_first any_last (any_first_rows a) (any_last_rows e b) ms h (any_last_read e b ms g k)))
 
+-- the table weighs what its first half, the row of `enum` and the rest of the last half weigh
 pub any_weight : (ms : Members) → rows_weight (final_tables any_schema) ms
     ≡ rows_weight any_first ms + row_weight (row (codes "enum") listed (list_of any_tree)) ms
     + rows_weight any_rest ms
@@ -105,9 +103,7 @@ row_asked x es (row n m k) h = go (own (row n m k) es) h
     go : (l : List (Entry Asks)) → Among x (asks_own (row n optional k) l) → Among x (asks_own (row n m k) l)
     go [] h = h
     go (e ∷ l) h = skipped x _ (skips_null m) (is_null e.value.tree) h
-row_asked x es (either a j b k) h = h
-row_asked x es (class c k) h = h
-row_asked x es (constant n v) h = h
+row_asked x es w h = h
 
 rows_asked : (x : Asking) (es : List (Entry Asks)) (ws : List Row) → Among x (asks_rows es (each made_optional ws))
     → Among x (asks_rows es ws)
@@ -126,5 +122,6 @@ any_broken ms p c b = record { kind = b.kind; tree = b.tree; is_asked = go b.is_
     go (inl e) = absurd (none_broken final_tables c (asking p b.kind b.tree) _ _ refl e b.breaks)
     go (inr h) = inr (rows_asked (asking p b.kind b.tree) (of_members (root_asks final_tables) ms) any_rows h)
 
+-- a refusal of an object as the kind of a schema is one of it as a schema of no sort in particular
 pub any_fails : (f : Fault) (ms : Members) → Fails f a_schema_kind (object ms) → Fails f (by any_schema) (object ms)
 any_fails f ms h = fails_moved f a_schema_kind (by any_schema) (object ms) (object ms) (any_broken ms) h

@@ -1,10 +1,9 @@
 -- The rows of each half of the kind names: those of one text, number or flag, and the others.
 use Rattle.std.proofs.Common.{◌≡◌, ◌+◌, codes, arith}
 use Rattle.openapi_node.specs.Tree.{Members}
-use Rattle.openapi_tables.specs.Kind.{any_text, any_tree, flag_or_schema, ref_to, list_of, map_of, a_schema}
-use Rattle.openapi_tables.specs.Kind.{optional, row}
-use Rattle.openapi_tables.specs.Tables.{final_tables, any_rows}
-use Rattle.openapi_tables.specs.ByRow.{AreRows, RowGives, rows_weight, row_weight}
+use Rattle.openapi_tables.specs.Prelude.{any_text, any_tree, flag_or_schema, ref_to, list_of, map_of, a_schema}
+use Rattle.openapi_tables.specs.Prelude.{optional, row, final_tables, any_rows, AreRows, RowGives, rows_weight}
+use Rattle.openapi_tables.specs.Prelude.{row_weight}
 use Rattle.openapi_fields.specs.Forms.{optional_form, list_form, map_form, text_form}
 use Rattle.openapi_schema.specs.KindNames.{first_rows, last_rows, trees_form}
 use Rattle.openapi_schema.specs.PlainNames.{plain_first, plain_first_rows, plain_last, plain_last_rows}
@@ -117,6 +116,7 @@ last_whole b ms h i e o a n t = (
   ),
 )
 
+-- the last half weighs what its rows of one text, number or flag and the six others weigh
 pub last_weight : (ms : Members) → rows_weight last_optional ms
     ≡ rows_weight plain_last ms + row_weight (row (codes "items") optional (ref_to a_schema)) ms
     + row_weight (row (codes "enum") optional (list_of any_tree)) ms

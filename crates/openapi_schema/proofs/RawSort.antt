@@ -1,57 +1,15 @@
 -- The sort of a schema, by what the optional rows of the kind names read.
-use Rattle.std.proofs.Common.{
-  ◌≡◌,
-  ℕ,
-  ℤ,
-  Bool,
-  true,
-  false,
-  not,
-  cond,
-  ◌&&◌,
-  ◌||◌,
-  List,
-  [],
-  ◌∷◌,
-  Option,
-  Some,
-  None,
-  codes,
-  refl,
-  sym,
-  ap,
-  ◌∙◌,
-  String,
-  string_bytes,
-}
+use Rattle.std.proofs.Common.{◌≡◌, ℕ, ℤ, Bool, true, false, not, cond, ◌&&◌, ◌||◌, List, [], ◌∷◌, Option, Some, None}
+use Rattle.std.proofs.Common.{codes, refl, sym, ap, ◌∙◌, String, string_bytes}
 use Rattle.std.specs.Option.{option_map}
 use Rattle.std.specs.declared.alloc.Global.{Global}
-use Rattle.openapi_node.specs.Tree.{Tree, null, flag, whole, text, list, object, Items, no_items, item, Members}
-use Rattle.openapi_tables.specs.Lists.{each, every, has}
-use Rattle.openapi_tables.specs.Tree.{Entry, Seen, items_list, members_list, of_items}
-use Rattle.openapi_tables.specs.Kind.{Kind, any_text, any_tree, number, unlimited, list_of, optional, Row, row, Tables}
-use Rattle.openapi_tables.specs.Tables.{any_rows}
-use Rattle.openapi_tables.specs.Members.{
-  Sort,
-  any_sort,
-  sort_of,
-  possible_sort,
-  further,
-  held,
-  is_null,
-  is_present,
-  is_null_or_signed,
-  entries_pass,
-  allowed,
-  kind_names,
-  row_name,
-  made_optional,
-}
-use Rattle.openapi_tables.specs.Conforms.{conforms}
-use Rattle.openapi_tables.specs.Form.{Form, absent, leaf, forms_of}
-use Rattle.openapi_tables.specs.Read.{form, root_form}
-use Rattle.openapi_tables.specs.Proper.{is_absent}
-use Rattle.openapi_tables.specs.ByRow.{RowGives, AreRows}
+use Rattle.openapi_node.specs.Tree.{Tree, null, whole, text, list, Items, no_items, item, Members}
+use Rattle.openapi_tables.specs.Prelude.{each, every, has, Entry, Seen, items_list, members_list, of_items, Kind}
+use Rattle.openapi_tables.specs.Prelude.{any_text, any_tree, number, unlimited, list_of, optional, Row, row, Tables}
+use Rattle.openapi_tables.specs.Prelude.{any_rows, Sort, any_sort, sort_of, possible_sort, further, held, is_null}
+use Rattle.openapi_tables.specs.Prelude.{is_present, is_null_or_signed, entries_pass, allowed, kind_names, row_name}
+use Rattle.openapi_tables.specs.Prelude.{made_optional, conforms, Form, absent, leaf, forms_of, form, root_form}
+use Rattle.openapi_tables.specs.Prelude.{is_absent, RowGives, AreRows}
 use Rattle.openapi_tables.proofs.ByRowLaws.{any_form}
 use Rattle.openapi_fields.specs.Forms.{optional_form, text_form}
 use Rattle.openapi_schema_types.specs.Masks.{presence, IsType, sort_by_names}
@@ -88,14 +46,11 @@ text_read : (T : Tables) (t : Tree) (o : Option (String Global)) → (is_null t 
     → held (codes "type") n ≡ t
     → IsType (option_map string_bytes o) n
 text_read T null None h e n u = u
-text_read T null (Some s) h e n u = cc
-text_read T (text x) None h e n u = cc
 text_read T (text x) (Some s) h e n u = let same : x ≡ string_bytes s = cc in u ∙ ap text same
-text_read T (flag b) o h e n u = cc
-text_read T (whole z) o h e n u = cc
-text_read T (list ts) o h e n u = cc
-text_read T (object ms) o h e n u = cc
+text_read T t (Some s) h e n u = cc
+text_read T t o h e n u = cc
 
+-- what the row of `type` reads is what stands under that name
 pub type_read : (T : Tables) (ms : Members) (o : Option (String Global))
     → RowGives T (row (codes "type") optional any_text) ms (optional_form text_form o)
     → IsType (option_map string_bytes o) (members_list ms)
@@ -147,17 +102,14 @@ entries_read : (T : Tables) (p : Tree → Bool) (t : Tree) (o : Option (List Tre
     → cond (is_null t) absent (form T (list_of any_tree) t) ≡ optional_form trees_form o → entries_pass p t
     ≡ entries_test p o
 entries_read T p null None h e = refl
-entries_read T p null (Some ts) h e = cc
-entries_read T p (list xs) None h e = cc
 entries_read T p (list xs) (Some ts) h e =
     let inside : forms_of (each (λ (x : Seen (Kind → Form)). x.answer any_tree) (of_items (root_form T) xs))
     ≡ forms_of (each leaf ts) = cc in
     ap (every p) (leaves_inj (items_list xs) ts (sym (items_leaves T xs) ∙ forms_inj _ (each leaf ts) inside))
-entries_read T p (flag b) o h e = cc
-entries_read T p (whole z) o h e = cc
-entries_read T p (text s) o h e = cc
-entries_read T p (object ms) o h e = cc
+entries_read T p t (Some ts) h e = cc
+entries_read T p t o h e = cc
 
+-- the entries under `enum` pass a test exactly where those that its row reads do
 pub enumeration_read : (T : Tables) (ms : Members) (p : Tree → Bool) (o : Option (List Tree))
     → RowGives T (row (codes "enum") optional (list_of any_tree)) ms (optional_form trees_form o)
     → entries_pass p (held (codes "enum") (members_list ms)) ≡ entries_test p o
@@ -171,14 +123,11 @@ number_read : (T : Tables) (t : Tree) (o : Option ℤ) → (is_null t || conform
     → cond (is_null t) absent (form T (number unlimited) t) ≡ optional_form number_form o → is_null_or_signed t
     ≡ limit_test o
 number_read T null None h e = refl
-number_read T null (Some z) h e = cc
-number_read T (whole y) None h e = cc
 number_read T (whole y) (Some z) h e = let same : y ≡ z = cc in ap (λ x. is_null_or_signed (whole x)) same
-number_read T (flag b) o h e = cc
-number_read T (text s) o h e = cc
-number_read T (list ts) o h e = cc
-number_read T (object ms) o h e = cc
+number_read T t (Some z) h e = cc
+number_read T t o h e = cc
 
+-- what stands under a name is null or fits 64 bits with sign exactly where the limit read there does
 pub limit_read : (T : Tables) (ms : Members) (n : List ℕ) (o : Option ℤ)
     → RowGives T (row n optional (number unlimited)) ms (optional_form number_form o)
     → is_null_or_signed (held n (members_list ms)) ≡ limit_test o

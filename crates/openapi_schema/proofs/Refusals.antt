@@ -11,15 +11,10 @@ use Rattle.openapi_node.specs.declared.fault.Fault.{Fault}
 use Rattle.openapi_node.specs.declared.node.Node.{Node}
 use Rattle.openapi_node.specs.declared.node.View.{View}
 use Rattle.openapi_node.specs.declared.node.View.TheVariants as v
-use Rattle.openapi_tables.specs.Kind.{by, ref_to, flag_or_schema, a_schema, a_schema_kind, schema_data}
-use Rattle.openapi_tables.specs.Tables.{final_tables, tables_with, any_rows}
-use Rattle.openapi_tables.specs.Tree.{of_members, an_object}
-use Rattle.openapi_tables.specs.Lists.{each}
-use Rattle.openapi_tables.specs.Members.{checked_rows, made_optional}
-use Rattle.openapi_tables.specs.Read.{tree_of_root}
-use Rattle.openapi_tables.specs.Faults.{Asking, Cause, asked, causes, root_asks, asks_rows, wrong_kind}
-use Rattle.openapi_tables.specs.Laws.{Among}
-use Rattle.openapi_tables.specs.ByRow.{asking, Broken}
+use Rattle.openapi_tables.specs.Prelude.{by, ref_to, flag_or_schema, a_schema, a_schema_kind, schema_data, final_tables}
+use Rattle.openapi_tables.specs.Prelude.{tables_with, any_rows, of_members, an_object, each, checked_rows}
+use Rattle.openapi_tables.specs.Prelude.{made_optional, tree_of_root, Asking, Cause, asked, causes, root_asks}
+use Rattle.openapi_tables.specs.Prelude.{asks_rows, wrong_kind, Among, asking, Broken}
 use Rattle.openapi_tables.proofs.ByRowLaws.{among_left}
 use Rattle.openapi_tables.proofs.TreeLaws.{tree_of_root-seen}
 use Rattle.openapi_fields.specs.Returned.{Fails}
@@ -58,6 +53,7 @@ data_broken ms p c b = record { kind = b.kind; tree = b.tree; is_asked = go b.is
         (among_left (asking p b.kind b.tree) (asks_rows (of_members (root_asks final_tables) ms)
         (final_tables schema_data)) _ h))
 
+-- a refusal of what every schema can say is one of the schema
 pub data_fails : (f : Fault) (ms : Members) → Fails f (by schema_data) (object ms) → Fails f a_schema (object ms)
 data_fails f ms h = fails_moved f (by schema_data) a_schema (object ms) (object ms) (data_broken ms) h
 
@@ -65,31 +61,21 @@ data_fails f ms h = fails_moved f (by schema_data) a_schema (object ms) (object 
 pub not_flag_or_object : (w : View) → ((b : Bool) → w ≡ v.Flag b → ⊥)
     → ((m : Bor (OrderedMap Node)) → w ≡ v.Object m → ⊥)
     → Among (wrong_kind words.FlagOrObject) (causes final_tables flag_or_schema (shown w))
-not_flag_or_object v.Null g h = inl refl
 not_flag_or_object (v.Flag b) g h = absurd (g b refl)
-not_flag_or_object (v.Whole z) g h = inl refl
-not_flag_or_object (v.Text s) g h = inl refl
-not_flag_or_object (v.List ts) g h = inl refl
 not_flag_or_object (v.Object m) g h = absurd (h m refl)
+not_flag_or_object w g h = inl refl
 
 -- a look that shows no object, where a schema or the kind of one is asked
 pub not_schema : (w : View) → ((m : Bor (OrderedMap Node)) → w ≡ v.Object m → ⊥)
     → Among (wrong_kind words.Object) (causes final_tables a_schema (shown w))
-not_schema v.Null h = inl refl
-not_schema (v.Flag b) h = inl refl
-not_schema (v.Whole z) h = inl refl
-not_schema (v.Text s) h = inl refl
-not_schema (v.List ts) h = inl refl
 not_schema (v.Object m) h = absurd (h m refl)
+not_schema w h = inl refl
 
+-- a look that shows no object, where the kind of a schema is asked
 pub not_schema_kind : (w : View) → ((m : Bor (OrderedMap Node)) → w ≡ v.Object m → ⊥)
     → Among (wrong_kind words.Object) (causes final_tables a_schema_kind (shown w))
-not_schema_kind v.Null h = inl refl
-not_schema_kind (v.Flag b) h = inl refl
-not_schema_kind (v.Whole z) h = inl refl
-not_schema_kind (v.Text s) h = inl refl
-not_schema_kind (v.List ts) h = inl refl
 not_schema_kind (v.Object m) h = absurd (h m refl)
+not_schema_kind w h = inl refl
 
 -- and where a reference to a schema may stand too
 pub not_object_fails : (f : Fault) (w : View) → ((m : Bor (OrderedMap Node)) → w ≡ v.Object m → ⊥)

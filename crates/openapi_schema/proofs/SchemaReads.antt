@@ -1,38 +1,12 @@
 -- A schema by its parts: what is read of them, and how much they look at.
-use Rattle.std.proofs.Common.{
-  ◌≡◌,
-  ◌+◌,
-  ◌*◌,
-  ◌≤◌,
-  ℕ,
-  List,
-  Option,
-  Some,
-  None,
-  option_map,
-  Result,
-  Ok,
-  Err,
-  IfOk,
-  IfErr,
-  refl,
-  sym,
-  ap,
-  ◌∙◌,
-  subst,
-  arith,
-  rules,
-}
+use Rattle.std.proofs.Common.{◌≡◌, ◌+◌, ◌*◌, ◌≤◌, ℕ, List, Option, Some, None, option_map, Result, Ok, Err, IfOk, IfErr}
+use Rattle.std.proofs.Common.{refl, sym, ap, ◌∙◌, subst, arith, rules}
 use Rattle.std.specs.Global.{Box}
 use Rattle.openapi_node.specs.Fault.{IsMemory}
 use Rattle.openapi_node.specs.Tree.{flag, object, Members}
 use Rattle.openapi_node.specs.declared.fault.Fault.{Fault}
-use Rattle.openapi_tables.specs.Lists.{join}
-use Rattle.openapi_tables.specs.Kind.{a_schema, a_schema_kind, schema_data}
-use Rattle.openapi_tables.specs.Tables.{final_tables, any_rows}
-use Rattle.openapi_tables.specs.Members.{sort}
-use Rattle.openapi_tables.specs.Form.{Form, leaf, fields, forms_of}
-use Rattle.openapi_tables.specs.ByRow.{AreRows, rows_weight}
+use Rattle.openapi_tables.specs.Prelude.{join, a_schema, a_schema_kind, schema_data, final_tables, any_rows, sort, Form}
+use Rattle.openapi_tables.specs.Prelude.{leaf, fields, forms_of, AreRows, rows_weight}
 use Rattle.openapi_fields.specs.Returned.{ReadAs, Reads}
 use Rattle.openapi_fields.proofs.Below.{memory_fails}
 use Rattle.openapi_values.specs.Reference.{reference_form}
@@ -43,22 +17,19 @@ use Rattle.openapi_schema.specs.Kinds.{IsKind, entries_left, entries_weight, tre
 use Rattle.openapi_schema.specs.Present.{additional_level}
 use Rattle.openapi_schema.specs.RawSlots.{optional_rows}
 use Rattle.openapi_schema.specs.Reading.{KindReadAs, first_optional, last_optional, outer_box_form, schema_kind_form}
-use Rattle.openapi_schema.specs.SchemaForms.{Sorted, additional_step, schema_kind_step, schema_type_step, any_schema_step, array_type_step, object_type_step, schema_step, schema_form, additional_form, schema_kind_rows, schema_data_rows}
+use Rattle.openapi_schema.specs.SchemaForms.{Sorted, additional_step, schema_kind_step, schema_type_step}
+use Rattle.openapi_schema.specs.SchemaForms.{any_schema_step, array_type_step, object_type_step, schema_step}
+use Rattle.openapi_schema.specs.SchemaForms.{schema_form, additional_form, schema_kind_rows, schema_data_rows}
 use Rattle.openapi_schema.specs.declared.kind_names.FirstNames.{FirstNames}
 use Rattle.openapi_schema.specs.declared.kind_names.LastNames.{LastNames}
 use Rattle.openapi_schema.specs.declared.schema.AdditionalProperties.{the_lemmas}
 use Rattle.openapi_schema.specs.declared.schema.AdditionalProperties.TheVariants as additional
 use Rattle.openapi_schema.specs.declared.schema.AdditionalProperties.TheViews.{roll-AdditionalProperties}
-use Rattle.openapi_schema.specs.declared.schema.AdditionalProperties.TheBlock.{
-  the_data,
-  the_data-1,
-  the_data-2,
-  the_data-3,
-  the_data-4,
-  the_data-5,
-  the_data-6,
-}
-use Rattle.openapi_schema.specs.declared.schema.AdditionalProperties.TheFolds.{fold-roll-AdditionalProperties, fold-roll-Schema}
+use Rattle.openapi_schema.specs.declared.schema.AdditionalProperties.TheBlock.{the_data, the_data-1, the_data-2}
+use Rattle.openapi_schema.specs.declared.schema.AdditionalProperties.TheBlock.{the_data-3, the_data-4, the_data-5}
+use Rattle.openapi_schema.specs.declared.schema.AdditionalProperties.TheBlock.{the_data-6}
+use Rattle.openapi_schema.specs.declared.schema.AdditionalProperties.TheFolds.{fold-roll-AdditionalProperties}
+use Rattle.openapi_schema.specs.declared.schema.AdditionalProperties.TheFolds.{fold-roll-Schema}
 use Rattle.openapi_schema.specs.declared.schema.AdditionalProperties.TheOpen.{AdditionalProperties-F, Schema-F}
 use Rattle.openapi_schema.specs.declared.schema.Schema.{Schema, roll-Schema}
 use Rattle.openapi_schema.specs.declared.schema.SchemaKind.{SchemaKind}
@@ -71,6 +42,7 @@ halves : join first_optional last_optional ≡ optional_rows
 unfolding first_optional last_optional optional_rows any_rows
 halves = refl
 
+-- what the rows of both halves read is what the rows of all kind names read
 pub names_rows : (a : FirstNames) (b : LastNames) (ms : Members) → AreRows final_tables first_optional (first_rows a) ms
     → AreRows final_tables last_optional (last_rows b) ms
     → AreRows final_tables optional_rows (kind_name_rows a b) ms
@@ -78,6 +50,7 @@ names_rows a b ms h k =
     subst (λ ws. AreRows final_tables ws (kind_name_rows a b) ms) halves
     (rows_join final_tables first_optional last_optional (first_rows a) (last_rows b) ms h k)
 
+-- the rows of all kind names weigh what those of both halves weigh
 pub names_weight : (ms : Members) → rows_weight optional_rows ms
     ≡ rows_weight first_optional ms + rows_weight last_optional ms
 names_weight ms =
@@ -109,6 +82,7 @@ kind_reads k ms h =
     let g = kind_gives final_tables h.0 ms h.1 in
     (g.0, g.1 ∙ ap (λ (s : Sorted). fields (sort s.0) (forms_of s.1)) (sym h.2))
 
+-- the kind that was read of some members, or the refusal, is what is read of their object
 pub kind_given : (r : Result SchemaKind Fault) (ms : Members) → KindReadAs r ms
     → ReadAs schema_kind_form r a_schema_kind (object ms)
 kind_given (Ok k) ms h = kind_reads k ms h
@@ -123,6 +97,7 @@ schema_form-roll d =
     fold-roll-Schema Form Sorted Sorted (List Form) (List Form) (List Form) Form additional_step schema_kind_step
     schema_type_step any_schema_step array_type_step object_type_step schema_step d
 
+-- a schema that is made of what was read of its parts is read of the object
 pub schema_reads : (d : Schema-F the_data the_data-1 the_data-2 the_data-3 the_data-4 the_data-5 the_data-6)
     (ms : Members)
     → AreRows final_tables (final_tables schema_data) (schema_data_rows d.schema_data) ms
@@ -144,6 +119,7 @@ additional_box : (b : Box (ReferenceOr Schema)) (x : ReferenceOr Schema)
 additional_box b (r.Reference s) = refl
 additional_box b (r.Item x) = refl
 
+-- where other members are to be of a schema, the form is that of the schema or reference
 pub additional-schema : (b : Box (ReferenceOr Schema)) → additional_form (additional.Schema b) ≡ outer_box_form b
 unfolding roll-AdditionalProperties roll
 additional-schema b =

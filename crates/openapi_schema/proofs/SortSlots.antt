@@ -1,91 +1,21 @@
 -- The rows of a sort read what the optional rows of the kind names read.
-use Rattle.std.proofs.Common.{
-  ◌≡◌,
-  ℕ,
-  Bool,
-  true,
-  false,
-  cond,
-  ◌&&◌,
-  ◌||◌,
-  List,
-  [],
-  ◌∷◌,
-  Option,
-  Some,
-  None,
-  refl,
-  sym,
-  ap,
-  ◌∙◌,
-  subst,
-}
+use Rattle.std.proofs.Common.{◌≡◌, ℕ, Bool, true, false, cond, ◌&&◌, ◌||◌, List, [], ◌∷◌, Option, Some, None, refl, sym}
+use Rattle.std.proofs.Common.{ap, ◌∙◌, subst}
 use Rattle.std.proofs.lemmas.Bool.{and_parts}
-use Rattle.openapi_node.specs.Tree.{
-  Tree,
-  null,
-  flag,
-  whole,
-  text,
-  list,
-  object,
-  Items,
-  no_items,
-  item,
-  Members,
-  no_members,
-  member,
-}
-use Rattle.openapi_tables.specs.Lists.{each, every, same_text}
-use Rattle.openapi_tables.specs.Tree.{
-  Seen,
-  Shape,
-  a_null,
-  a_flag,
-  a_whole,
-  a_text,
-  a_list,
-  an_object,
-  of_items,
-  of_members,
-  members_list,
-}
-use Rattle.openapi_tables.specs.Kind.{
-  Kind,
-  any_text,
-  any_flag,
-  number,
-  any_tree,
-  format,
-  null_or,
-  list_of,
-  map_of,
-  ref_to,
-  flag_or_schema,
-  a_schema,
-  Mode,
-  required,
-  optional,
-  listed,
-  flagged,
-  formatted,
-  Row,
-  row,
-  either,
-  class,
-  constant,
-  Tables,
-}
-use Rattle.openapi_tables.specs.Tables.{any_rows, string_rows, object_rows, array_rows, boolean_rows}
-use Rattle.openapi_tables.specs.Members.{Sort, sort_rows, kind_names, row_name, held, is_null}
-use Rattle.openapi_tables.specs.Conforms.{conforms}
-use Rattle.openapi_tables.specs.Form.{Form, absent, unset, leaf, sequence, named, forms_of, named_of, name}
-use Rattle.openapi_tables.specs.Read.{form, root_form, tree_of_root, default_of, empty_of, pairs_as}
-use Rattle.openapi_tables.specs.Proper.{is_absent}
-use Rattle.openapi_tables.specs.Sound.{sorts}
-use Rattle.openapi_tables.specs.ByRow.{is_named, row_where, row_form, RowGives, AreRows}
+use Rattle.openapi_node.specs.Tree.{Tree, null, flag, whole, text, list, object, Items, no_items, item, Members}
+use Rattle.openapi_node.specs.Tree.{no_members, member}
+use Rattle.openapi_tables.specs.Prelude.{each, every, same_text, Seen, Shape, a_null, a_flag, a_whole, a_text, a_list}
+use Rattle.openapi_tables.specs.Prelude.{an_object, of_items, of_members, members_list, Kind, any_text, any_flag}
+use Rattle.openapi_tables.specs.Prelude.{number, any_tree, format, null_or, list_of, map_of, ref_to, flag_or_schema}
+use Rattle.openapi_tables.specs.Prelude.{a_schema, Mode, required, optional, listed, flagged, formatted, Row, row}
+use Rattle.openapi_tables.specs.Prelude.{either, class, constant, Tables, any_rows, string_rows, object_rows}
+use Rattle.openapi_tables.specs.Prelude.{array_rows, boolean_rows, Sort, sort_rows, kind_names, row_name, held, is_null}
+use Rattle.openapi_tables.specs.Prelude.{conforms, Form, absent, unset, leaf, sequence, named, forms_of, named_of, name}
+use Rattle.openapi_tables.specs.Prelude.{form, root_form, tree_of_root, default_of, pairs_as, is_absent, sorts}
+use Rattle.openapi_tables.specs.Prelude.{is_named, row_where, row_form, RowGives, AreRows}
+use Rattle.openapi_tables.specs.Read.{empty_of}
 use Rattle.openapi_tables.proofs.ListLaws.{same_text_eq}
-use Rattle.openapi_tables.proofs.ReadAgain.{sort_in}
+use Rattle.openapi_tables.proofs.again.ReadAgain.{sort_in}
 use Rattle.openapi_tables.proofs.TreeLaws.{tree_of_root-seen}
 use Rattle.openapi_schema.specs.RawSlots.{optional_rows, or_else, as_format, slot_as, slot_of, sort_slots}
 use Rattle.openapi_schema_types.proofs.HeldRows.{form_there, conforms_held, form_held}
@@ -108,10 +38,7 @@ bare_root T (a_whole z) (null_or k) h = bare_root T (a_whole z) k h
 bare_root T (a_text s) (null_or k) h = bare_root T (a_text s) k h
 bare_root T (a_list xs) (null_or k) h = bare_root T (a_list xs) k h
 bare_root T (an_object es) (null_or k) h = bare_root T (an_object es) k h
-bare_root T s any_text h = refl
-bare_root T s any_flag h = refl
-bare_root T s (number w) h = refl
-bare_root T s any_tree h = refl
+bare_root T s any_text h = cc
 bare_root T s k h = cc
 
 bare_form : (T : Tables) (k : Kind) (t : Tree) → is_bare k ≡ true → form T k t ≡ leaf t
@@ -207,10 +134,7 @@ format_value : (T : Tables) (ws : List (List ℕ)) (t : Tree) → (is_null t || 
     → cond (is_null t) unset (form T (format ws true) t) ≡ as_format ws (cond (is_null t) absent (form T any_text t))
 format_value T ws null h = refl
 format_value T ws (text s) h = refl
-format_value T ws (flag b) h = cc
-format_value T ws (whole z) h = cc
-format_value T ws (list ts) h = cc
-format_value T ws (object ms) h = cc
+format_value T ws t h = cc
 
 at : (T : Tables) (a n : List ℕ) (k : Kind) (ms : Members) (f : Form) → a ≡ n → RowGives T (row n optional k) ms f
     → RowGives T (row a optional k) ms f
@@ -244,7 +168,6 @@ is_plain w = false
 rows_at : (T : Tables) (ms : Members) (ws : List Row) (fs : List Form) (n : List ℕ) (w : Row) → every is_plain ws ≡ true
     → AreRows T ws fs ms → row_where (is_named n) ws ≡ Some w → RowGives T w ms (slot_of (each row_name ws) fs n)
 unfolding is_plain
-rows_at T ms [] fs n w p r h = cc
 rows_at T ms (row a m k ∷ ws) [] n w p r h = absurd r
 rows_at T ms (row a m k ∷ ws) (f ∷ fs) n w p r h = go (rows_at T ms ws fs n w p r.1) (same_text a n) refl
   where
@@ -255,9 +178,8 @@ rows_at T ms (row a m k ∷ ws) (f ∷ fs) n w p r h = go (rows_at T ms ws fs n 
         let P : Row → Type 0 = λ x. RowGives T x ms (cond (same_text a n) f (slot_of (each row_name ws) fs n)) in
         subst P here (rw e r.0)
     go more false e = rw e (more (ap (λ b. cond b (Some (row a m k)) (row_where (is_named n) ws)) (sym e) ∙ h))
-rows_at T ms (either a j b k ∷ ws) fs n w p r h = cc
-rows_at T ms (class c k ∷ ws) fs n w p r h = cc
-rows_at T ms (constant a v ∷ ws) fs n w p r h = cc
+rows_at T ms [] fs n w p r h = cc
+rows_at T ms ws fs n w p r h = cc
 
 -- whether the optional row of a row's name has a kind that fits
 found_fits : Row → Option Row → Bool

@@ -2,9 +2,8 @@
 use Rattle.std.proofs.Common.{◌≡◌, ℕ, zero, suc, true, List, ◌++◌, Option, Some, None, refl, ap, ◌∙◌}
 use Rattle.openapi_map.specs.Entries.{Entries}
 use Rattle.openapi_node.specs.Tree.{Tree}
-use Rattle.openapi_tables.specs.Lists.{join}
-use Rattle.openapi_tables.specs.Tables.{final_tables}
-use Rattle.openapi_tables.specs.Slots.{Slot, slots_apart, slots_print, slots_lost, taken, all_taken, IsWritten}
+use Rattle.openapi_tables.specs.Prelude.{join, final_tables, Slot, slots_apart, slots_print, slots_lost, taken}
+use Rattle.openapi_tables.specs.Prelude.{all_taken, IsWritten}
 use Rattle.openapi_tables.proofs.ListLaws.{join_assoc}
 use Rattle.openapi_fields.specs.Writing.{AreNew}
 use Rattle.openapi_fields.proofs.JoinedSlots.{new_behind, written_behind}

@@ -1,9 +1,6 @@
 -- The slots of a kind that has no `type`.
 use Rattle.std.proofs.Common.{◌≡◌, ℕ, List, [], ◌∷◌, refl, sym, subst}
-use Rattle.openapi_tables.specs.Kind.{Kind, Mode, Row, row}
-use Rattle.openapi_tables.specs.Members.{Sort, sort_rows}
-use Rattle.openapi_tables.specs.Form.{Form}
-use Rattle.openapi_tables.specs.Slots.{slots}
+use Rattle.openapi_tables.specs.Prelude.{Kind, Mode, Row, row, Sort, sort_rows, Form, slots}
 use Rattle.openapi_schema.specs.SchemaForms.{Sorted}
 use Rattle.openapi_schema.specs.Writing.{sorted_slots, untagged}
 

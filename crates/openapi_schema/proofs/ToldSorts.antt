@@ -1,56 +1,14 @@
 -- The sorts that one name alone tells: the name is there.
-use Rattle.std.proofs.Common.{
-  ◌≡◌,
-  Bool,
-  true,
-  false,
-  not,
-  ℕ,
-  cond,
-  ◌||◌,
-  List,
-  Some,
-  None,
-  Option,
-  codes,
-  refl,
-  sym,
-  ap,
-  ◌∙◌,
-  true≢false,
-  unwrap_or,
-}
+use Rattle.std.proofs.Common.{◌≡◌, Bool, true, false, not, ℕ, cond, ◌||◌, List, Some, None, Option, codes, refl, sym}
+use Rattle.std.proofs.Common.{ap, ◌∙◌, true≢false, unwrap_or}
 use Rattle.std.specs.Global.{Vec}
-use Rattle.openapi_node.specs.Tree.{Tree, null, flag, whole, text, list, object, Members}
-use Rattle.openapi_tables.specs.Lists.{every, has, same_text}
-use Rattle.openapi_tables.specs.Tree.{Entry, members_list}
-use Rattle.openapi_tables.specs.Kind.{Kind, optional, row}
-use Rattle.openapi_tables.specs.Tables.{final_tables}
-use Rattle.openapi_tables.specs.Members.{
-  Sort,
-  string_sort,
-  number_sort,
-  integer_sort,
-  boolean_sort,
-  object_sort,
-  array_sort,
-  one_of_sort,
-  all_of_sort,
-  any_of_sort,
-  not_sort,
-  any_sort,
-  allowed,
-  held,
-  is_null,
-  is_present,
-  kind_names,
-  possible_sort,
-}
-use Rattle.openapi_tables.specs.Form.{Form}
-use Rattle.openapi_tables.specs.ByRow.{RowGives}
-use Rattle.openapi_tables.specs.Proper.{is_absent}
-use Rattle.openapi_fields.specs.Forms.{optional_form}
-use Rattle.openapi_fields.specs.Forms.{list_form}
+use Rattle.openapi_node.specs.Tree.{Tree, null, text, object, Members}
+use Rattle.openapi_tables.specs.Prelude.{every, has, same_text, Entry, members_list, Kind, optional, row, final_tables}
+use Rattle.openapi_tables.specs.Prelude.{Sort, string_sort, number_sort, integer_sort, boolean_sort, object_sort}
+use Rattle.openapi_tables.specs.Prelude.{array_sort, one_of_sort, all_of_sort, any_of_sort, not_sort, any_sort, allowed}
+use Rattle.openapi_tables.specs.Prelude.{held, is_null, is_present, kind_names, possible_sort, Form, RowGives}
+use Rattle.openapi_tables.specs.Prelude.{is_absent}
+use Rattle.openapi_fields.specs.Forms.{optional_form, list_form}
 use Rattle.openapi_schema_types.specs.Masks.{sort_by_names}
 use Rattle.openapi_schema_types.proofs.HeldRows.{absent_held}
 
@@ -94,10 +52,7 @@ module _ (es : List (Entry Tree)) where
       (is_present es (codes "not")) (same_text s (codes "string")) (same_text s (codes "number"))
       (same_text s (codes "integer")) (same_text s (codes "boolean")) (same_text s (codes "object"))
       (same_text s (codes "array"))
-  possible_told (flag b) = refl
-  possible_told (whole z) = refl
-  possible_told (list ts) = refl
-  possible_told (object ms) = refl
+  possible_told t = refl
 
   named_told : told_in (sort_by_names es) ≡ true
   unfolding sort_by_names
@@ -116,15 +71,19 @@ told_there view n k ms o e r h =
     absent_held final_tables n k ms (optional_form view o) r ∙ ap (λ x. is_absent (optional_form view x)) e in
     true≢false (sym h ∙ ap not gone)
 
+-- where the names allow the sort of `oneOf`, that name is present
 pub one_of_told : (es : List (Entry Tree)) → one_of_sort ≡ sort_by_names es → is_present es (codes "oneOf") ≡ true
 one_of_told es e = ap (told_in es) e ∙ named_told es
 
+-- where the names allow the sort of `allOf`, that name is present
 pub all_of_told : (es : List (Entry Tree)) → all_of_sort ≡ sort_by_names es → is_present es (codes "allOf") ≡ true
 all_of_told es e = ap (told_in es) e ∙ named_told es
 
+-- where the names allow the sort of `anyOf`, that name is present
 pub any_of_told : (es : List (Entry Tree)) → any_of_sort ≡ sort_by_names es → is_present es (codes "anyOf") ≡ true
 any_of_told es e = ap (told_in es) e ∙ named_told es
 
+-- where the names allow the sort of `not`, that name is present
 pub not_told : (es : List (Entry Tree)) → not_sort ≡ sort_by_names es → is_present es (codes "not") ≡ true
 not_told es e = ap (told_in es) e ∙ named_told es
 

@@ -3,47 +3,30 @@ use Rattle.std.proofs.Common.{◌≡◌, [], ◌∷◌, Option, String, ap}
 use Rattle.std.specs.declared.alloc.Global.{Global}
 use Rattle.openapi_map.specs.Entries.{Entries, IsCloneOf}
 use Rattle.openapi_node.specs.Tree.{Tree}
-use Rattle.openapi_tables.specs.Form.{Form, leaf, fields, forms_of}
-use Rattle.openapi_tables.specs.Members.{plain}
-use Rattle.openapi_fields.specs.Forms.{text_form, flag_form, number_form, size_form, optional_form}
-use Rattle.openapi_fields.specs.Forms.{extensions_form}
+use Rattle.openapi_tables.specs.Prelude.{Form, leaf, fields, forms_of, plain}
+use Rattle.openapi_fields.specs.Forms.{text_form, flag_form, number_form, size_form, optional_form, extensions_form}
 use Rattle.openapi_values.specs.Words.{number_format_word, integer_format_word, string_format_word}
 use Rattle.openapi_schema_annotations.specs.Objects.{external_documentation_rows, discriminator_rows, xml_rows}
 use Rattle.openapi_schema_annotations.specs.declared.discriminator.Discriminator.{Discriminator}
 use Rattle.openapi_schema_annotations.specs.declared.external_documentation.ExternalDocumentation.{ExternalDocumentation}
 use Rattle.openapi_schema_annotations.specs.declared.xml.Xml.{Xml}
 use Rattle.openapi_schema_types.specs.Enumerations.{text_tree, number_tree, signed_tree, flag_tree}
-use Rattle.openapi_schema.specs.SchemaForms.{
-  entry_form,
-  schema_data_rows,
-  string_type_rows,
-  number_type_rows,
-  integer_type_rows,
-  boolean_type_rows,
-}
+use Rattle.openapi_schema.specs.SchemaForms.{entry_form, schema_data_rows, string_type_rows, number_type_rows}
+use Rattle.openapi_schema.specs.SchemaForms.{integer_type_rows, boolean_type_rows}
 use Rattle.openapi_schema_types.specs.declared.boolean_type.BooleanType.{BooleanType}
 use Rattle.openapi_schema_types.specs.declared.integer_type.IntegerType.{IntegerType}
 use Rattle.openapi_schema_types.specs.declared.number_type.NumberType.{NumberType}
 use Rattle.openapi_schema_types.specs.declared.string_type.StringType.{StringType}
 use Rattle.openapi_schema_types.specs.declared.schema_data.SchemaData.{SchemaData}
-use Rattle.openapi_fields.proofs.CloneForms.{
-  IsSame,
-  IsTextClone,
-  IsOptionClone,
-  IsListClone,
-  IsVariantClone,
-  text-clone,
-  variant-clone,
-  optional-clone,
-  nullable-clone,
-  list-clone,
-  map-clone,
-}
+use Rattle.openapi_fields.proofs.CloneForms.{IsSame, IsTextClone, IsOptionClone, IsListClone, IsVariantClone}
+use Rattle.openapi_fields.proofs.CloneForms.{text-clone, variant-clone, optional-clone, nullable-clone, list-clone}
+use Rattle.openapi_fields.proofs.CloneForms.{map-clone}
 
 -- what is the same has the same form
 same-clone : {X : Type 0} (view : X → Form) (x y : X) → IsSame x y → view y ≡ view x
 same-clone view x y h = ap view h
 
+-- a clone of a text that may be missing has the form of it
 pub texts-clone : (a b : Option (String Global)) → IsOptionClone IsTextClone a b
     → optional_form text_form b ≡ optional_form text_form a
 texts-clone = optional-clone IsTextClone text_form text-clone
@@ -68,6 +51,7 @@ IsStringClone x y =
     × (IsListClone (IsOptionClone IsTextClone) x.enumeration y.enumeration
     × (IsOptionClone IsSame x.min_length y.min_length × IsOptionClone IsSame x.max_length y.max_length)))
 
+-- a clone of the type of a text has the forms of it
 pub string-clone : (x y : StringType) → IsStringClone x y → string_type_rows y ≡ string_type_rows x
 string-clone x y h =
     λ i. variant-clone string_format_word x.format y.format h.0 i
@@ -88,6 +72,7 @@ IsNumberClone x y =
     × (IsOptionClone IsSame x.maximum y.maximum
     × IsListClone (IsOptionClone IsSame) x.enumeration y.enumeration)))))
 
+-- a clone of the type of a number has the forms of it
 pub number-clone : (x y : NumberType) → IsNumberClone x y → number_type_rows y ≡ number_type_rows x
 number-clone x y h =
     λ i. variant-clone number_format_word x.format y.format h.0 i
@@ -110,6 +95,7 @@ IsIntegerClone x y =
     × (IsOptionClone IsSame x.maximum y.maximum
     × IsListClone (IsOptionClone IsSame) x.enumeration y.enumeration)))))
 
+-- a clone of the type of a whole number has the forms of it
 pub integer-clone : (x y : IntegerType) → IsIntegerClone x y → integer_type_rows y ≡ integer_type_rows x
 integer-clone x y h =
     λ i. variant-clone integer_format_word x.format y.format h.0 i
@@ -125,6 +111,7 @@ integer-clone x y h =
 abbrev pub IsBooleanClone : BooleanType → BooleanType → Type 0
 IsBooleanClone x y = IsListClone (IsOptionClone IsSame) x.enumeration y.enumeration
 
+-- a clone of the type of a flag has the form of it
 pub boolean-clone : (x y : BooleanType) → IsBooleanClone x y → boolean_type_rows y ≡ boolean_type_rows x
 boolean-clone x y h =
     λ i. list-clone (IsOptionClone IsSame) (entry_form flag_tree) (entry-clone flag_tree) x.enumeration y.enumeration
@@ -189,6 +176,7 @@ IsDataClone x y =
     × (IsOptionClone IsSame x.default y.default
     × (IsOptionClone IsXmlClone x.xml y.xml × IsCloneOf IsSame x.extensions y.extensions))))))))))
 
+-- a clone of what every schema can say has the forms of it
 pub data-clone : (x y : SchemaData) → IsDataClone x y → schema_data_rows y ≡ schema_data_rows x
 data-clone x y h =
     λ i. flag_form (h.0 i)

@@ -3,55 +3,24 @@ use Rattle.std.proofs.Common.{◌≡◌, ℕ, true, List, [], ◌∷◌, ◌++�
 use Rattle.openapi_map.specs.Entries.{Entries}
 use Rattle.openapi_node.specs.Tree.{Tree, object, members_of}
 use Rattle.openapi_node.specs.declared.fault.Fault.{Fault}
-use Rattle.openapi_tables.specs.Kind.{constant}
-use Rattle.openapi_tables.specs.Lists.{join}
-use Rattle.openapi_tables.specs.Tables.{final_tables, tables_with, schema_type}
-use Rattle.openapi_tables.specs.Members.{case_rows, is_case, sort_rows}
-use Rattle.openapi_tables.specs.Form.{Form, absent}
-use Rattle.openapi_tables.specs.Print.{print}
-use Rattle.openapi_tables.specs.Unwritable.{unwritable}
-use Rattle.openapi_tables.specs.Slots.{slots, slots_apart, slots_lost, IsWritten}
+use Rattle.openapi_tables.specs.Prelude.{constant, join, final_tables, tables_with, case_rows, is_case, sort_rows, Form}
+use Rattle.openapi_tables.specs.Prelude.{absent, print, unwritable, slots, slots_apart, slots_lost, IsWritten}
+use Rattle.openapi_tables.specs.Tables.{schema_type}
 use Rattle.openapi_tables.proofs.SlotWriting.{none_written}
 use Rattle.openapi_fields.specs.Forms.{tagged_slots}
 use Rattle.openapi_fields.specs.Returned.{NotWritable}
 use Rattle.openapi_fields.proofs.Tagging.{tagged_apart, tagged_loses, tagged_writes}
-use Rattle.openapi_schema.specs.SchemaForms.{
-  Sorted,
-  additional_step,
-  schema_kind_step,
-  schema_type_step,
-  any_schema_step,
-  array_type_step,
-  object_type_step,
-  schema_step,
-  schema_form,
-  additional_form,
-  schema_kind_rows,
-  schema_type_rows,
-  object_type_rows,
-  array_type_rows,
-  any_schema_rows,
-}
-use Rattle.openapi_schema.specs.TypeForms.{
-  type_cases,
-  sort_word,
-  behind_tag,
-  schema_type_word,
-  schema_type_fields,
-  schema_type_form,
-  schema_type_sound,
-}
+use Rattle.openapi_schema.specs.SchemaForms.{Sorted, additional_step, schema_kind_step, schema_type_step}
+use Rattle.openapi_schema.specs.SchemaForms.{any_schema_step, array_type_step, object_type_step, schema_step}
+use Rattle.openapi_schema.specs.SchemaForms.{schema_form, additional_form, schema_kind_rows, schema_type_rows}
+use Rattle.openapi_schema.specs.SchemaForms.{object_type_rows, array_type_rows, any_schema_rows}
+use Rattle.openapi_schema.specs.TypeForms.{type_cases, sort_word, behind_tag, schema_type_word, schema_type_fields}
+use Rattle.openapi_schema.specs.TypeForms.{schema_type_form, schema_type_sound}
 use Rattle.openapi_fields.specs.Writing.{AreNew}
 use Rattle.openapi_schema.specs.Writing.{sorted_slots, tag_members, tag_slots, type_slots, untagged}
-use Rattle.openapi_schema.specs.declared.schema.AdditionalProperties.TheBlock.{
-  the_data,
-  the_data-1,
-  the_data-2,
-  the_data-3,
-  the_data-4,
-  the_data-5,
-  the_data-6,
-}
+use Rattle.openapi_schema.specs.declared.schema.AdditionalProperties.TheBlock.{the_data, the_data-1, the_data-2}
+use Rattle.openapi_schema.specs.declared.schema.AdditionalProperties.TheBlock.{the_data-3, the_data-4, the_data-5}
+use Rattle.openapi_schema.specs.declared.schema.AdditionalProperties.TheBlock.{the_data-6}
 use Rattle.openapi_schema.specs.declared.schema.AdditionalProperties.TheFolds.{fold_out-SchemaType, map-SchemaType}
 use Rattle.openapi_schema.specs.declared.schema.AdditionalProperties.TheOpen.{SchemaType-F}
 use Rattle.openapi_schema.specs.declared.schema.SchemaType.{SchemaType, out-SchemaType}
@@ -77,11 +46,7 @@ step_typed : (d : SchemaType-F the_data the_data-1 the_data-2 the_data-3 the_dat
     → IsTyped (schema_type_step (level d))
 unfolding sort_rows final_tables tables_with
 step_typed (SchemaType-F.String x) = (refl, refl)
-step_typed (SchemaType-F.Number x) = (refl, refl)
-step_typed (SchemaType-F.Integer x) = (refl, refl)
-step_typed (SchemaType-F.Object x) = (refl, refl)
-step_typed (SchemaType-F.Array x) = (refl, refl)
-step_typed (SchemaType-F.Boolean x) = (refl, refl)
+step_typed d = (refl, refl)
 
 is_typed : (t : SchemaType) → IsTyped (schema_type_rows t)
 is_typed t =

@@ -5,19 +5,13 @@ use Rattle.openapi_map.specs.Entries.{Entries}
 use Rattle.openapi_node.specs.Place.{Place}
 use Rattle.openapi_node.specs.Tree.{Tree, object, members_of}
 use Rattle.openapi_node.specs.declared.fault.Fault.{Fault}
-use Rattle.openapi_tables.specs.Lists.{join, every}
-use Rattle.openapi_tables.specs.Tree.{members_of as of_list}
-use Rattle.openapi_tables.specs.Kind.{a_schema, a_schema_kind, schema_data}
-use Rattle.openapi_tables.specs.Tables.{final_tables, tables_with}
-use Rattle.openapi_tables.specs.Members.{Choice, Sort, sort, rows_of, sort_rows}
-use Rattle.openapi_tables.specs.Form.{Form, fields, forms_of}
-use Rattle.openapi_tables.specs.Print.{print, face_print, rows_print}
-use Rattle.openapi_tables.specs.Unwritable.{unwritable, face_lost, rows_lost}
-use Rattle.openapi_tables.specs.Sound.{rows_apart, row_sound}
-use Rattle.openapi_tables.specs.Laws.{Among}
-use Rattle.openapi_tables.specs.Slots.{Slot, slots, slots_apart, slots_print, slots_lost, untied, IsWritten}
+use Rattle.openapi_tables.specs.Prelude.{join, every, members_of as of_list, a_schema, a_schema_kind, schema_data}
+use Rattle.openapi_tables.specs.Prelude.{final_tables, tables_with, Choice, Sort, sort, rows_of, sort_rows, Form}
+use Rattle.openapi_tables.specs.Prelude.{fields, forms_of, print, face_print, rows_print, unwritable, face_lost}
+use Rattle.openapi_tables.specs.Prelude.{rows_lost, rows_apart, row_sound, Among, Slot, slots, slots_apart, slots_print}
+use Rattle.openapi_tables.specs.Prelude.{slots_lost, untied, IsWritten}
 use Rattle.openapi_tables.proofs.FormLaws.{of_forms-of}
-use Rattle.openapi_tables.proofs.ObjectBack.{schema_sound}
+use Rattle.openapi_tables.proofs.again.ObjectsBack.{schema_sound}
 use Rattle.openapi_tables.proofs.SlotLists.{members_untied, slots_apart-rows, slots_lost-rows, slots_print-rows}
 use Rattle.openapi_tables.proofs.WellMade.{final_sound}
 use Rattle.openapi_fields.specs.Forms.{record_slots}
@@ -46,6 +40,7 @@ schema_lost c fs =
     let ws = rows_of final_tables a_schema c in
     ap (λ l. rows_lost ws l) (of_forms-of (face_lost final_tables) fs) ∙ slots_lost-rows final_tables ws fs
 
+-- the kind of a schema by itself is written as the slots of its rows
 pub kind_print : (c : Choice) (fs : List Form) → print final_tables a_schema_kind (fields c (forms_of fs))
     ≡ object (members_of (untied (slots_print final_tables (slots (rows_of final_tables a_schema_kind c) fs))))
 kind_print c fs =
@@ -54,6 +49,7 @@ kind_print c fs =
     ∙ ap (λ l. object (of_list l)) (slots_print-rows final_tables ws fs)
     ∙ ap object (members_untied (slots_print final_tables (slots ws fs)))
 
+-- and it loses what these slots lose
 pub kind_lost : (c : Choice) (fs : List Form) → unwritable final_tables a_schema_kind (fields c (forms_of fs))
     ≡ slots_lost final_tables (slots (rows_of final_tables a_schema_kind c) fs)
 kind_lost c fs =
@@ -61,7 +57,6 @@ kind_lost c fs =
     ap (λ l. rows_lost ws l) (of_forms-of (face_lost final_tables) fs) ∙ slots_lost-rows final_tables ws fs
 
 -- the slots of a schema are those of what every schema can say, and those of its kind
-
 split : (d : SchemaData) (s : Sort) (fs : List Form)
     → slots (rows_of final_tables a_schema (sort s)) (join (schema_data_rows d) fs)
     ≡ join (record_slots schema_data schema_data_rows d) (slots (sort_rows s) fs)

@@ -5,17 +5,11 @@ use Rattle.openapi_map.specs.Entries.{Entries}
 use Rattle.openapi_node.specs.Place.{Place}
 use Rattle.openapi_node.specs.Tree.{Tree, object, members_of}
 use Rattle.openapi_node.specs.declared.fault.Fault.{Fault}
-use Rattle.openapi_tables.specs.Kind.{Row, row, either, class, constant, a_schema, a_schema_kind}
-use Rattle.openapi_tables.specs.Lists.{every, join}
-use Rattle.openapi_tables.specs.Tables.{final_tables}
-use Rattle.openapi_tables.specs.Members.{Sort, sort, rows_of, sort_rows}
-use Rattle.openapi_tables.specs.Sound.{rows_apart, row_sound}
-use Rattle.openapi_tables.specs.Print.{print}
-use Rattle.openapi_tables.specs.Unwritable.{unwritable}
-use Rattle.openapi_tables.specs.Laws.{Among}
-use Rattle.openapi_tables.specs.Slots.{Slot, slots_apart, slots_lost, slots_print, untied, IsWritten}
+use Rattle.openapi_tables.specs.Prelude.{Row, constant, a_schema, a_schema_kind, every, join, final_tables, Sort, sort}
+use Rattle.openapi_tables.specs.Prelude.{rows_of, sort_rows, rows_apart, row_sound, print, unwritable, Among, Slot}
+use Rattle.openapi_tables.specs.Prelude.{slots_apart, slots_lost, slots_print, untied, IsWritten}
 use Rattle.openapi_tables.proofs.ByRowLaws.{among_right}
-use Rattle.openapi_tables.proofs.ObjectBack.{sort_sound}
+use Rattle.openapi_tables.proofs.again.ObjectsBack.{sort_sound}
 use Rattle.openapi_tables.proofs.SlotLists.{slots_apart-rows}
 use Rattle.openapi_tables.proofs.SlotWriting.{none_written}
 use Rattle.openapi_tables.proofs.WellMade.{final_sound}
@@ -34,11 +28,10 @@ use Rattle.openapi_schema.proofs.WholeSchemas.{first, second, its_lost, kind_los
 row_loses : (w : Row) (s : Slot) (ss : List Slot) (q : Place) → s.0 ≡ w
     → Among q (slots_lost final_tables (untagged_from w s ss)) → Among q (slots_lost final_tables (s ∷ ss))
 unfolding slots_lost
-row_loses (row n m k) s ss q e h = h
-row_loses (either a j b k) s ss q e h = h
-row_loses (class c k) s ss q e h = h
 row_loses (constant n v) s ss q e h = among_right q _ (slots_lost final_tables ss) h
+row_loses w s ss q e h = h
 
+-- what slots lose without the `type` at their head they lose with it
 pub untagged_loses : (ss : List Slot) (q : Place) → Among q (slots_lost final_tables (untagged ss))
     → Among q (slots_lost final_tables ss)
 untagged_loses [] q h = h

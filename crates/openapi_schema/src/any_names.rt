@@ -15,14 +15,14 @@ use crate::any_schema::AnySchema;
 use crate::kind_names::{FirstNames, LastNames};
 use crate::plain_names::{read_plain_first, read_plain_last};
 use openapi_fields::{optional, or_implied};
-use openapi_node::{Fault, Node, OrderedMap, Steps};
+use openapi_node::{Fault, Members, Node, OrderedMap, Steps};
 use std::alloc::Global;
 
 /// Reads the first twelve rows of a schema of no sort in particular. A list or a map that is missing is an empty one.
 #[tactic(auto, unfolding(openapi_tables::specs::Tables::final_tables, openapi_tables::specs::Tables::tables_with, openapi_tables::specs::Tables::any_rows, crate::specs::KindNames::any_first, crate::specs::PlainNames::plain_first, crate::specs::Reading::first_optional, crate::specs::RawSlots::optional_rows))]
 pub(crate) fn read_any_first(
     alloc: Global,
-    members: &OrderedMap<Node>,
+    members: &Members,
     steps: &mut Steps,
 ) -> Result<FirstNames, Fault>
     ensures reads { PartReadAs any_first_rows result (by any_schema) any_first (members_of members.now) }
@@ -49,7 +49,7 @@ pub(crate) fn read_any_first(
 #[tactic(auto, unfolding(openapi_tables::specs::Tables::final_tables, openapi_tables::specs::Tables::tables_with, openapi_tables::specs::Tables::any_rows, crate::specs::KindNames::any_last, crate::specs::KindNames::any_rest, crate::specs::PlainNames::plain_last, crate::specs::Reading::last_optional, crate::specs::RawSlots::optional_rows))]
 pub(crate) fn read_any_rest(
     alloc: Global,
-    members: &OrderedMap<Node>,
+    members: &Members,
     steps: &mut Steps,
 ) -> Result<LastNames<'static>, Fault>
     ensures reads { PartReadAs any_rest_rows result (by any_schema) any_rest (members_of members.now) }

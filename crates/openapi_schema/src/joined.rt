@@ -18,7 +18,7 @@ use crate::kind_names::{FirstNames, LastNames};
 use crate::schema::{Schema, SchemaKind};
 use crate::schema_kind::schema_kind;
 use openapi_fields::{Record, as_item};
-use openapi_node::{Fault, Node, OrderedMap, Steps};
+use openapi_node::{Fault, Members, Node, Steps};
 use openapi_schema_types::SchemaData;
 use openapi_values::ReferenceOr;
 use std::alloc::Global;
@@ -45,7 +45,7 @@ pub(crate) fn kind_with(
 #[inline(never)]
 pub(crate) fn schema_with(
     alloc: Global,
-    members: &OrderedMap<Node>,
+    members: &Members,
     kind: Result<SchemaKind, Fault>,
     steps: &mut Steps,
 ) -> Result<Schema, Fault>
@@ -70,7 +70,7 @@ pub(crate) fn schema_with(
 #[inline(never)]
 pub(crate) fn item_with(
     alloc: Global,
-    members: &OrderedMap<Node>,
+    members: &Members,
     kind: Result<SchemaKind, Fault>,
     steps: &mut Steps,
 ) -> Result<ReferenceOr<Schema>, Fault>

@@ -17,7 +17,7 @@ ghost use Rattle.openapi_schema.specs.declared.schema.Schema.{out-Schema};
 
 use crate::schema::{Schema, SchemaKind, SchemaType};
 use openapi_fields::{append, put};
-use openapi_node::{Fault, Node, OrderedMap};
+use openapi_node::{Fault, Members, Node, OrderedMap};
 use openapi_schema_types::TypeName;
 use openapi_values::Word;
 use std::alloc::Global;
@@ -60,9 +60,9 @@ fn kind_word(kind: &SchemaKind) -> Option<&'static str>
 /// Puts a `type`, where there is one, and the other members of its kind behind it. Err only for want of memory.
 pub(crate) fn put_tagged(
     alloc: Global,
-    out: &mut OrderedMap<Node>,
+    out: &mut Members,
     word: Option<&'static str>,
-    rows: OrderedMap<Node>,
+    rows: Members,
 ) -> Result<(), Fault>
     requires tag { AreNew (tag_members (option_map (λ w. w.now) word)) out.old }
     requires rows { AreNew rows (out.old ++ tag_members (option_map (λ w. w.now) word)) }
@@ -85,8 +85,8 @@ pub(crate) fn put_tagged(
 pub(crate) fn whole_schema(
     alloc: Global,
     schema: &Schema,
-    mut out: OrderedMap<Node>,
-    rows: OrderedMap<Node>,
+    mut out: Members,
+    rows: Members,
 ) -> Result<Node, Fault>
     requires data { IsWritten final_tables (record_slots kinds.schema_data schema_data_rows
         (out-Schema schema.now).schema_data) out }
@@ -98,11 +98,7 @@ pub(crate) fn whole_schema(
 }
 
 /// The kind of a schema by itself as it is written, of the members of its rows.
-pub(crate) fn whole_kind(
-    alloc: Global,
-    kind: &SchemaKind,
-    rows: OrderedMap<Node>,
-) -> Result<Node, Fault>
+pub(crate) fn whole_kind(alloc: Global, kind: &SchemaKind, rows: Members) -> Result<Node, Fault>
     requires { IsWritten final_tables (untagged (kind_slots kind.now)) rows }
     ensures { WrittenAs kinds.a_schema_kind (schema_kind_form kind.now) result }
 {
@@ -112,11 +108,7 @@ pub(crate) fn whole_kind(
 }
 
 /// The type of a schema by itself as it is written, of the members of its rows.
-pub(crate) fn whole_type(
-    alloc: Global,
-    typ: &SchemaType,
-    rows: OrderedMap<Node>,
-) -> Result<Node, Fault>
+pub(crate) fn whole_type(alloc: Global, typ: &SchemaType, rows: Members) -> Result<Node, Fault>
     requires { IsWritten final_tables (untagged (type_slots typ.now)) rows }
     ensures { WrittenAs schema_type (schema_type_form typ.now) result }
 {

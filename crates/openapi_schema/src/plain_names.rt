@@ -9,7 +9,7 @@ ghost use Rattle.openapi_fields.specs.Reading.{PartReadAs};
 
 use crate::kind_names::KindNames;
 use openapi_fields::optional;
-use openapi_node::{Fault, Node, OrderedMap, Steps, Whole};
+use openapi_node::{Fault, Members, Node, Steps, Whole};
 use std::alloc::Global;
 
 /// One text, number or flag under each of the first twelve names that has one, where it is not null.
@@ -42,7 +42,7 @@ pub(crate) struct PlainLast {
 #[inline(never)]
 pub(crate) fn read_plain_first(
     alloc: Global,
-    members: &OrderedMap<Node>,
+    members: &Members,
     steps: &mut Steps,
 ) -> Result<PlainFirst, Fault>
     ensures reads { PartReadAs plain_first_rows result kinds.a_schema_kind plain_first (members_of members.now) }
@@ -66,7 +66,7 @@ pub(crate) fn read_plain_first(
 #[inline(never)]
 pub(crate) fn read_plain_last(
     alloc: Global,
-    members: &OrderedMap<Node>,
+    members: &Members,
     steps: &mut Steps,
 ) -> Result<PlainLast, Fault>
     ensures reads { PartReadAs plain_last_rows result kinds.a_schema_kind plain_last (members_of members.now) }

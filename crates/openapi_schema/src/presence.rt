@@ -10,7 +10,7 @@ ghost use Rattle.openapi_schema.specs.KindNames.{trees_form};
 ghost use Rattle.openapi_schema.specs.Kinds.{entries_weight, trees_in};
 
 use openapi_fields::{as_member, present_view};
-use openapi_node::{Cause, Expected, Fault, Node, OrderedMap, Steps, View};
+use openapi_node::{Cause, Expected, Fault, Members, Node, Steps, View};
 use std::alloc::Global;
 
 /// The elements of a list, which are not looked into.
@@ -27,7 +27,7 @@ fn elements<'a>(alloc: Global, view: &View<'a>) -> Result<&'a [Node], Fault>
 /// The entries under `enum`, where it is there and not null. They are not looked into.
 pub(crate) fn lent_entries<'a>(
     alloc: Global,
-    members: &'a OrderedMap<Node>,
+    members: &'a Members,
     steps: &mut Steps,
 ) -> Result<Option<&'a [Node]>, Fault>
     ensures reads { RowReadAs (optional_form (λ nodes. trees_form nodes.now)) result kinds.a_schema_kind

@@ -25,7 +25,7 @@ use crate::schema::{AdditionalProperties, Schema, SchemaKind};
 use openapi_fields::{
     as_member, in_inner_box, in_outer_box, optional, present_view, push, put_read, read_reference,
 };
-use openapi_node::{Cause, Expected, Fault, Node, OrderedMap, Steps, View};
+use openapi_node::{Cause, Expected, Fault, Members, Node, OrderedMap, Steps, View};
 use openapi_values::ReferenceOr;
 use std::alloc::Global;
 
@@ -96,7 +96,7 @@ fn read_boxed_ref(
 #[cycle(read)]
 pub(crate) fn read_kind(
     alloc: Global,
-    members: &OrderedMap<Node>,
+    members: &Members,
     steps: &mut Steps,
 ) -> Result<SchemaKind, Fault>
     ensures reads { KindReadAs result (members_of members.now) }
@@ -112,7 +112,7 @@ pub(crate) fn read_kind(
 #[inline(never)]
 fn read_first_names(
     alloc: Global,
-    members: &OrderedMap<Node>,
+    members: &Members,
     steps: &mut Steps,
 ) -> Result<FirstNames, Fault>
     ensures reads { PartReadAs first_rows result kinds.a_schema_kind first_optional (members_of members.now) }
@@ -136,7 +136,7 @@ fn read_first_names(
 #[inline(never)]
 fn read_last_names<'a>(
     alloc: Global,
-    members: &'a OrderedMap<Node>,
+    members: &'a Members,
     steps: &mut Steps,
 ) -> Result<LastNames<'a>, Fault>
     ensures reads { PartReadAs last_rows result kinds.a_schema_kind last_optional (members_of members.now) }
@@ -166,7 +166,7 @@ fn read_last_names<'a>(
 #[cycle(read)]
 fn read_inner_box(
     alloc: Global,
-    members: &OrderedMap<Node>,
+    members: &Members,
     name: &'static str,
     steps: &mut Steps,
 ) -> Result<Option<ReferenceOr<Box<Schema>>>, Fault>
@@ -187,7 +187,7 @@ fn read_inner_box(
 #[cycle(read)]
 fn read_outer_box(
     alloc: Global,
-    members: &OrderedMap<Node>,
+    members: &Members,
     name: &'static str,
     steps: &mut Steps,
 ) -> Result<Option<Box<ReferenceOr<Schema>>>, Fault>
@@ -208,7 +208,7 @@ fn read_outer_box(
 #[cycle(read)]
 fn read_listed(
     alloc: Global,
-    members: &OrderedMap<Node>,
+    members: &Members,
     name: &'static str,
     steps: &mut Steps,
 ) -> Result<Option<Vec<ReferenceOr<Schema>>>, Fault>
@@ -269,7 +269,7 @@ fn read_refs(
 #[cycle(read)]
 fn read_properties(
     alloc: Global,
-    members: &OrderedMap<Node>,
+    members: &Members,
     steps: &mut Steps,
 ) -> Result<Option<OrderedMap<ReferenceOr<Box<Schema>>>>, Fault>
     ensures reads { RowReadAs (optional_form (map_form inner_box_form)) result kinds.a_schema_kind
@@ -305,7 +305,7 @@ fn read_properties_in(
 #[cycle(read)]
 fn read_named(
     alloc: Global,
-    members: &OrderedMap<Node>,
+    members: &Members,
     steps: &mut Steps,
 ) -> Result<OrderedMap<ReferenceOr<Box<Schema>>>, Fault>
     ensures reads { ReadAs (map_form inner_box_form) result (kinds.map_of (kinds.ref_to kinds.a_schema))
@@ -335,7 +335,7 @@ fn read_named(
 #[cycle(read)]
 fn read_additional(
     alloc: Global,
-    members: &OrderedMap<Node>,
+    members: &Members,
     steps: &mut Steps,
 ) -> Result<Option<AdditionalProperties>, Fault>
     ensures reads { RowReadAs (optional_form additional_form) result kinds.a_schema_kind

@@ -16,7 +16,7 @@ use crate::members::whole_type;
 use crate::schema::SchemaType;
 use crate::write::type_rows;
 use openapi_fields::{FromNode, Record, ToNode, tag};
-use openapi_node::{Cause, Expected, Fault, Node, OrderedMap, Steps, View};
+use openapi_node::{Cause, Expected, Fault, Members, Node, Steps, View};
 use openapi_schema_types::{BooleanType, IntegerType, NumberType, StringType, TypeName};
 use std::alloc::Global;
 
@@ -24,7 +24,7 @@ use std::alloc::Global;
 fn of_type(
     alloc: Global,
     name: TypeName,
-    members: &OrderedMap<Node>,
+    members: &Members,
     steps: &mut Steps,
 ) -> Result<SchemaType, Fault>
     ensures reads { RowsReadAs schema_type_fields result (by (table_of name)) (members_of members.now) }

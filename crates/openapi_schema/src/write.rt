@@ -21,7 +21,7 @@ use openapi_fields::{
     as_some, only_row, push, put_implied, put_optional, put_row, put_written, record_rows,
     write_reference,
 };
-use openapi_node::{Fault, Node, OrderedMap};
+use openapi_node::{Fault, Members, Node, OrderedMap};
 use openapi_values::ReferenceOr;
 use std::alloc::Global;
 
@@ -67,7 +67,7 @@ pub(crate) fn write_schema(alloc: Global, schema: &Schema) -> Result<Node, Fault
 
 /// The members that the kind of a schema is written as, but for its `type`.
 #[cycle(write)]
-pub(crate) fn kind_rows(alloc: Global, kind: &SchemaKind) -> Result<OrderedMap<Node>, Fault>
+pub(crate) fn kind_rows(alloc: Global, kind: &SchemaKind) -> Result<Members, Fault>
     ensures { RowsWritten (untagged (kind_slots kind.now)) result }
 {
     match kind {
@@ -82,7 +82,7 @@ pub(crate) fn kind_rows(alloc: Global, kind: &SchemaKind) -> Result<OrderedMap<N
 
 /// The members that a schema of a `type` is written as, but for the `type`.
 #[cycle(write)]
-pub(crate) fn type_rows(alloc: Global, typ: &SchemaType) -> Result<OrderedMap<Node>, Fault>
+pub(crate) fn type_rows(alloc: Global, typ: &SchemaType) -> Result<Members, Fault>
     ensures { RowsWritten (untagged (type_slots typ.now)) result }
 {
     match typ {
@@ -98,7 +98,7 @@ pub(crate) fn type_rows(alloc: Global, typ: &SchemaType) -> Result<OrderedMap<No
 /// The members that a schema of objects is written as, but for its `type`.
 #[cycle(write)]
 #[tactic(auto, unfolding(openapi_tables::specs::Tables::final_tables, openapi_tables::specs::Tables::tables_with, openapi_tables::specs::Tables::object_rows))]
-pub(crate) fn object_rows(alloc: Global, typ: &ObjectType) -> Result<OrderedMap<Node>, Fault>
+pub(crate) fn object_rows(alloc: Global, typ: &ObjectType) -> Result<Members, Fault>
     ensures { RowsWritten (object_slots typ.now) result }
 {
     let mut out = OrderedMap::new(alloc);
@@ -125,7 +125,7 @@ pub(crate) fn object_rows(alloc: Global, typ: &ObjectType) -> Result<OrderedMap<
 /// The members that a schema of arrays is written as, but for its `type`.
 #[cycle(write)]
 #[tactic(auto, unfolding(openapi_tables::specs::Tables::final_tables, openapi_tables::specs::Tables::tables_with, openapi_tables::specs::Tables::array_rows))]
-pub(crate) fn array_rows(alloc: Global, typ: &ArrayType) -> Result<OrderedMap<Node>, Fault>
+pub(crate) fn array_rows(alloc: Global, typ: &ArrayType) -> Result<Members, Fault>
     ensures { RowsWritten (array_slots typ.now) result }
 {
     let mut out = OrderedMap::new(alloc);
@@ -144,7 +144,7 @@ pub(crate) fn array_rows(alloc: Global, typ: &ArrayType) -> Result<OrderedMap<No
 
 /// The members that a schema of no sort in particular is written as.
 #[cycle(write)]
-pub(crate) fn any_rows(alloc: Global, any: &AnySchema) -> Result<OrderedMap<Node>, Fault>
+pub(crate) fn any_rows(alloc: Global, any: &AnySchema) -> Result<Members, Fault>
     ensures { RowsWritten (any_slots any.now) result }
 {
     let mut out = OrderedMap::new(alloc);
@@ -156,7 +156,7 @@ pub(crate) fn any_rows(alloc: Global, any: &AnySchema) -> Result<OrderedMap<Node
 /// Writes the first twelve rows of a schema of no sort in particular.
 #[cycle(write)]
 #[tactic(auto, unfolding(openapi_tables::specs::Tables::final_tables, openapi_tables::specs::Tables::tables_with, openapi_tables::specs::Tables::any_rows))]
-fn put_first(alloc: Global, any: &AnySchema, out: &mut OrderedMap<Node>) -> Result<(), Fault>
+fn put_first(alloc: Global, any: &AnySchema, out: &mut Members) -> Result<(), Fault>
     requires { IsWritten final_tables [] out.old }
     ensures ok { OnOk result (IsWritten final_tables (before (is_named (codes "items")) (any_slots any.now))
         out.new) }
@@ -191,7 +191,7 @@ fn put_first(alloc: Global, any: &AnySchema, out: &mut OrderedMap<Node>) -> Resu
 /// Writes the last twelve rows of a schema of no sort in particular.
 #[cycle(write)]
 #[tactic(auto, unfolding(openapi_tables::specs::Tables::final_tables, openapi_tables::specs::Tables::tables_with, openapi_tables::specs::Tables::any_rows))]
-fn put_last(alloc: Global, any: &AnySchema, out: &mut OrderedMap<Node>) -> Result<(), Fault>
+fn put_last(alloc: Global, any: &AnySchema, out: &mut Members) -> Result<(), Fault>
     requires { IsWritten final_tables (before (is_named (codes "items")) (any_slots any.now)) out.old }
     ensures ok { OnOk result (IsWritten final_tables (any_slots any.now) out.new) }
     ensures err { IfErr result (λ f. NotWritable f (slots_lost final_tables (any_slots any.now))) }

@@ -6,7 +6,7 @@ ghost use Rattle.openapi_schema_annotations.specs.Objects.{xml_rows};
 use openapi_fields::{
     Object, Record, extensions, optional, or_implied, put_extensions, put_implied, put_optional,
 };
-use openapi_node::{Fault, Node, OrderedMap, Steps};
+use openapi_node::{Fault, Members, Node, OrderedMap, Steps};
 use std::alloc::Global;
 
 /// The XML Object (OpenAPI 3.0.3, section 4.7.26): how a property is represented in XML.
@@ -54,13 +54,8 @@ impl Object for Xml {
     ghost rows_of = { xml_rows };
 }
 
-#[tactic(auto, unfolding(openapi_tables::specs::Tables::final_tables, openapi_tables::specs::Tables::tables_with))]
 impl Record for Xml {
-    fn from_members(
-        alloc: Global,
-        members: &OrderedMap<Node>,
-        steps: &mut Steps,
-    ) -> Result<Self, Fault> {
+    fn from_members(alloc: Global, members: &Members, steps: &mut Steps) -> Result<Self, Fault> {
         Ok(Xml {
             name: optional::<Self, _>(alloc, members, "name", steps)?,
             namespace: optional::<Self, _>(alloc, members, "namespace", steps)?,
@@ -71,7 +66,7 @@ impl Record for Xml {
         })
     }
 
-    fn put_rows(&self, alloc: Global, out: &mut OrderedMap<Node>) -> Result<(), Fault> {
+    fn put_rows(&self, alloc: Global, out: &mut Members) -> Result<(), Fault> {
         put_optional(alloc, self, out, "name", &self.name)?;
         put_optional(alloc, self, out, "namespace", &self.namespace)?;
         put_optional(alloc, self, out, "prefix", &self.prefix)?;

@@ -1,81 +1,17 @@
 -- What the row of a name reads, by what stands under the name.
-use Rattle.std.proofs.Common.{
-  ◌≡◌,
-  ℕ,
-  Bool,
-  true,
-  false,
-  cond,
-  ◌&&◌,
-  ◌||◌,
-  List,
-  Option,
-  Some,
-  None,
-  refl,
-  sym,
-  ap,
-  ◌∙◌,
-  nat_le,
-  pos,
-}
+use Rattle.std.proofs.Common.{◌≡◌, ℕ, Bool, true, false, cond, ◌&&◌, ◌||◌, List, Option, Some, None, refl, sym, ap, ◌∙◌}
+use Rattle.std.proofs.Common.{nat_le, pos}
 use Rattle.openapi_node.specs.Tree.{Tree, null, flag, whole, text, list, object, Members, find}
-use Rattle.openapi_tables.specs.Lists.{has}
-use Rattle.openapi_tables.specs.Tree.{
-  Seen,
-  Entry,
-  Shape,
-  a_null,
-  a_flag,
-  a_whole,
-  a_text,
-  a_list,
-  an_object,
-  members_list,
-  of_members,
-  of_items,
-}
-use Rattle.openapi_tables.specs.Kind.{
-  Kind,
-  format,
-  null_or,
-  by,
-  tagged,
-  ref_to,
-  flag_or_schema,
-  a_schema,
-  a_schema_kind,
-  status_code,
-  Mode,
-  optional,
-  row,
-  Code,
-  code_of,
-  code,
-  Tables,
-}
-use Rattle.openapi_tables.specs.Members.{held, is_null, first_tree, trees, Choice, choice}
-use Rattle.openapi_tables.specs.Conforms.{conforms, is_reference}
-use Rattle.openapi_tables.specs.Form.{Form, absent, leaf, of_code, known, other}
-use Rattle.openapi_tables.specs.Read.{
-  form,
-  root_form,
-  default_of,
-  chosen_form,
-  code_form,
-  reference_or_item,
-  schema_form,
-}
-use Rattle.openapi_tables.specs.Proper.{is_absent}
-use Rattle.openapi_tables.specs.ByRow.{row_conforms, row_form, RowGives}
-use Rattle.openapi_tables.proofs.ByRowLaws.{
-  own-found,
-  own-missing,
-  conforms-found,
-  conforms-missing,
-  form-found,
-  form-missing,
-}
+use Rattle.openapi_tables.specs.Prelude.{has, Seen, Entry, Shape, a_null, a_flag, a_whole, a_text, a_list, an_object}
+use Rattle.openapi_tables.specs.Prelude.{members_list, of_members, of_items, Kind, format, null_or, by, tagged, ref_to}
+use Rattle.openapi_tables.specs.Prelude.{flag_or_schema, a_schema, a_schema_kind, status_code, Mode, optional, row}
+use Rattle.openapi_tables.specs.Prelude.{Code, code_of, code, Tables, held, is_null, first_tree, trees, Choice, choice}
+use Rattle.openapi_tables.specs.Prelude.{conforms, is_reference, Form, absent, leaf, of_code, known, other, form}
+use Rattle.openapi_tables.specs.Prelude.{root_form, default_of, chosen_form, code_form, reference_or_item, is_absent}
+use Rattle.openapi_tables.specs.Prelude.{row_conforms, row_form, RowGives}
+use Rattle.openapi_tables.specs.Read.{schema_form}
+use Rattle.openapi_tables.proofs.ByRowLaws.{own-found, own-missing, conforms-found, conforms-missing, form-found}
+use Rattle.openapi_tables.proofs.ByRowLaws.{form-missing}
 
 -- what is read of a value is never absent
 chosen_there : (T : Tables) (k : Kind) (es : List (Entry (Seen (Kind → Form)))) (o : Option Choice)
@@ -101,18 +37,13 @@ number_there false c t = refl
 
 root_there : (T : Tables) (s : Shape (Seen (Kind → Form))) (k : Kind) → is_absent (root_form T s k) ≡ false
 root_there T a_null (null_or k) = root_there T a_null k
-root_there T a_null k = refl
 root_there T (a_flag b) (null_or k) = root_there T (a_flag b) k
-root_there T (a_flag b) k = refl
 root_there T (a_whole z) (null_or k) = root_there T (a_whole z) k
 root_there T (a_whole (pos n)) status_code = number_there (nat_le 100 n && nat_le n 999) (code n) (whole (pos n))
-root_there T (a_whole z) k = refl
 root_there T (a_text s) (null_or k) = root_there T (a_text s) k
 root_there T (a_text s) (format ws b) = format_there (has ws s) s
 root_there T (a_text s) status_code = code_there (text s) (code_of s)
-root_there T (a_text s) k = refl
 root_there T (a_list xs) (null_or k) = root_there T (a_list xs) k
-root_there T (a_list xs) k = refl
 root_there T (an_object es) (null_or k) = root_there T (an_object es) k
 root_there T (an_object es) (by i) = chosen_there T (by i) es (choice (by i) (trees es))
 root_there T (an_object es) (tagged n cs) = chosen_there T (tagged n cs) es (choice (tagged n cs) (trees es))
@@ -120,8 +51,10 @@ root_there T (an_object es) a_schema = chosen_there T a_schema es (choice a_sche
 root_there T (an_object es) a_schema_kind = chosen_there T a_schema_kind es (choice a_schema_kind (trees es))
 root_there T (an_object es) (ref_to k) = item_there (is_reference (an_object es)) (root_form T (an_object es) k)
 root_there T (an_object es) flag_or_schema = item_there (is_reference (an_object es)) (schema_form T (an_object es))
-root_there T (an_object es) k = refl
+root_there T a_null k = refl
+root_there T s k = refl
 
+-- the form that is read of a tree is never absent
 pub form_there : (T : Tables) (k : Kind) (t : Tree) → is_absent (form T k t) ≡ false
 form_there T k null = root_there T a_null k
 form_there T k (flag b) = root_there T (a_flag b) k

@@ -1,46 +1,15 @@
 -- Laws of masks.
-use Rattle.std.proofs.Common.{
-  ◌≡◌,
-  ℕ,
-  zero,
-  suc,
-  ◌+◌,
-  ◌*◌,
-  ◌^◌,
-  ◌%◌,
-  ◌<◌,
-  Bool,
-  true,
-  false,
-  not,
-  cond,
-  ◌&&◌,
-  ◌||◌,
-  codes,
-  List,
-  [],
-  ◌∷◌,
-  length,
-  take,
-  get_or,
-  refl,
-  ap,
-  ◌∙◌,
-  arith,
-  add-one,
-  eqb,
-  eqb-true,
-  eq-eqb,
-}
+use Rattle.std.proofs.Common.{◌≡◌, ℕ, zero, suc, ◌+◌, ◌*◌, ◌^◌, ◌%◌, ◌<◌, Bool, true, false, not, cond, ◌&&◌, ◌||◌}
+use Rattle.std.proofs.Common.{codes, List, [], ◌∷◌, length, take, get_or, refl, ap, ◌∙◌, arith, add-one, eqb, eqb-true}
+use Rattle.std.proofs.Common.{eq-eqb}
 use mir.Val.{bool_byte}
 use Rattle.std.specs.Int.Bits.{bit_and, bit_or}
 use Rattle.std.specs.Cmp.{both_ways}
 use Rattle.std.proofs.Math.Nat.{pow-suc}
 use Rattle.std.proofs.lemmas.Nat.{and_block, or_shifted, or_comm, shl_whole}
-use Rattle.openapi_tables.specs.Lists.{each, every, has}
-use Rattle.openapi_tables.specs.Tree.{Entry}
+use Rattle.openapi_tables.specs.Prelude.{each, every, has, Entry, Sort, allowed, any_sort, held, is_null, is_present}
+use Rattle.openapi_tables.specs.Prelude.{kind_names, possible_sort}
 use Rattle.openapi_node.specs.Tree.{Tree}
-use Rattle.openapi_tables.specs.Members.{Sort, allowed, any_sort, held, is_null, is_present, kind_names, possible_sort}
 use Rattle.openapi_schema_types.specs.Masks.{mask_of, presence, allowance, sort_by_names}
 
 bit-lt : (b : Bool) → cond b 1 0 < 2 ^ 1

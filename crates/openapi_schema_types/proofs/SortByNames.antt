@@ -4,22 +4,8 @@ use Rattle.std.specs.Int.Bits.{bit_and}
 use Rattle.openapi_node.specs.Tree.{Tree}
 use Rattle.openapi_tables.proofs.ListLaws.{same_text_eq}
 use Rattle.openapi_tables.proofs.RowLaws.{not_both}
-use Rattle.openapi_tables.specs.Lists.{has, same_text}
-use Rattle.openapi_tables.specs.Tree.{Entry}
-use Rattle.openapi_tables.specs.Tables.{any_rows}
-use Rattle.openapi_tables.specs.Members.{
-  Sort,
-  named_sort,
-  any_sort,
-  one_of_sort,
-  all_of_sort,
-  any_of_sort,
-  not_sort,
-  allowed,
-  sort_rows,
-  kind_names,
-  is_present,
-}
+use Rattle.openapi_tables.specs.Prelude.{has, same_text, Entry, any_rows, Sort, named_sort, any_sort, one_of_sort}
+use Rattle.openapi_tables.specs.Prelude.{all_of_sort, any_of_sort, not_sort, allowed, sort_rows, kind_names, is_present}
 use Rattle.openapi_schema_types.specs.Masks.{mask_of, presence, allowance, first_of_four}
 use Rattle.openapi_schema_types.specs.TypeNames.{type_words}
 use Rattle.openapi_schema_types.proofs.MaskLaws.{names_present}
@@ -31,6 +17,7 @@ other_text s w h = not_both (same_text s w) (λ e. h (same_text_eq s w e))
 other_word : (s w : List ℕ) → has type_words s ≡ false → has type_words w ≡ true → same_text s w ≡ false
 other_word s w none known = other_text s w (λ e. true≢false (sym known ∙ ap (has type_words) (sym e) ∙ none))
 
+-- a `type` that is none of the words names no sort in particular
 pub named_sort-other : (s : List ℕ) → has type_words s ≡ false → named_sort s ≡ any_sort
 named_sort-other s none =
     rw (

@@ -1,4 +1,4 @@
--- The forms of the parts of schemas that hold no schemas.
+-- The forms of the fields of the parts of schemas that hold no schemas, in the order of the rows of their tables.
 use Rattle.std.specs.Prelude.{List, [], ◌∷◌, Option}
 use Rattle.openapi_node.specs.Tree.{Tree}
 use Rattle.openapi_tables.specs.Form.{Form, leaf}

@@ -1,4 +1,4 @@
-#![tactic(auto)]
+#![tactic(auto, unfolding(openapi_tables::specs::Tables::final_tables, openapi_tables::specs::Tables::tables_with))]
 //! The objects of OpenAPI 3.0 documents that say who may call: security schemes with the flows of OAuth, and security
 //! requirements.
 mod authorization_code_flow;

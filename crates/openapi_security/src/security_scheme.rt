@@ -21,7 +21,7 @@ use openapi_fields::{
     FromNode, HasSlots, Object, Referable, ToNode, extensions, optional, put_extensions,
     put_optional, put_required, put_tag, required, tag,
 };
-use openapi_node::{Cause, Expected, Fault, Node, OrderedMap, Steps, View};
+use openapi_node::{Cause, Expected, Fault, Members, Node, OrderedMap, Steps, View};
 use openapi_values::{APIKeyLocation, ReferenceOr, Word};
 use std::alloc::Global;
 
@@ -150,12 +150,7 @@ impl Object for OpenIdConnectTable {
 }
 
 /// Reads a scheme by an API key.
-#[tactic(auto, unfolding(openapi_tables::specs::Tables::final_tables, openapi_tables::specs::Tables::tables_with))]
-fn api_key(
-    alloc: Global,
-    members: &OrderedMap<Node>,
-    steps: &mut Steps,
-) -> Result<SecurityScheme, Fault>
+fn api_key(alloc: Global, members: &Members, steps: &mut Steps) -> Result<SecurityScheme, Fault>
     ensures reads { RowsReadAs security_scheme_rows result (by kinds.api_key_scheme) (members_of members.now) }
     ensures word { IfOk result (λ x. security_scheme_word x ≡ codes "apiKey") }
     ensures count { RisesBy steps.old steps.new
@@ -170,12 +165,7 @@ fn api_key(
 }
 
 /// Reads a scheme by HTTP.
-#[tactic(auto, unfolding(openapi_tables::specs::Tables::final_tables, openapi_tables::specs::Tables::tables_with))]
-fn http(
-    alloc: Global,
-    members: &OrderedMap<Node>,
-    steps: &mut Steps,
-) -> Result<SecurityScheme, Fault>
+fn http(alloc: Global, members: &Members, steps: &mut Steps) -> Result<SecurityScheme, Fault>
     ensures reads { RowsReadAs security_scheme_rows result (by kinds.http_scheme) (members_of members.now) }
     ensures word { IfOk result (λ x. security_scheme_word x ≡ codes "http") }
     ensures count { RisesBy steps.old steps.new
@@ -190,12 +180,7 @@ fn http(
 }
 
 /// Reads a scheme by OAuth 2.
-#[tactic(auto, unfolding(openapi_tables::specs::Tables::final_tables, openapi_tables::specs::Tables::tables_with))]
-fn oauth2(
-    alloc: Global,
-    members: &OrderedMap<Node>,
-    steps: &mut Steps,
-) -> Result<SecurityScheme, Fault>
+fn oauth2(alloc: Global, members: &Members, steps: &mut Steps) -> Result<SecurityScheme, Fault>
     ensures reads { RowsReadAs security_scheme_rows result (by kinds.oauth2_scheme) (members_of members.now) }
     ensures word { IfOk result (λ x. security_scheme_word x ≡ codes "oauth2") }
     ensures count { RisesBy steps.old steps.new
@@ -209,10 +194,9 @@ fn oauth2(
 }
 
 /// Reads a scheme by OpenID Connect.
-#[tactic(auto, unfolding(openapi_tables::specs::Tables::final_tables, openapi_tables::specs::Tables::tables_with))]
 fn open_id_connect(
     alloc: Global,
-    members: &OrderedMap<Node>,
+    members: &Members,
     steps: &mut Steps,
 ) -> Result<SecurityScheme, Fault>
     ensures reads { RowsReadAs security_scheme_rows result (by kinds.open_id_connect_scheme) (members_of members.now) }
@@ -267,12 +251,7 @@ impl HasSlots for SecurityScheme {
 }
 
 /// Writes the members of a scheme.
-#[tactic(auto, unfolding(openapi_tables::specs::Tables::final_tables, openapi_tables::specs::Tables::tables_with))]
-fn put_scheme(
-    alloc: Global,
-    value: &SecurityScheme,
-    out: &mut OrderedMap<Node>,
-) -> Result<(), Fault>
+fn put_scheme(alloc: Global, value: &SecurityScheme, out: &mut Members) -> Result<(), Fault>
     requires { IsWritten final_tables [] out.old }
     ensures ok { OnOk result (IsWritten final_tables (security_scheme_slots value.now) out.new) }
     ensures err { IfErr result (λ f. NotWritable f (slots_lost final_tables (security_scheme_slots value.now))) }

@@ -3,21 +3,19 @@
 use Rattle.std.proofs.Common.{ℕ, suc, Bool, true, false, cond, ◌&&◌, ◌||◌, List, [], ◌∷◌, Option, Some, None, ◌≡◌, refl}
 use Rattle.std.proofs.Common.{sym, ap, ◌∙◌, subst, codes}
 use Rattle.std.proofs.lemmas.Bool.{and_parts, both_ways}
-use Rattle.openapi_tables.specs.Lists.{join, every, same_text}
-use Rattle.openapi_node.specs.Tree.{Tree, null, flag, whole, text, list, object, Items, no_items, item, Members}
+use Rattle.openapi_tables.specs.Prelude.{join, every, same_text, items_list, members_list, members_of, Entry, Seen}
+use Rattle.openapi_tables.specs.Prelude.{Shape, an_object, of_items, of_members, Kind, list_of, map_of, by, tagged}
+use Rattle.openapi_tables.specs.Prelude.{ref_to, flag_or_schema, a_schema, a_schema_kind, one_of, Case, Row, row}
+use Rattle.openapi_tables.specs.Prelude.{either, class, constant, required, takes, TableName, Tables, is_null, own}
+use Rattle.openapi_tables.specs.Prelude.{trees, held, first_tree, sort_of, Choice, plain, sort, any_sort, choice}
+use Rattle.openapi_tables.specs.Prelude.{checked_rows, is_case, skips_null, text_in, is_reference, reference_or}
+use Rattle.openapi_tables.specs.Prelude.{chosen_holds, object_holds, root_conforms, conforms, Asking, below, asks_items}
+use Rattle.openapi_tables.specs.Prelude.{asks_members, asks_own, asks_rows, asks_row, asks_tag, here, words, tag_table}
+use Rattle.openapi_tables.specs.Prelude.{unless_reference, root_asks, asked}
+use Rattle.openapi_node.specs.Tree.{Tree, null, text, list, object, Items, no_items, item, Members}
 use Rattle.openapi_node.specs.Place.{Step, named as at_name, indexed as at_index}
-use Rattle.openapi_tables.specs.Tree.{items_list, members_list, members_of, Entry, Seen, Shape, an_object, of_items}
-use Rattle.openapi_tables.specs.Tree.{of_members}
-use Rattle.openapi_tables.specs.Kind.{Kind, list_of, map_of, by, tagged, ref_to, flag_or_schema, a_schema}
-use Rattle.openapi_tables.specs.Kind.{a_schema_kind, one_of, Case, Row, row, either, class, constant, required, takes}
-use Rattle.openapi_tables.specs.Kind.{TableName, Tables}
-use Rattle.openapi_tables.specs.Members.{is_null, own, trees, held, first_tree, sort_of, Choice, plain, tag, sort}
-use Rattle.openapi_tables.specs.Members.{any_sort, choice, checked_rows, is_case}
-use Rattle.openapi_tables.specs.Conforms.{skips_null, text_in, is_reference, reference_or, chosen_holds, object_holds}
-use Rattle.openapi_tables.specs.Conforms.{root_conforms, conforms}
-use Rattle.openapi_tables.specs.Faults.{Asking, below, asks_items, asks_members, asks_own, asks_rows, asks_row}
-use Rattle.openapi_tables.specs.Faults.{asks_inner, asks_tag, here, words, tag_table, unless_reference, root_asks}
-use Rattle.openapi_tables.specs.Faults.{asked}
+use Rattle.openapi_tables.specs.Members.{tag}
+use Rattle.openapi_tables.specs.Faults.{asks_inner}
 use Rattle.openapi_tables.proofs.ListLaws.{Each, Each-join, Each_within-only}
 use Rattle.openapi_tables.proofs.TreeLaws.{Inside, by_trees, of_members_lem, members_of-list, seen_root}
 use Rattle.openapi_tables.proofs.TreeLaws.{tree_of_root-seen}
@@ -25,7 +23,7 @@ use Rattle.openapi_tables.proofs.Taken.{trees_of-members, ref_text}
 use Rattle.openapi_tables.proofs.FaultLaws.{judged, askeds, own_judged, has_words, rows_at_tag, seen_members}
 use Rattle.openapi_tables.proofs.RowWrites.{row_holds_own}
 use Rattle.openapi_tables.proofs.SortHolds.{AllHold, from_all_hold}
-use Rattle.openapi_tables.proofs.ObjectBack.{tag_case}
+use Rattle.openapi_tables.proofs.again.ObjectsBack.{tag_case}
 use Rattle.openapi_tables.proofs.Writes.{object_conforms}
 use Rattle.openapi_tables.proofs.AllReadProper.{held_of, from_list}
 
@@ -33,10 +31,12 @@ use Rattle.openapi_tables.proofs.AllReadProper.{held_of, from_list}
 abbrev pub OfAsked : (Kind → Tree → Type 0) → List Asking → Type 0
 OfAsked P l = Each (λ (a : Asking). P a.kind a.tree) l
 
+-- what holds of each element of two lists in a row holds of each of the first and of the second
 pub Each_parts : {A : Type 0} → (P : A → Type 0) (xs ys : List A) → Each P (join xs ys) → Each P xs × Each P ys
 Each_parts P [] ys h = (tt, h)
 Each_parts P (x ∷ xs) ys h = let p = Each_parts P xs ys h.1 in ((h.0, p.0), p.1)
 
+-- a step changes only the places of what is asked: P holds of it without the step where it holds with it
 pub of_below : (P : Kind → Tree → Type 0) (s : Step) (l : List Asking) → OfAsked P (below s l) → OfAsked P l
 of_below P s [] h = tt
 of_below P s (a ∷ l) h = (h.0, of_below P s l h.1)
@@ -93,17 +93,16 @@ unless_skipped T false c l h g = g h
 
 row_met : (T : Tables) (w : Row) (l : List (Entry Tree)) → ValuesMet T l → row_holds_own w (judged T l) ≡ true
     → OfAsked (Meets T) (asks_own w (askeds T l))
-row_met T (row n m k) [] g h = tt
 row_met T (row n m k) (e ∷ l) g h =
     unless_skipped T (skips_null m && is_null e.value) (conforms T k e.value)
     (below (at_name e.name) (asked T k e.value)) h
     (λ c. to_below (Meets T) (at_name e.name) (asked T k e.value) (g.0 k c))
-row_met T (either a j b k) [] g h = tt
 row_met T (either a j b k) (e ∷ l) g h =
     to_below (Meets T) (at_name e.name) (asked T (cond (same_text a e.name) j k) e.value)
     (g.0 (cond (same_text a e.name) j k) h)
 row_met T (class c k) l g h = members_met T k l g h
-row_met T (constant n v) l g h = tt
+row_met T w [] g h = tt
+row_met T w l g h = tt
 
 pub rows_met : (T : Tables) (es : List (Entry Tree)) (ws : List Row) → ValuesMet T es → AllHold T es ws
     → OfAsked (Meets T) (asks_rows (askeds T es) ws)
@@ -126,12 +125,14 @@ objects_met T ms ws g h =
     subst (λ l. OfAsked (Meets T) (asks_rows l ws)) (sym (of_members_lem (root_asks T) ms))
     (rows_met T (members_list ms) ws g h)
 
+-- of an object that holds under a kind, with members as a tree has them, each row that must hold does
 pub held_in : (T : Tables) (k : Kind) (ms : Members) (c : Choice) → choice k (members_list ms) ≡ Some c
     → object_holds T k (of_members (root_conforms T) ms) ≡ true → AllHold T (members_list ms) (checked_rows T k c)
 held_in T k ms c e h =
     held_of T k (members_list ms) c e
     (subst (λ x. object_holds T k (of_members (root_conforms T) x) ≡ true) (sym (members_of-list ms)) h)
 
+-- an object conforms to the kind of a table where each row of the table holds
 pub table_conforms : (T : Tables) (i : TableName) (es : List (Entry Tree)) → AllHold T es (T i)
     → conforms T (by i) (object (members_of es)) ≡ true
 unfolding checked_rows
@@ -225,16 +226,12 @@ item_met T ms b l h g =
 
 step : (T : Tables) (k : Kind) (t : Tree) → Inside (AllMet T) t → conforms T k t ≡ true
     → OfAsked (Meets T) (asked T k t)
-step T (ref_to k) null g h = (h, step T k null g h)
-step T (ref_to k) (flag b) g h = (h, step T k (flag b) g h)
-step T (ref_to k) (whole z) g h = (h, step T k (whole z) g h)
-step T (ref_to k) (text s) g h = (h, step T k (text s) g h)
-step T (ref_to k) (list ts) g h = ((head_met T (ref_to k) (list ts) h).0, step T k (list ts) g h)
 step T (ref_to k) (object ms) g h = (
   (head_met T (ref_to k) (object ms) h).0,
   item_met T ms (conforms T k (object ms)) (asked T k (object ms)) h
       (λ c. step T k (object ms) g c),
 )
+step T (ref_to k) t g h = ((head_met T (ref_to k) t h).0, step T k t g h)
 step T (list_of k) (list ts) g h = ((head_met T (list_of k) (list ts) h).0, items_met T k 0 ts g h)
 step T (map_of k) (object ms) g h = ((head_met T (map_of k) (object ms) h).0, map_met T k ms g h)
 step T (by i) (object ms) g h = ((head_met T (by i) (object ms) h).0, table_met T i ms g h)
@@ -250,11 +247,8 @@ step T flag_or_schema (object ms) g h = (
   ),
 )
 step T k null g h = head_met T k null h
-step T k (flag b) g h = head_met T k (flag b) h
-step T k (whole z) g h = head_met T k (whole z) h
-step T k (text s) g h = head_met T k (text s) h
-step T k (list ts) g h = head_met T k (list ts) h
-step T k (object ms) g h = head_met T k (object ms) h
+step T k t g h = head_met T k t h
 
+-- of every tree that conforms, each value conforms to what is asked of it
 pub all_met : (T : Tables) (t : Tree) → AllMet T t
 all_met T t = by_trees (AllMet T) (λ u g k h. step T k u g h) t

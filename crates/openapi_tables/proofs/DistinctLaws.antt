@@ -1,19 +1,14 @@
 -- Distinct names and keys, as facts on each pair of entries.
 use Rattle.std.proofs.Common.{ℕ, Bool, true, false, not, ◌&&◌, List, [], ◌∷◌, ◌≡◌, refl, ap, ◌∙◌, subst, cond, sym}
 use Rattle.std.proofs.lemmas.Bool.{and_parts, and_from, not-true, both_ways}
-use Rattle.openapi_tables.specs.Lists.{each, only, every, same_text}
+use Rattle.openapi_tables.specs.Prelude.{each, only, every, same_text, Entry, items_list, members_of, Class, no_forms}
+use Rattle.openapi_tables.specs.Prelude.{Form, sequence, named, fields, forms_of, named_of, Key, name, coded, Pair}
+use Rattle.openapi_tables.specs.Prelude.{Forms, Named, f_named, named_list, of_forms, forms_list, more, Choice}
+use Rattle.openapi_tables.specs.Prelude.{same_key, key_in, text_of_key, is_written}
 use Rattle.openapi_node.specs.Tree.{Tree, list, object, Items, no_items, item, items_of}
-use Rattle.openapi_tables.specs.Tree.{Entry, items_list, members_of}
-use Rattle.openapi_tables.specs.Kind.{Class}
-use Rattle.openapi_tables.specs.Form.{no_forms, Form, sequence, named, fields, forms_of, named_of, Key, name, coded}
-use Rattle.openapi_tables.specs.Form.{Pair, Shown, Forms, Named, f_named, named_list, of_forms, forms_list, more}
-use Rattle.openapi_tables.specs.Members.{Choice}
-use Rattle.openapi_tables.specs.Read.{same_key, key_in}
-use Rattle.openapi_tables.specs.Print.{text_of_key}
-use Rattle.openapi_tables.specs.Proper.{is_written}
+use Rattle.openapi_tables.specs.Form.{Shown}
 use Rattle.openapi_node.specs.Named.{lacks, well_named}
-use Rattle.openapi_tables.specs.Distinct.{keys_differ, face_distinct}
-use Rattle.openapi_tables.specs.Distinct.{distinct}
+use Rattle.openapi_tables.specs.Distinct.{keys_differ, face_distinct, distinct}
 use Rattle.openapi_tables.proofs.ListLaws.{Each, every_each, every_from, Each_within-only, same_text_eq, each_under}
 use Rattle.openapi_tables.proofs.ListLaws.{same_bytes}
 use Rattle.std.specs.Str.{bytes_eq}
@@ -55,6 +50,7 @@ only_differ : {X : Type 0} → (p : Entry X → Bool) (b : Bool) (e : Entry X) (
 only_differ {X} p true e es h g = (Each_within-only (λ (d : Entry X). same_text e.name d.name ≡ false) p es h, g)
 only_differ p false e es h g = g
 
+-- where no two members have the same name, no two of those that pass a test do
 pub Differ-only : {X : Type 0} → (p : Entry X → Bool) (es : List (Entry X)) → Differ es → Differ (only p es)
 Differ-only p [] h = tt
 Differ-only p (e ∷ es) h = only_differ p (p e) e es h.0 (Differ-only p es h.1)
@@ -78,6 +74,7 @@ apart_lacks n (e ∷ es) h =
 abbrev pub WellNamed : List (Entry Tree) → Type 0
 WellNamed es = Differ es × Each (λ (e : Entry Tree). well_named e.value ≡ true) es
 
+-- the members of a well named object have distinct names, and their trees are well named
 pub of_object : (es : List (Entry Tree)) → well_named (object (members_of es)) ≡ true → WellNamed es
 of_object [] h = (tt, tt)
 of_object (e ∷ es) h =
@@ -87,6 +84,7 @@ of_object (e ∷ es) h =
     let w = of_object es q.1 in
     ((lacks_apart e.name es p.0, w.0), (q.0, w.1))
 
+-- an object is well named where its members have distinct names and well named trees
 pub to_object : (es : List (Entry Tree)) → WellNamed es → well_named (object (members_of es)) ≡ true
 to_object [] h = refl
 to_object (e ∷ es) h =
@@ -94,10 +92,12 @@ to_object (e ∷ es) h =
     and_from (lacks e.name (members_of es)) (well_named e.value && rest) (apart_lacks e.name es h.0.0)
     (and_from (well_named e.value) rest h.1.0 (to_object es (h.0.1, h.1.1)))
 
+-- each item of a well named list is well named
 pub of_list_named : (ts : Items) → well_named (list ts) ≡ true → Each (λ t. well_named t ≡ true) (items_list ts)
 of_list_named no_items h = tt
 of_list_named (item t ts) h = let p = and_parts (well_named t) _ h in (p.0, of_list_named ts p.1)
 
+-- a list of well named items is well named
 pub to_list_named : (ts : List Tree) → Each (λ t. well_named t ≡ true) ts → well_named (list (items_of ts)) ≡ true
 to_list_named [] h = refl
 to_list_named (t ∷ ts) h = and_from (well_named t) _ h.0 (to_list_named ts h.1)
@@ -108,10 +108,12 @@ all_distinct : (fs : List Form) → Each (λ f. distinct f ≡ true) fs
 all_distinct [] h = refl
 all_distinct (f ∷ fs) h = and_from (distinct f) _ h.0 (all_distinct fs h.1)
 
+-- a sequence of distinct forms is distinct
 pub distinct-sequence : (fs : List Form) → Each (λ f. distinct f ≡ true) fs → distinct (sequence (forms_of fs)) ≡ true
 distinct-sequence fs h = ap (λ l. every (λ (p : Shown Bool). p.answer) l) (of_forms-of face_distinct fs)
     ∙ all_distinct fs h
 
+-- an object's form is distinct where each of its slots is
 pub distinct-fields : (c : Choice) (fs : List Form) → Each (λ f. distinct f ≡ true) fs
     → distinct (fields c (forms_of fs)) ≡ true
 distinct-fields c fs h = ap (λ l. every (λ (p : Shown Bool). p.answer) l) (of_forms-of face_distinct fs)
@@ -135,6 +137,7 @@ pairs_distinct es h g = and_from _ _ (to_keys_differ (each (on_pair (show face_d
     values [] g = refl
     values (e ∷ es) g = and_from (distinct e.value) _ g.0 (values es g.1)
 
+-- a map or class is distinct where no two of its keys are the same and each of its values is distinct
 pub distinct-named : (es : List (Pair Form)) → Distinct es → Each (λ (e : Pair Form). distinct e.value ≡ true) es
     → distinct (named (named_of es)) ≡ true
 distinct-named es h g = ap (λ l. face_distinct (f_named l)) (of_named-of face_distinct es) ∙ pairs_distinct es h g
@@ -165,6 +168,7 @@ of_named es h =
     values [] g = tt
     values (e ∷ es) g = let p = and_parts (distinct e.value) _ g in (p.0, values es p.1)
 
+-- where all forms of a sequence or an object are found to be distinct, each of them is
 pub of_forms_distinct : (fs : Forms) → every (λ (p : Shown Bool). p.answer) (of_forms face_distinct fs) ≡ true
     → Each (λ f. distinct f ≡ true) (forms_list fs)
 of_forms_distinct no_forms h = tt
@@ -180,6 +184,7 @@ same_key_eq (coded c) (name n) h = cc
 written_key : (c : Class) (m : Key) → is_written c m ≡ true → key_in c (text_of_key m) ≡ m
 written_key c m h = same_key_eq (key_in c (text_of_key m)) m (and_parts (same_key (key_in c (text_of_key m)) m) _ h).0
 
+-- two keys that differ, and are read again in a class, are written as names that differ
 pub texts_differ : (c : Class) (m n : Key) → is_written c m ≡ true → is_written c n ≡ true → same_key m n ≡ false
     → same_text (text_of_key m) (text_of_key n) ≡ false
 texts_differ c m n h g d = not_both (same_text (text_of_key m) (text_of_key n)) same

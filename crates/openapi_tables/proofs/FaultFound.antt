@@ -1,9 +1,8 @@
 -- A broken thing that is asked, and a tree that does not conform.
 use Rattle.std.proofs.Common.{Bool, false, List, [], ◌∷◌, ◌≡◌, refl, sym, ap, ◌∙◌, inl, inr, ⊎_elim}
 use Rattle.std.proofs.lemmas.Bool.{and_cases, and_left, and_right}
-use Rattle.openapi_tables.specs.Lists.{every, is_empty}
-use Rattle.openapi_tables.specs.Faults.{Cause, asked, causes, is_met}
-use Rattle.openapi_tables.specs.Laws.{Among, Faults}
+use Rattle.openapi_tables.specs.Prelude.{every, is_empty, Cause, asked, causes, is_met, Among}
+use Rattle.openapi_tables.specs.Laws.{Faults}
 use Rattle.openapi_tables.proofs.FaultLaw.{conforms-asked}
 
 among_full : {A : Type 0} → (x : A) (xs : List A) → Among x xs → is_empty xs ≡ false
@@ -31,6 +30,7 @@ first_cause : (cs : List Cause) → is_empty cs ≡ false → (c : Cause) × Amo
 first_cause [] h = cc
 first_cause (c ∷ cs) h = (c, inl refl)
 
+-- a tree does not conform exactly where something that is asked is broken: the law `Faults`
 pub faults : Faults
 faults T k t W s = (
   (λ a c h g. conforms-asked T W t k s

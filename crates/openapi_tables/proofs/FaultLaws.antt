@@ -5,8 +5,8 @@ use Rattle.std.proofs.lemmas.Bool.{and_parts}
 use Rattle.openapi_tables.specs.Lists.{each, join, flat, every, same_text, has, is_empty}
 use Rattle.openapi_node.specs.Tree.{Tree, Items, no_items, item}
 use Rattle.openapi_tables.specs.Tree.{items_list, Entry, on_entry, Seen, Shape, of_items}
-use Rattle.openapi_tables.specs.Kind.{Kind, Case, Mode, required, optional, nullable, listed, flagged, styled}
-use Rattle.openapi_tables.specs.Kind.{formatted, Row, row, either, class, constant, takes, Tables, TableName}
+use Rattle.openapi_tables.specs.Kind.{Kind, Case, Mode, required, optional, nullable, Row, row, either, class, constant}
+use Rattle.openapi_tables.specs.Kind.{takes, Tables, TableName}
 use Rattle.openapi_tables.specs.Members.{is_null, own, trees, is_case, case_rows}
 use Rattle.openapi_tables.specs.Conforms.{name_holds, either_holds, Judged, row_holds, root_conforms, conforms}
 use Rattle.openapi_tables.specs.Sound.{sound, row_sound, has_members, never_misses, mode_fits, rows_apart, tables_sound}
@@ -15,9 +15,10 @@ use Rattle.openapi_tables.specs.Faults.{Asking, misses, row_misses, Asks, below,
 use Rattle.openapi_tables.specs.Faults.{asks_row, asks_rows, words, tag_table, root_asks, asked, is_met}
 use Rattle.openapi_tables.proofs.ListLaws.{Each, every_each, only-each, each_under, Each_within-only}
 use Rattle.openapi_tables.proofs.TreeLaws.{see}
-use Rattle.openapi_tables.proofs.ObjectBack.{checked, table_sound, every_table}
+use Rattle.openapi_tables.proofs.again.ObjectsBack.{checked, table_sound, every_table}
 use Rattle.openapi_tables.proofs.SoundLaws.{sound_pick}
 
+-- all elements of two lists in a row pass a test exactly where all of the first and all of the second do
 pub every-join : {A : Type 0} → (p : A → Bool) (xs ys : List A) → every p (join xs ys) ≡ (every p xs && every p ys)
 every-join p [] ys = refl
 every-join p (x ∷ xs) ys = ap (λ b. p x && b) (every-join p xs ys) ∙ regroup (p x) (every p xs) (every p ys)
@@ -26,10 +27,12 @@ every-join p (x ∷ xs) ys = ap (λ b. p x && b) (every-join p xs ys) ∙ regrou
     regroup true b c = refl
     regroup false b c = refl
 
+-- two lists in a row are empty exactly where both are
 pub is_empty-join : {A : Type 0} → (xs ys : List A) → is_empty (join xs ys) ≡ (is_empty xs && is_empty ys)
 is_empty-join [] ys = refl
 is_empty-join (x ∷ xs) ys = refl
 
+-- whether all that is asked is met is the same seen from one step above
 pub every-below : (T : Tables) (p : Step) (xs : List Asking) → every (is_met T) (below p xs) ≡ every (is_met T) xs
 every-below T p [] = refl
 every-below T p (x ∷ xs) = ap (λ b. is_met T x && b) (every-below T p xs)
@@ -38,12 +41,15 @@ every-below T p (x ∷ xs) = ap (λ b. is_met T x && b) (every-below T p xs)
 abbrev pub Judged_by : (T : Tables) → Tree → Type 0
 Judged_by T t = (k : Kind) → sound T k ≡ true → conforms T k t ≡ every (is_met T) (asked T k t)
 
+-- the members of a list, with the kinds that each conforms to
 abbrev pub judged : (T : Tables) → List (Entry Tree) → Judged
 judged T es = each (on_entry (see (root_conforms T))) es
 
+-- the members of a list, with what each kind asks in each of them
 abbrev pub askeds : (T : Tables) → List (Entry Tree) → List (Entry Asks)
 askeds T es = each (on_entry (see (root_asks T))) es
 
+-- the items of a list all conform exactly where all that is asked of them is met, if it is so of each item
 pub items_judged : (T : Tables) (k : Kind) (i : ℕ) (ts : Items) → sound T k ≡ true
     → Each (Judged_by T) (items_list ts)
     → every (λ (x : Seen (Kind → Bool)). x.answer k) (of_items (root_conforms T) ts)
@@ -55,6 +61,7 @@ items_judged T k i (item t ts) s h =
     ∙ ap (λ b. every (is_met T) (below (at_index i) (asked T k t)) && b) (items_judged T k (suc i) ts s h.1)
     ∙ sym (every-join (is_met T) (below (at_index i) (asked T k t)) (asks_items k (suc i) (of_items (root_asks T) ts)))
 
+-- members all conform exactly where all that is asked of them is met, if it is so of each member
 pub members_judged : (T : Tables) (k : Kind) (es : List (Entry Tree)) → sound T k ≡ true
     → Each (λ (e : Entry Tree). Judged_by T e.value) es
     → every (λ (e : Entry (Seen (Kind → Bool))). e.value.answer k) (judged T es)
@@ -76,24 +83,15 @@ name_judged : (T : Tables) (n : List ℕ) (m : Mode) (k : Kind) (l : List (Entry
     → Each (λ (e : Entry Tree). Judged_by T e.value) l
     → name_holds m k (judged T l)
     ≡ (is_empty (misses (row n m k) l) && every (is_met T) (asks_own (row n m k) (askeds T l)))
-name_judged T n required k [] s h = refl
-name_judged T n optional k [] s h = refl
-name_judged T n nullable k [] s h = refl
-name_judged T n listed k [] s h = refl
-name_judged T n flagged k [] s h = refl
-name_judged T n (styled u) k [] s h = refl
-name_judged T n formatted k [] s h = refl
-name_judged T n required k (e ∷ l) s h = h.0 k s ∙ sym (every-below T (at_name e.name) (asked T k e.value))
 name_judged T n optional k (e ∷ l) s h =
     skipped T (is_null e.value) (conforms T k e.value) (below (at_name e.name) (asked T k e.value))
     (h.0 k s ∙ sym (every-below T (at_name e.name) (asked T k e.value)))
 name_judged T n nullable k (e ∷ l) s h =
     skipped T (is_null e.value) (conforms T k e.value) (below (at_name e.name) (asked T k e.value))
     (h.0 k s ∙ sym (every-below T (at_name e.name) (asked T k e.value)))
-name_judged T n listed k (e ∷ l) s h = h.0 k s ∙ sym (every-below T (at_name e.name) (asked T k e.value))
-name_judged T n flagged k (e ∷ l) s h = h.0 k s ∙ sym (every-below T (at_name e.name) (asked T k e.value))
-name_judged T n (styled u) k (e ∷ l) s h = h.0 k s ∙ sym (every-below T (at_name e.name) (asked T k e.value))
-name_judged T n formatted k (e ∷ l) s h = h.0 k s ∙ sym (every-below T (at_name e.name) (asked T k e.value))
+name_judged T n required k [] s h = refl
+name_judged T n m k [] s h = refl
+name_judged T n m k (e ∷ l) s h = h.0 k s ∙ sym (every-below T (at_name e.name) (asked T k e.value))
 
 either_judged : (T : Tables) (a b : List ℕ) (j k : Kind) (l : List (Entry Tree)) → sound T j ≡ true
     → sound T k ≡ true → Each (λ (e : Entry Tree). Judged_by T e.value) l
@@ -104,6 +102,7 @@ either_judged T a b j k (e ∷ l) s r h =
     h.0 (cond (same_text a e.name) j k) (sound_pick T (same_text a e.name) j k s r)
     ∙ sym (every-below T (at_name e.name) (asked T (cond (same_text a e.name) j k) e.value))
 
+-- a row takes the same members, whichever function's answers are seen with them
 pub own_judged : {X : Type 0} → (f : Shape (Seen X) → X) (w : Row) (es : List (Entry Tree))
     → own w (each (on_entry (see f)) es) ≡ each (on_entry (see f)) (own w es)
 own_judged f w es = only-each (λ e. takes w e.name) (on_entry (see f)) es
@@ -154,6 +153,7 @@ table_members T W i = every_table (λ n. every has_members (T n)) (checked T W).
 table_rows : (T : Tables) (W : tables_sound T ≡ true) (i : TableName) → every (row_sound T) (T i) ≡ true
 table_rows T W i = (and_parts (rows_apart (T i)) (every (row_sound T) (T i)) (table_sound T W i)).1
 
+-- the rows of a table hold exactly where they miss nothing and all that they ask is met
 pub table_judged : (T : Tables) (W : tables_sound T ≡ true) (i : TableName) (es : List (Entry Tree))
     → Each (λ (e : Entry Tree). Judged_by T e.value) es
     → every (row_holds (judged T es)) (T i)
@@ -163,27 +163,12 @@ table_judged T W i es h = rows_judged T (T i) es (every_each (row_sound T) (T i)
 
 never : (w : Row) (es : List (Entry Tree)) → never_misses w ≡ true → misses w es ≡ []
 never (row n required k) es h = cc
-never (row n optional k) [] h = refl
-never (row n optional k) (e ∷ es) h = refl
-never (row n nullable k) [] h = refl
-never (row n nullable k) (e ∷ es) h = refl
-never (row n listed k) [] h = refl
-never (row n listed k) (e ∷ es) h = refl
-never (row n flagged k) [] h = refl
-never (row n flagged k) (e ∷ es) h = refl
-never (row n (styled s) k) [] h = refl
-never (row n (styled s) k) (e ∷ es) h = refl
-never (row n formatted k) [] h = refl
-never (row n formatted k) (e ∷ es) h = refl
-never (either a j b k) es h = cc
-never (class c k) es h = refl
-never (constant n v) es h = cc
+never w [] h = cc
+never w es h = cc
 
 never_has_members : (w : Row) → never_misses w ≡ true → has_members w ≡ true
-never_has_members (row n m k) h = refl
-never_has_members (either a j b k) h = refl
-never_has_members (class c k) h = refl
 never_has_members (constant n v) h = cc
+never_has_members w h = refl
 
 none_missed : (ws : List Row) (es : List (Entry Tree)) → Each (λ w. never_misses w ≡ true) ws
     → is_empty (flat (each (row_misses es) ws)) ≡ true
@@ -191,6 +176,7 @@ none_missed [] es h = refl
 none_missed (w ∷ ws) es h = ap (λ l. is_empty (join l (flat (each (row_misses es) ws)))) (never w (own w es) h.0)
     ∙ none_missed ws es h.1
 
+-- rows that can miss nothing hold exactly where all that they ask is met
 pub open_judged : (T : Tables) (ws : List Row) (es : List (Entry Tree)) → every (row_sound T) ws ≡ true
     → every never_misses ws ≡ true → Each (λ (e : Entry Tree). Judged_by T e.value) es
     → every (row_holds (judged T es)) ws ≡ every (is_met T) (asks_rows (askeds T es) ws)
@@ -200,10 +186,12 @@ open_judged T ws es s n h =
     (each_under (λ w (x : never_misses w ≡ true). never_has_members w x) ws m) h
     ∙ ap (λ b. b && every (is_met T) (asks_rows (askeds T es) ws)) (none_missed ws es m)
 
+-- a text is one of the words of a tag exactly where it is a case of the tag
 pub has_words : (cs : List Case) (s : List ℕ) → has (words cs) s ≡ is_case cs s
 has_words [] s = refl
 has_words (c ∷ cs) s = ap (λ b. same_text c.word s || b) (has_words cs s)
 
+-- the rows that a tag's text stands for are those of its table
 pub rows_at_tag : (T : Tables) (cs : List Case) (s : List ℕ) → is_case cs s ≡ true
     → case_rows T cs s ≡ T (tag_table cs s)
 rows_at_tag T [] s h = cc

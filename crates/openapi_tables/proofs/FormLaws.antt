@@ -1,12 +1,12 @@
 -- A form and its root; what a function gives of a form by its root.
 use Rattle.std.proofs.Common.{List, [], ◌∷◌, ◌≡◌, refl, ap}
-use Rattle.openapi_tables.specs.Lists.{each}
-use Rattle.openapi_tables.specs.Form.{Form, absent, leaf, of_code, known, other, unset, reference, an_item, sequence}
-use Rattle.openapi_tables.specs.Form.{named, deciding, fields, Forms, no_forms, more, forms_list, forms_of, Named}
-use Rattle.openapi_tables.specs.Form.{no_named, under, named_list, named_of, Pair, Face, Shown, of_form, of_forms}
-use Rattle.openapi_tables.specs.Form.{of_named}
+use Rattle.openapi_tables.specs.Prelude.{each, Form, absent, leaf, of_code, known, other, unset, reference, an_item}
+use Rattle.openapi_tables.specs.Prelude.{sequence, named, deciding, fields, Forms, no_forms, more, forms_list, forms_of}
+use Rattle.openapi_tables.specs.Prelude.{Named, no_named, under, named_list, named_of, Pair, of_forms, of_named}
+use Rattle.openapi_tables.specs.Form.{Face, Shown, of_form}
 use Rattle.openapi_tables.proofs.ListLaws.{Each, each_under}
 
+-- an entry of a map or class, with f of its value
 abbrev pub on_pair : {X Y : Type 0} → (X → Y) → Pair X → Pair Y
 on_pair f e = record { key = e.key; value = f e.value }
 
@@ -14,31 +14,43 @@ on_pair f e = record { key = e.key; value = f e.value }
 abbrev pub show : {X : Type 0} → (Face (Shown X) → X) → Form → Shown X
 show g f = record { form = f; answer = of_form g f }
 
+-- forms made of a list, as a list again, are that list
 pub forms_list-of : (fs : List Form) → forms_list (forms_of fs) ≡ fs
 forms_list-of [] = refl
 forms_list-of (f ∷ fs) = ap (λ l. f ∷ l) (forms_list-of fs)
 
+-- entries made of a list are listed as that list
+pub named_list-of : (es : List (Pair Form)) → named_list (named_of es) ≡ es
+named_list-of [] = refl
+named_list-of (e ∷ es) = ap (λ l. e ∷ l) (named_list-of es)
+
+-- what a function gives of forms made of a list, form by form
 pub of_forms-of : {X : Type 0} → (g : Face (Shown X) → X) (fs : List Form) → of_forms g (forms_of fs) ≡ each (show g) fs
 of_forms-of g [] = refl
 of_forms-of g (f ∷ fs) = ap (λ l. show g f ∷ l) (of_forms-of g fs)
 
+-- what a function gives of a map or class made of a list, entry by entry
 pub of_named-of : {X : Type 0} → (g : Face (Shown X) → X) (es : List (Pair Form))
     → of_named g (named_of es) ≡ each (on_pair (show g)) es
 of_named-of g [] = refl
 of_named-of g (e ∷ es) = ap (λ l. on_pair (show g) e ∷ l) (of_named-of g es)
 
+-- forms made of the list that forms are, are those forms
 pub forms_of-list : (fs : Forms) → forms_of (forms_list fs) ≡ fs
 forms_of-list no_forms = refl
 forms_of-list (more f fs) = ap (more f) (forms_of-list fs)
 
+-- a map or class made of the list of its entries is itself
 pub named_of-list : (es : Named) → named_of (named_list es) ≡ es
 named_of-list no_named = refl
 named_of-list (under n f es) = ap (under n f) (named_of-list es)
 
+-- what a function gives of forms, by the list that they are
 pub of_forms_lem : {X : Type 0} → (g : Face (Shown X) → X) (fs : Forms) → of_forms g fs ≡ each (show g) (forms_list fs)
 of_forms_lem g no_forms = refl
 of_forms_lem g (more f fs) = ap (λ l. show g f ∷ l) (of_forms_lem g fs)
 
+-- what a function gives of a map or class, by the list of its entries
 pub of_named_lem : {X : Type 0} → (g : Face (Shown X) → X) (es : Named)
     → of_named g es ≡ each (on_pair (show g)) (named_list es)
 of_named_lem g no_named = refl
@@ -89,18 +101,12 @@ abbrev pub Deep : (Form → Type 0) → Form → Type 0
 Deep P f = P f × Within P f
 
 within_deep : (P : Form → Type 0) (f : Form) → Within (Deep P) f → Within P f
-within_deep P absent h = tt
-within_deep P (leaf t) h = tt
-within_deep P (of_code c) h = tt
-within_deep P (known s) h = tt
-within_deep P (other s) h = tt
-within_deep P unset h = tt
-within_deep P (reference s) h = tt
 within_deep P (an_item f) h = h.0
 within_deep P (sequence fs) h = each_under (λ (f : Form) (x : Deep P f). x.0) (forms_list fs) h
 within_deep P (named es) h = each_under (λ (e : Pair Form) (x : Deep P e.value). x.0) (named_list es) h
 within_deep P (deciding n f) h = h.0
 within_deep P (fields c fs) h = each_under (λ (f : Form) (x : Deep P f). x.0) (forms_list fs) h
+within_deep P f h = tt
 
 -- induction on forms, where what holds of the forms inside those inside may be used too
 pub by_deep : (P : Form → Type 0) → ((f : Form) → Within (Deep P) f → P f) → (f : Form) → P f

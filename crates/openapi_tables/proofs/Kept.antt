@@ -1,26 +1,24 @@
 -- Two lists of tables that differ in some rows: trees that conform by the one conform by the other.
-use Rattle.std.proofs.Common.{ℕ, suc, pos, negsuc, Bool, true, false, not, cond, ◌&&◌, ◌||◌, List, [], ◌∷◌, Option}
-use Rattle.std.proofs.Common.{Some, None, ◌≡◌, refl, sym, ap, ◌∙◌, subst}
+use Rattle.std.proofs.Common.{ℕ, suc, pos, Bool, true, false, not, cond, ◌&&◌, ◌||◌, List, [], ◌∷◌, Option, Some, None}
+use Rattle.std.proofs.Common.{◌≡◌, refl, sym, ap, ◌∙◌, subst}
 use Rattle.std.proofs.lemmas.Bool.{and_parts, and_from}
-use Rattle.openapi_tables.specs.Lists.{each, join, every, same_text}
+use Rattle.openapi_tables.specs.Prelude.{each, join, every, same_text, items_list, members_list, members_of, Entry}
+use Rattle.openapi_tables.specs.Prelude.{Seen, an_object, of_items, of_members, Kind, any_text, any_flag, number}
+use Rattle.openapi_tables.specs.Prelude.{null_or, list_of, map_of, by, tagged, ref_to, flag_or_schema, a_schema}
+use Rattle.openapi_tables.specs.Prelude.{a_schema_kind, one_of, Case, Mode, optional, Row, row, either, class, constant}
+use Rattle.openapi_tables.specs.Prelude.{required, takes, TableName, Tables, schema_data, any_rows, is_null, own, plain}
+use Rattle.openapi_tables.specs.Prelude.{sort, sort_of, choice, checked_rows, made_optional, case_rows, skips_null}
+use Rattle.openapi_tables.specs.Prelude.{name_holds, is_reference, reference_or, chosen_holds, root_conforms, conforms}
+use Rattle.openapi_tables.specs.Prelude.{Asking, below, asks_items, asks_members, asks_own, asks_rows, asks_row}
+use Rattle.openapi_tables.specs.Prelude.{asks_tag, words, tag_table, unless_reference, root_asks, asked, sound}
+use Rattle.openapi_tables.specs.Prelude.{row_sound, rows_apart, mode_fits, may_be_null, under_ref, schema_rows}
+use Rattle.openapi_tables.specs.Prelude.{tables_sound}
 use Rattle.openapi_node.specs.Tree.{Tree, null, flag, whole, text, list, object, Items, no_items, item, Members}
 use Rattle.openapi_node.specs.Place.{named as at_name, indexed as at_index}
-use Rattle.openapi_tables.specs.Tree.{items_list, members_list, members_of, Entry, Seen, an_object, of_items}
-use Rattle.openapi_tables.specs.Tree.{of_members}
-use Rattle.openapi_tables.specs.Kind.{Kind, any_text, any_flag, number, null_or, list_of, map_of, by, tagged, ref_to}
-use Rattle.openapi_tables.specs.Kind.{flag_or_schema, a_schema, a_schema_kind, one_of, Case, Mode, optional, Row, row}
-use Rattle.openapi_tables.specs.Kind.{either, class, constant, required, takes, TableName, Tables, schema_data}
-use Rattle.openapi_tables.specs.Tables.{any_rows}
-use Rattle.openapi_tables.specs.Members.{is_null, own, plain, tag, sort, sort_of, choice, checked_rows, made_optional}
-use Rattle.openapi_tables.specs.Members.{case_rows}
-use Rattle.openapi_tables.specs.Conforms.{skips_null, name_holds, is_reference, reference_or, chosen_holds}
-use Rattle.openapi_tables.specs.Conforms.{root_conforms, conforms}
-use Rattle.openapi_tables.specs.Faults.{Asking, below, asks_items, asks_members, asks_own, asks_rows, asks_row}
-use Rattle.openapi_tables.specs.Faults.{asks_inner, asks_tag, words, tag_table, unless_reference, root_asks, asked}
-use Rattle.openapi_tables.specs.Sound.{sound, row_sound, rows_apart, mode_fits, may_be_null, under_ref, schema_rows}
-use Rattle.openapi_tables.specs.Sound.{tables_sound}
+use Rattle.openapi_tables.specs.Members.{tag}
+use Rattle.openapi_tables.specs.Faults.{asks_inner}
 use Rattle.openapi_tables.proofs.ListLaws.{Each, Each_within-only, each_under, every_each}
-use Rattle.openapi_tables.proofs.ObjectBack.{checked, table_sound}
+use Rattle.openapi_tables.proofs.again.ObjectsBack.{checked, table_sound}
 use Rattle.openapi_tables.proofs.SortLaws.{Each_behind}
 use Rattle.openapi_tables.proofs.SoundLaws.{sound_pick}
 use Rattle.openapi_tables.proofs.TreeLaws.{Inside, by_trees, of_members_lem}
@@ -47,6 +45,7 @@ pub data RowsKept (U : Tables) (P : Kind → Tree → Type 0) (C : Kind → Kind
       → ((t : Tree) → OfAsked P (asked U k t) → conforms U k t ≡ true) → RowsKept U P C vs ws
       → RowsKept U P C vs (row n optional k ∷ ws)
 
+-- a list of rows beside itself is kept: no row has changed
 pub all_same : (U : Tables) (P : Kind → Tree → Type 0) (C : Kind → Kind → Type 0) (ws : List Row) → RowsKept U P C ws ws
 all_same U P C [] = kept_none
 all_same U P C (w ∷ ws) = kept_same w ws ws (all_same U P C ws)
@@ -146,14 +145,13 @@ module _ (T U : Tables) (W : tables_sound U ≡ true) (P : Kind → Tree → Typ
       → row_holds_own w (judged U l) ≡ true
   row_kept (row n m k) l s g h o = name_kept n m k k l (and_parts (mode_fits m k) (sound U k) s).1
       (each_under (λ (e : Entry Tree) (x : Kept T U P C e.value). x.0 k) l g) h o
-  row_kept (either a j b k) [] s g h o = h
   row_kept (either a j b k) (e ∷ l) s g h o =
       let i = cond (same_text a e.name) j k in
       let p = and_parts (sound U j) (sound U k) (and_parts (sound U j && sound U k) (not (same_text a b)) s).0 in
       g.0.0 i (sound_pick U (same_text a e.name) j k p.0 p.1) h (of_below P (at_name e.name) (asked U i e.value) o)
   row_kept (class c k) l s g h o = members_kept k l s g h o
-  row_kept (constant n v) [] s g h o = h
-  row_kept (constant n v) (e ∷ l) s g h o = h
+  row_kept w [] s g h o = h
+  row_kept w l s g h o = h
 
   -- a row that was added
   added_holds : (n : List ℕ) (k : Kind) → ((t : Tree) → OfAsked P (asked U k t) → conforms U k t ≡ true)
@@ -315,13 +313,8 @@ module _ (T U : Tables) (W : tables_sound U ≡ true) (P : Kind → Tree → Typ
       item_kept ms (conforms T a_schema (object ms)) (conforms U a_schema (object ms))
       (asked U a_schema (object ms)) h o.1.1
       (λ c a. schema_kept ms (r schema_data) g c a.1)
-  step r k null g s h o = h
-  step r k (flag b) g s h o = h
   step r k (whole (pos n)) g s h o = h
-  step r k (whole (negsuc n)) g s h o = h
-  step r k (text u) g s h o = h
-  step r k (list ts) g s h o = h
-  step r k (object ms) g s h o = h
+  step r k t g s h o = h
 
   -- where a change of kind keeps what conforms, once it is so for the trees inside, the second list keeps what
   -- conforms by the first

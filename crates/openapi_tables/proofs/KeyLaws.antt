@@ -1,10 +1,7 @@
 -- A map that grows entry by entry: its keys stay distinct, and entries with distinct keys stay as they are.
 use Rattle.std.proofs.Common.{Bool, true, false, cond, List, [], ◌∷◌, ◌≡◌, refl, sym, ap, ◌∙◌, subst}
-use Rattle.openapi_tables.specs.Lists.{join}
-use Rattle.openapi_tables.specs.Form.{Key, Pair}
-use Rattle.openapi_tables.specs.Read.{same_key, put, put_all, gather}
+use Rattle.openapi_tables.specs.Prelude.{join, Key, Pair, same_key, put, put_all, gather, Class, status_names}
 use Rattle.openapi_tables.proofs.ListLaws.{Each, join-nil, join_assoc}
-use Rattle.openapi_tables.specs.Kind.{Class, extensions, callback_names, path_names, status_names}
 
 -- no entry of a list has the same key as n
 abbrev pub Lacks : {X : Type 0} → Key → List (Pair X) → Type 0
@@ -59,6 +56,7 @@ Distinct-put {X} n x (e ∷ m) g =
     either_way (λ (l : List (Pair X)). Distinct l) (same_key e.key n) (record { key = e.key; value = x } ∷ m)
     (e ∷ put n x m) (λ b. g) (λ b. (apart_put e.key n x m b g.0, Distinct-put n x m g.1))
 
+-- a map with distinct keys still has distinct keys when any entries have gone in
 pub Distinct-put_all : {X : Type 0} → (m es : List (Pair X)) → Distinct m → Distinct (put_all m es)
 Distinct-put_all m [] g = g
 Distinct-put_all m (e ∷ es) g = Distinct-put_all (put e.key e.value m) es (Distinct-put e.key e.value m g)
@@ -84,23 +82,19 @@ Both-put_all K V m (e ∷ es) h g =
 pub Both-gather : {X : Type 0} → (K : Key → Type 0) (V : X → Type 0) (c : Class) (es : List (Pair X))
     → Each (Both K V) es → Each (Both K V) (gather c es)
 Both-gather K V status_names es h = Both-put_all K V [] es tt h
-Both-gather K V extensions es h = h
-Both-gather K V callback_names es h = h
-Both-gather K V path_names es h = h
+Both-gather K V c es h = h
 
 -- entries that go into no map, or that have distinct keys, are gathered as they stand
 abbrev pub Gathered : {X : Type 0} → Class → List (Pair X) → Type 0
 Gathered status_names es = Distinct es
 Gathered _ es = Unit {0}
 
+-- the entries that a class has gathered have distinct keys, where it gathers them into a map
 pub Gathered-gather : {X : Type 0} → (c : Class) (es : List (Pair X)) → Gathered c (gather c es)
 Gathered-gather status_names es = Distinct-put_all [] es tt
-Gathered-gather extensions es = tt
-Gathered-gather callback_names es = tt
-Gathered-gather path_names es = tt
+Gathered-gather c es = tt
 
+-- entries are gathered as they stand where the class is no map, or they have distinct keys
 pub gather-gathered : {X : Type 0} → (c : Class) (es : List (Pair X)) → Gathered c es → gather c es ≡ es
 gather-gathered status_names es h = put_all-distinct [] es h
-gather-gathered extensions es h = refl
-gather-gathered callback_names es h = refl
-gather-gathered path_names es h = refl
+gather-gathered c es h = refl

@@ -3,20 +3,14 @@ use Rattle.openapi_tables.proofs.ListLaws.{every_same}
 use Rattle.std.proofs.Common.{ℕ, Bool, true, false, not, cond, ◌&&◌, ◌||◌, List, [], ◌∷◌, Some, ◌≡◌, refl, sym, ap, ◌∙◌}
 use Rattle.std.proofs.Common.{subst, codes}
 use Rattle.std.proofs.lemmas.Bool.{and_parts, both_ways}
-use Rattle.openapi_tables.specs.Lists.{each, join, only, every, same_text, has}
-use Rattle.openapi_node.specs.Tree.{Tree, null, flag, whole, text, list, object}
-use Rattle.openapi_tables.specs.Tree.{members_of, Entry}
-use Rattle.openapi_tables.specs.Kind.{Kind, any_text, any_flag, number, any_tree, one_of, format, null_or, list_of}
-use Rattle.openapi_tables.specs.Kind.{map_of, by, tagged, ref_to, flag_or_schema, a_schema, a_schema_kind, status_code}
-use Rattle.openapi_tables.specs.Kind.{Row, Tables}
-use Rattle.openapi_tables.specs.Tables.{any_rows}
-use Rattle.openapi_tables.specs.Members.{is_null, own, held, Sort, string_sort, number_sort, integer_sort}
-use Rattle.openapi_tables.specs.Members.{boolean_sort, object_sort, array_sort, one_of_sort, all_of_sort, any_of_sort}
-use Rattle.openapi_tables.specs.Members.{not_sort, any_sort, sort, kind_names, allowed, entries_pass, is_null_or_text}
-use Rattle.openapi_tables.specs.Members.{is_null_or_whole, is_null_or_flag, is_null_or_signed, further, possible_sort}
-use Rattle.openapi_tables.specs.Members.{meets, sort_of, Choice, tag_choice, choice, rows_of}
-use Rattle.openapi_tables.specs.Form.{fields, forms_of}
-use Rattle.openapi_tables.specs.Read.{slot_of_own, form}
+use Rattle.openapi_tables.specs.Prelude.{each, join, only, every, same_text, has, members_of, Entry, Kind, tagged}
+use Rattle.openapi_tables.specs.Prelude.{a_schema, a_schema_kind, Row, Tables, any_rows, is_null, own, held, Sort}
+use Rattle.openapi_tables.specs.Prelude.{string_sort, number_sort, integer_sort, boolean_sort, one_of_sort, all_of_sort}
+use Rattle.openapi_tables.specs.Prelude.{any_of_sort, not_sort, any_sort, sort, kind_names, allowed, entries_pass}
+use Rattle.openapi_tables.specs.Prelude.{is_null_or_text, is_null_or_whole, is_null_or_flag, is_null_or_signed, further}
+use Rattle.openapi_tables.specs.Prelude.{possible_sort, meets, sort_of, Choice, tag_choice, choice, rows_of, fields}
+use Rattle.openapi_tables.specs.Prelude.{forms_of, slot_of_own, form}
+use Rattle.openapi_node.specs.Tree.{Tree, null, object}
 use Rattle.openapi_tables.specs.Laws.{steers}
 use Rattle.openapi_tables.proofs.ListLaws.{Each, every_each, same_text-refl, each_under, same_text_eq}
 use Rattle.openapi_tables.proofs.RowLaws.{not_both}
@@ -26,6 +20,7 @@ use Rattle.openapi_tables.proofs.ReadLaws.{reads, slot_in, form-fields}
 abbrev SameKinds : List (Entry Tree) → List (Entry Tree) → Type 0
 SameKinds es ds = (n : List ℕ) → has kind_names n ≡ true → held n es ≡ held n ds
 
+-- each of the 24 kind names is one of them
 pub kind_names_known : every (has kind_names) kind_names ≡ true
 unfolding kind_names any_rows
 kind_names_known = refl
@@ -48,13 +43,7 @@ further_same integer_sort es ds h =
     && is_null_or_signed (held (codes "multipleOf") ds) && is_null_or_signed (held (codes "minimum") ds)
     && is_null_or_signed t) (h (codes "maximum") refl)
 further_same boolean_sort es ds h = ap (entries_pass is_null_or_flag) (h (codes "enum") refl)
-further_same object_sort es ds h = refl
-further_same array_sort es ds h = refl
-further_same one_of_sort es ds h = refl
-further_same all_of_sort es ds h = refl
-further_same any_of_sort es ds h = refl
-further_same not_sort es ds h = refl
-further_same any_sort es ds h = refl
+further_same s es ds h = refl
 
 meets_same : (s : Sort) (es ds : List (Entry Tree)) → SameKinds es ds → meets s es ≡ meets s ds
 meets_same s es ds h =
@@ -80,11 +69,7 @@ possible_same null es ds h =
     (h (codes "anyOf") refl)
     ∙ ap (λ a. chain (held (codes "oneOf") ds) (held (codes "allOf") ds) (held (codes "anyOf") ds) a)
     (h (codes "not") refl)
-possible_same (flag b) es ds h = refl
-possible_same (whole z) es ds h = refl
-possible_same (text s) es ds h = refl
-possible_same (list ts) es ds h = refl
-possible_same (object ms) es ds h = refl
+possible_same t es ds h = refl
 
 sort_same : (es ds : List (Entry Tree)) → SameKinds es ds → sort_of es ≡ sort_of ds
 unfolding kind_names any_rows
@@ -101,19 +86,7 @@ pub choice_same : (k : Kind) (es ds : List (Entry Tree)) → ((n : List ℕ) →
 choice_same (tagged n cs) es ds h = ap (tag_choice cs) (h n (same_text-refl n))
 choice_same a_schema es ds h = ap (λ s. Some (sort s)) (sort_same es ds h)
 choice_same a_schema_kind es ds h = ap (λ s. Some (sort s)) (sort_same es ds h)
-choice_same (by i) es ds h = refl
-choice_same any_text es ds h = refl
-choice_same any_flag es ds h = refl
-choice_same (number w) es ds h = refl
-choice_same any_tree es ds h = refl
-choice_same (one_of ws) es ds h = refl
-choice_same (format ws b) es ds h = refl
-choice_same (null_or k) es ds h = refl
-choice_same (list_of k) es ds h = refl
-choice_same (map_of k) es ds h = refl
-choice_same (ref_to k) es ds h = refl
-choice_same flag_or_schema es ds h = refl
-choice_same status_code es ds h = refl
+choice_same k es ds h = refl
 
 slots_same : (T : Tables) (ws : List Row) (es ds : List (Entry Tree)) → Each (λ w. own w es ≡ own w ds) ws
     → each (slot_in T es) ws ≡ each (slot_in T ds) ws
@@ -122,6 +95,7 @@ slots_same T (w ∷ ws) es ds h =
     ap (λ l. slot_of_own w (reads T l) ∷ each (slot_in T es) ws) h.0
     ∙ ap (λ l. slot_in T ds w ∷ l) (slots_same T ws es ds h.1)
 
+-- two objects are read as the same form where each name that steers, and each row, finds the same in both
 pub form_same : (T : Tables) (k : Kind) (c : Choice) (es ds : List (Entry Tree)) → choice k ds ≡ Some c
     → ((n : List ℕ) → steers k n ≡ true → held n es ≡ held n ds)
     → Each (λ w. own w es ≡ own w ds) (rows_of T k c)
@@ -139,19 +113,21 @@ only_skips p (z ∷ xs) ys x h = ap (λ l. cond (p z) (z ∷ l) l) (only_skips p
 swapped : {A : Type 0} → (b c : Bool) (x y : A) (l : List A) → (b && c) ≡ false
     → cond c (y ∷ cond b (x ∷ l) l) (cond b (x ∷ l) l) ≡ cond b (x ∷ cond c (y ∷ l) l) (cond c (y ∷ l) l)
 swapped true true x y l h = cc
-swapped true false x y l h = refl
-swapped false true x y l h = refl
-swapped false false x y l h = refl
+swapped b false x y l h = refl
+swapped b c x y l h = refl
 
+-- what passes a test is the same when two neighbours change places that do not both pass it
 pub only_swaps : {A : Type 0} → (p : A → Bool) (xs ys : List A) (x y : A) → (p x && p y) ≡ false
     → only p (join xs (y ∷ x ∷ ys)) ≡ only p (join xs (x ∷ y ∷ ys))
 only_swaps p [] ys x y h = swapped (p x) (p y) x y (only p ys) h
 only_swaps p (z ∷ xs) ys x y h = ap (λ l. cond (p z) (z ∷ l) l) (only_swaps p xs ys x y h)
 
+-- a name that steers and a name that does not are two names
 pub other_name : (k : Kind) (n m : List ℕ) → steers k n ≡ true → steers k m ≡ false → same_text n m ≡ false
 other_name k n m h g = not_both (same_text n m)
     (λ e. both_ways (steers k m) g (subst (λ u. steers k u ≡ true) (same_text_eq n m e) h))
 
+-- no text is the same as two that differ
 pub not_two : (n d e : List ℕ) → same_text d e ≡ false → (same_text n d && same_text n e) ≡ false
 not_two n d e h =
     not_both (same_text n d && same_text n e) (λ x.

@@ -2,19 +2,15 @@
 use Rattle.std.proofs.Common.{ℕ, Bool, true, false, ◌&&◌, List, [], ◌∷◌, Some, ◌≡◌, refl, sym, ap, ◌∙◌, codes}
 use Rattle.std.proofs.Common.{true≢false}
 use Rattle.std.proofs.lemmas.Bool.{or_left, or_right}
-use Rattle.openapi_tables.specs.Lists.{each, join, every, same_text, has}
+use Rattle.openapi_tables.specs.Prelude.{each, join, every, same_text, has, members_of, Entry, Seen, Shape, an_object}
+use Rattle.openapi_tables.specs.Prelude.{of_members, Kind, by, tagged, ref_to, flag_or_schema, a_schema, a_schema_kind}
+use Rattle.openapi_tables.specs.Prelude.{optional, Row, row, either, class, constant, takes, schema_data, Tables}
+use Rattle.openapi_tables.specs.Prelude.{any_rows, own, first_tree, held, plain, sort, sort_rows, kind_names, row_name}
+use Rattle.openapi_tables.specs.Prelude.{Choice, choice, rows_of, made_optional, checked_rows, text_in, is_reference}
+use Rattle.openapi_tables.specs.Prelude.{reference_or, root_conforms, row_holds, chosen_holds, object_holds, conforms}
+use Rattle.openapi_tables.specs.Prelude.{reference, reference_or_item, root_form, form}
 use Rattle.openapi_node.specs.Tree.{Tree, text, object}
-use Rattle.openapi_tables.specs.Tree.{members_of, Entry, Seen, Shape, an_object, of_members}
-use Rattle.openapi_tables.specs.Kind.{Kind}
-use Rattle.openapi_tables.specs.Kind.{by, tagged, ref_to, flag_or_schema, a_schema, a_schema_kind}
-use Rattle.openapi_tables.specs.Kind.{optional, Row, row, either, class, constant, takes, schema_data, Tables}
-use Rattle.openapi_tables.specs.Tables.{any_rows}
-use Rattle.openapi_tables.specs.Members.{own, first_tree, held, plain, tag, sort, sort_rows, kind_names, row_name, Choice}
-use Rattle.openapi_tables.specs.Members.{choice, rows_of, made_optional, checked_rows}
-use Rattle.openapi_tables.specs.Conforms.{text_in, is_reference, reference_or, root_conforms, row_holds, chosen_holds}
-use Rattle.openapi_tables.specs.Conforms.{object_holds, conforms}
-use Rattle.openapi_tables.specs.Form.{reference}
-use Rattle.openapi_tables.specs.Read.{reference_or_item, root_form, form}
+use Rattle.openapi_tables.specs.Members.{tag}
 use Rattle.openapi_tables.specs.Laws.{steers, item_kind, Every, ReadAlike, Ignored, Order, References}
 use Rattle.openapi_tables.proofs.FaultLaws.{judged, own_judged}
 use Rattle.openapi_tables.proofs.ListLaws.{Each, Each-join, same_text-refl}
@@ -58,17 +54,12 @@ checked_from : (P : Row → Type 0) (T : Tables) (k : Kind) (c : Choice)
     → Each P (checked_rows T k c)
 unfolding rows_of checked_rows kind_names
 checked_from P T (by i) c f h = h
-checked_from P T (tagged n cs) plain f h = tt
 checked_from P T (tagged n cs) (tag s) f h = h
-checked_from P T (tagged n cs) (sort s) f h = tt
-checked_from P T a_schema plain f h = tt
-checked_from P T a_schema (tag s) f h = tt
 checked_from P T a_schema (sort s) f h =
     Each-join P (T schema_data) (each made_optional any_rows) (front P (T schema_data) (sort_rows s) h)
     (named_rows P any_rows all_named f)
-checked_from P T a_schema_kind plain f h = tt
-checked_from P T a_schema_kind (tag s) f h = tt
 checked_from P T a_schema_kind (sort s) f h = named_rows P any_rows all_named f
+checked_from P T k plain f h = tt
 checked_from P T k c f h = tt
 
 -- ---- objects that hold the same under each row
@@ -136,6 +127,7 @@ refers T k es s h =
       ap (λ o. reference_or o (conforms T k (object (members_of es)))) (referred (root_conforms T) es ∙ is),
     )
 
+-- an object with a text under `$ref` conforms, and is read as that reference: the law `References`
 pub references : References
 references T (ref_to k) es s m h = refers T k es s h
 references T flag_or_schema es s m h = refers T a_schema es s h
@@ -168,6 +160,7 @@ under : {A : Type 0} (P Q : A → Type 0) (xs : List A) → ((x : A) → P x →
 under P Q [] f h = tt
 under P Q (x ∷ xs) f h = (f x h.0, under P Q xs f h.1)
 
+-- a member that no row takes and whose name does not steer counts for nothing: the law `Ignored`
 pub ignored : Ignored
 ignored T k c before after e h s g =
     let P : Row → Type 0 = λ w. takes w e.name ≡ false in
@@ -181,6 +174,7 @@ ignored T k c before after e h s g =
     (only_skips (λ (d : Entry Tree). same_text n d.name) before after e (other_name k n e.name x s)))
     (under P Q rows skips all) (under P Q (checked_rows T (item_kind k) c) skips checked)
 
+-- neighbours of different names that no row takes both may change places: the law `Order`
 pub order : Order
 order T k c before after d e h s g =
     let P : Row → Type 0 = λ w. (takes w d.name && takes w e.name) ≡ false in

@@ -1,17 +1,14 @@
 -- What is read of trees that are made of lists of members.
 use Rattle.std.proofs.Common.{ℕ, false, List, [], ◌∷◌, Some, None, ◌≡◌, refl, ap, ◌∙◌, codes}
-use Rattle.openapi_tables.specs.Lists.{each}
-use Rattle.openapi_node.specs.Tree.{Tree, null, flag, whole, text, list, object, items_of}
-use Rattle.openapi_tables.specs.Tree.{members_of, Entry, on_entry, Seen, of_members}
-use Rattle.openapi_tables.specs.Kind.{Kind, any_text, any_flag, number, any_tree, one_of, format, null_or, list_of}
-use Rattle.openapi_tables.specs.Kind.{map_of, by, tagged, ref_to, flag_or_schema, a_schema, a_schema_kind, status_code}
-use Rattle.openapi_tables.specs.Kind.{Class, Row, takes, Tables}
-use Rattle.openapi_tables.specs.Members.{own, held, Choice, choice, rows_of}
-use Rattle.openapi_tables.specs.Conforms.{text_in}
-use Rattle.openapi_tables.specs.Form.{Form, reference, an_item, sequence, named, fields, forms_of, named_of, Key, name}
-use Rattle.openapi_tables.specs.Form.{Pair}
-use Rattle.openapi_tables.specs.Read.{map_form, class_form, key_in, pairs_as, slot_of_own, slot, Reads, root_form, form}
-use Rattle.openapi_tables.specs.Read.{chosen_form, object_form, reference_or_item, gather}
+use Rattle.openapi_tables.specs.Prelude.{each, members_of, Entry, on_entry, Seen, of_members, Kind, null_or, list_of}
+use Rattle.openapi_tables.specs.Prelude.{map_of, by, tagged, ref_to, flag_or_schema, a_schema, a_schema_kind, Class}
+use Rattle.openapi_tables.specs.Prelude.{Row, takes, Tables, own, held, Choice, choice, rows_of, text_in, Form}
+use Rattle.openapi_tables.specs.Prelude.{reference, an_item, sequence, named, fields, forms_of, named_of, Key, name}
+use Rattle.openapi_tables.specs.Prelude.{Pair, map_form, class_form, key_in, pairs_as, slot_of_own, slot, root_form}
+use Rattle.openapi_tables.specs.Prelude.{form, chosen_form, reference_or_item, gather}
+use Rattle.openapi_node.specs.Tree.{Tree, null, flag, list, object, items_of}
+use Rattle.openapi_tables.specs.Read.{Reads}
+use Rattle.openapi_tables.specs.Read.{object_form}
 use Rattle.openapi_tables.proofs.ListLaws.{each-each, each_same, each_all, only-each}
 use Rattle.openapi_tables.proofs.TreeLaws.{see, of_items-of, of_members-of, members_list-of}
 use Rattle.openapi_tables.proofs.Taken.{trees_of-members, ref_text, is_flag}
@@ -20,9 +17,11 @@ use Rattle.openapi_tables.proofs.Taken.{trees_of-members, ref_text, is_flag}
 abbrev pub reads : (T : Tables) → List (Entry Tree) → Reads
 reads T es = each (on_entry (see (root_form T))) es
 
+-- the entry of a map or class that is read of a member
 abbrev pub pair_of : (T : Tables) → (List ℕ → Key) → Kind → Entry Tree → Pair Form
 pair_of T g k e = record { key = g e.name; value = form T k e.value }
 
+-- what is read of a list is the sequence of what is read of each of its trees
 pub form-list : (T : Tables) (k : Kind) (ts : List Tree)
     → form T (list_of k) (list (items_of ts)) ≡ sequence (forms_of (each (form T k) ts))
 form-list T k ts =
@@ -34,14 +33,17 @@ pub pairs_as-reads : (T : Tables) (g : List ℕ → Key) (k : Kind) (es : List (
 pairs_as-reads T g k [] = refl
 pairs_as-reads T g k (e ∷ es) = ap (λ l. pair_of T g k e ∷ l) (pairs_as-reads T g k es)
 
+-- the form of a class is the entries that are read of its members, gathered
 pub class_form-reads : (T : Tables) (c : Class) (k : Kind) (es : List (Entry Tree))
     → class_form c k (reads T es) ≡ named (named_of (gather c (each (pair_of T (key_in c) k) es)))
 class_form-reads T c k es = ap (λ l. named (named_of (gather c l))) (pairs_as-reads T (key_in c) k es)
 
+-- the form of a map is the entries that are read of its members
 pub map_form-reads : (T : Tables) (k : Kind) (es : List (Entry Tree))
     → map_form k (reads T es) ≡ named (named_of (each (pair_of T name k) es))
 map_form-reads T k es = ap (λ l. named (named_of l)) (pairs_as-reads T name k es)
 
+-- an object under a kind of maps is read as the entries of its members
 pub form-map : (T : Tables) (k : Kind) (es : List (Entry Tree))
     → form T (map_of k) (object (members_of es)) ≡ named (named_of (each (pair_of T name k) es))
 form-map T k es = ap (map_form k) (of_members-of (root_form T) es) ∙ map_form-reads T k es
@@ -50,9 +52,11 @@ form-map T k es = ap (map_form k) (of_members-of (root_form T) es) ∙ map_form-
 pub own-reads : (T : Tables) (w : Row) (es : List (Entry Tree)) → own w (reads T es) ≡ reads T (own w es)
 own-reads T w es = only-each (λ (e : Entry (Seen (Kind → Form))). takes w e.name) (on_entry (see (root_form T))) es
 
+-- the slot that a row reads of a list of members
 abbrev pub slot_in : (T : Tables) → List (Entry Tree) → Row → Form
 slot_in T es w = slot_of_own w (reads T (own w es))
 
+-- the slots of rows, by members seen with their forms, are what the rows read of the list of members
 pub slots-reads : (T : Tables) (ws : List Row) (es : List (Entry Tree))
     → each (slot (reads T es)) ws ≡ each (slot_in T es) ws
 slots-reads T ws es = each_same (slot (reads T es)) (slot_in T es) ws
@@ -74,55 +78,30 @@ form-fields T (by i) c es h = chosen T (by i) c es h
 form-fields T (tagged n cs) c es h = chosen T (tagged n cs) c es h
 form-fields T a_schema c es h = chosen T a_schema c es h
 form-fields T a_schema_kind c es h = chosen T a_schema_kind c es h
-form-fields T any_text c es h = cc
-form-fields T any_flag c es h = cc
-form-fields T (number w) c es h = cc
-form-fields T any_tree c es h = cc
-form-fields T (one_of ws) c es h = cc
-form-fields T (format ws b) c es h = cc
-form-fields T (null_or k) c es h = cc
-form-fields T (list_of k) c es h = cc
-form-fields T (map_of k) c es h = cc
-form-fields T (ref_to k) c es h = cc
-form-fields T flag_or_schema c es h = cc
-form-fields T status_code c es h = cc
+form-fields T k c es h = cc
 
 -- a tree that is no reference is an item
 pub form-item : (T : Tables) (k : Kind) (t : Tree) → ref_text t ≡ None → form T (ref_to k) t ≡ an_item (form T k t)
-form-item T k null h = refl
-form-item T k (flag b) h = refl
-form-item T k (whole z) h = refl
-form-item T k (text s) h = refl
-form-item T k (list ts) h = refl
 form-item T k (object ms) h =
     ap (λ o. reference_or_item o (form T k (object ms)))
     (ap (λ es. text_in (held (codes "$ref") es)) (trees_of-members (root_form T) ms) ∙ h)
+form-item T k t h = refl
 
 -- a tree with a text under `$ref` is a reference
 pub form-reference : (T : Tables) (k : Kind) (t : Tree) (s : List ℕ) → ref_text t ≡ Some s
     → form T (ref_to k) t ≡ reference s
-form-reference T k null s h = cc
-form-reference T k (flag b) s h = cc
-form-reference T k (whole z) s h = cc
-form-reference T k (text u) s h = cc
-form-reference T k (list ts) s h = cc
 form-reference T k (object ms) s h =
     ap (λ o. reference_or_item o (form T k (object ms)))
     (ap (λ es. text_in (held (codes "$ref") es)) (trees_of-members (root_form T) ms) ∙ h)
+form-reference T k t s h = cc
 
+-- a tree is read under `null_or` a kind as it is under that kind
 pub form-null_or : (T : Tables) (k : Kind) (t : Tree) → form T (null_or k) t ≡ form T k t
 form-null_or T k null = refl
-form-null_or T k (flag b) = refl
-form-null_or T k (whole z) = refl
-form-null_or T k (text s) = refl
-form-null_or T k (list ts) = refl
-form-null_or T k (object ms) = refl
+form-null_or T k t = refl
 
+-- a tree that is no flag is read under `flag_or_schema` as it is under `ref_to a_schema`
 pub form-flag_or_schema : (T : Tables) (t : Tree) → is_flag t ≡ false
     → form T flag_or_schema t ≡ form T (ref_to a_schema) t
-form-flag_or_schema T null h = refl
 form-flag_or_schema T (flag b) h = cc
-form-flag_or_schema T (whole z) h = refl
-form-flag_or_schema T (text s) h = refl
-form-flag_or_schema T (list ts) h = refl
-form-flag_or_schema T (object ms) h = refl
+form-flag_or_schema T t h = refl

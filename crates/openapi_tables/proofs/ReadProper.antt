@@ -1,42 +1,32 @@
 -- What is read of a tree that conforms is a proper form: for all kinds and trees.
-use Rattle.std.proofs.Common.{ℕ, Bool, true, false, not, cond, ◌&&◌, ◌||◌, List, [], ◌∷◌, ◌≡◌, refl}
-use Rattle.std.proofs.Common.{sym, ap, ◌∙◌, eq-eqb, ⊎_elim}
-use Rattle.std.proofs.lemmas.Bool.{and_parts, and_from, or_left, or_right, or_cases, not-true}
-use Rattle.openapi_tables.specs.Kind.{Kind, Tables, Row, Class, Code, Mode, a_schema, a_schema_kind}
-use Rattle.openapi_tables.specs.Kind.{any_flag, any_text, any_tree, by, class, code, constant, either}
-use Rattle.openapi_tables.specs.Kind.{flag_or_schema, flagged, format, formatted, in_class, list_of, listed}
-use Rattle.openapi_tables.specs.Kind.{map_of, null_or, nullable, number, one_of, optional, range, ref_to, required, row}
-use Rattle.openapi_tables.specs.Kind.{status_code, styled, tagged}
+use Rattle.std.proofs.Common.{ℕ, Bool, true, false, not, cond, ◌&&◌, ◌||◌, List, [], ◌∷◌, ◌≡◌, refl, sym, ap, ◌∙◌}
+use Rattle.std.proofs.Common.{eq-eqb, ⊎_elim}
+use Rattle.std.proofs.lemmas.Bool.{and_parts, and_from, or_left, or_right, or_cases}
+use Rattle.openapi_tables.specs.Prelude.{Kind, Tables, Row, Class, Code, Mode, any_tree, class, code, constant, either}
+use Rattle.openapi_tables.specs.Prelude.{flagged, format, formatted, in_class, list_of, listed, null_or, nullable}
+use Rattle.openapi_tables.specs.Prelude.{one_of, optional, range, ref_to, required, row, styled, conforms, either_holds}
+use Rattle.openapi_tables.specs.Prelude.{may_miss, name_holds, skips_null, Form, Key, Pair, coded, name, each, every}
+use Rattle.openapi_tables.specs.Prelude.{same_text, first_tree, is_null, own, text_of_key, Held, face_proper}
+use Rattle.openapi_tables.specs.Prelude.{is_written, may_be_absent, of_kind, proper, row_proper, rows_proper}
+use Rattle.openapi_tables.specs.Prelude.{class_form, default_of, form, gather, key_in, name_slot, same_code, same_key}
+use Rattle.openapi_tables.specs.Prelude.{slot_of_own, mode_fits, refuses_null, row_sound, sound, Entry, Seen}
 use Rattle.openapi_tables.proofs.FaultLaws.{judged}
 use Rattle.openapi_tables.proofs.FormLaws.{of_named-of, on_pair, show}
 use Rattle.openapi_tables.proofs.KeyLaws.{Both, Both-gather}
 use Rattle.openapi_tables.proofs.ListLaws.{Each, Each-only, Each_within-only, same_text-refl}
 use Rattle.openapi_tables.proofs.ReadLaws.{class_form-reads, pair_of, reads, slot_in}
-use Rattle.openapi_tables.proofs.RowBack.{Keyed, keyed}
+use Rattle.openapi_tables.proofs.again.RowsBack.{Keyed, keyed}
 use Rattle.openapi_tables.proofs.RowLaws.{TakesAll}
 use Rattle.openapi_tables.proofs.RowWrites.{row_holds_own}
-use Rattle.openapi_tables.proofs.SortHolds.{AllHold, not_null_conforms}
-use Rattle.openapi_tables.specs.Conforms.{conforms, either_holds, may_miss, name_holds}
-use Rattle.openapi_tables.specs.Conforms.{skips_null}
-use Rattle.openapi_tables.specs.Form.{Form, Key, Pair, coded, name}
-use Rattle.openapi_tables.specs.Lists.{each, every, same_text}
-use Rattle.openapi_tables.specs.Members.{first_tree}
-use Rattle.openapi_tables.specs.Members.{is_null}
-use Rattle.openapi_tables.specs.Members.{own}
-use Rattle.openapi_tables.specs.Print.{text_of_key}
-use Rattle.openapi_tables.specs.Proper.{Held, face_proper, is_written, may_be_absent, of_kind}
-use Rattle.openapi_tables.specs.Proper.{proper, row_proper, rows_proper}
-use Rattle.openapi_tables.specs.Read.{class_form, default_of, form, gather, key_in, name_slot}
-use Rattle.openapi_tables.specs.Read.{same_code, same_key, slot_of_own}
-use Rattle.openapi_tables.specs.Sound.{mode_fits, refuses_null, row_sound, sound}
+use Rattle.openapi_tables.proofs.SortHolds.{AllHold, not_null_conforms, null_refused}
 use Rattle.openapi_node.specs.Tree.{Tree, null}
-use Rattle.openapi_tables.specs.Tree.{Entry, Seen}
 use Rattle.openapi_tables.proofs.SoundLaws.{sound_pick}
 
 -- a tree that conforms is read as a proper form
 abbrev pub ReadsProper : (T : Tables) → Tree → Type 0
 ReadsProper T t = (k : Kind) → sound T k ≡ true → conforms T k t ≡ true → proper T k (form T k t) ≡ true
 
+-- the tree of each member is read as a proper form under each sound kind that it conforms to
 abbrev pub ValuesProper : (T : Tables) → List (Entry Tree) → Type 0
 ValuesProper T es = Each (λ (e : Entry Tree). ReadsProper T e.value) es
 
@@ -50,19 +40,12 @@ RowReads T l (constant n v) = Unit {0}
 
 default_proper : (T : Tables) (n : List ℕ) (m : Mode) (k : Kind) → mode_fits m k ≡ true → may_miss m ≡ true
     → row_proper (row n m k) (show (face_proper T) (default_of m k)) ≡ true
-default_proper T n required k s h = cc
-default_proper T n optional k s h = refl
-default_proper T n nullable k s h = refl
-default_proper T n listed (list_of k) s h = refl
-default_proper T n listed (map_of k) s h = refl
-default_proper T n listed k s h = cc
-default_proper T n flagged any_flag s h = refl
-default_proper T n flagged k s h = cc
 default_proper T n (styled u) (one_of ws) s h = s
-default_proper T n (styled u) k s h = cc
 default_proper T n formatted (format ws b) s h = s
-default_proper T n formatted k s h = cc
+default_proper T n m (list_of k) s h = cc
+default_proper T n m k s h = cc
 
+-- where a flag with `|| false` is true, the flag is true
 pub or_false_right : (b : Bool) → (b || false) ≡ true → b ≡ true
 or_false_right true h = refl
 or_false_right false h = cc
@@ -83,10 +66,12 @@ name_proper : (T : Tables) (n : List ℕ) (m : Mode) (k : Kind) (l : List (Entry
 name_proper T n m k [] s d g h = default_proper T n m k s (or_false_right (may_miss m) h.1)
 name_proper T n m k (e ∷ l) s d g h = value_proper T n m k e.value s (λ x. g.0 k d x) h.0 h.1 (is_null e.value) refl
 
+-- a code is the same as itself
 pub same_code-refl : (c : Code) → same_code c c ≡ true
 same_code-refl (code n) = eq-eqb n n refl
 same_code-refl (range n) = eq-eqb n n refl
 
+-- a key is the same as itself
 pub same_key-refl : (n : Key) → same_key n n ≡ true
 same_key-refl (name n) = same_text-refl n
 same_key-refl (coded c) = same_code-refl c
@@ -139,9 +124,11 @@ row_reads_proper T (either a j b k) (e ∷ l) s t g h =
 row_reads_proper T (class c k) l s a g h = class_form_proper T c k l s a g h
 row_reads_proper T (constant n v) l s a g h = refl
 
+-- each row finds in a list of members what it must for its slot to be proper
 abbrev pub AllRead : (T : Tables) → List (Entry Tree) → List Row → Type 0
 AllRead T es ws = Each (λ w. RowReads T (own w es) w) ws
 
+-- sound rows that find what they must read proper slots, if the trees of the members are read as proper forms
 pub rows_read_proper : (T : Tables) (es : List (Entry Tree)) (ws : List Row) → Each (λ w. row_sound T w ≡ true) ws
     → ValuesProper T es → AllRead T es ws → rows_proper ws (each (show (face_proper T)) (each (slot_in T es) ws)) ≡ true
 rows_read_proper T es [] s g h = refl
@@ -151,24 +138,6 @@ rows_read_proper T es (w ∷ ws) s g h =
     (Each_within-only (λ (e : Entry Tree). ReadsProper T e.value) _ es g) h.0) (rows_read_proper T es ws s.1 g h.1)
 
 -- rows that hold find what they need
-refuses : (T : Tables) (k : Kind) → refuses_null k ≡ true → conforms T k null ≡ false
-refuses T any_text h = refl
-refuses T any_flag h = refl
-refuses T (number w) h = refl
-refuses T any_tree h = cc
-refuses T (one_of ws) h = refl
-refuses T (format ws b) h = not-true b h
-refuses T (null_or k) h = cc
-refuses T (list_of k) h = refl
-refuses T (map_of k) h = refl
-refuses T (by i) h = refl
-refuses T (tagged n cs) h = refl
-refuses T (ref_to k) h = refuses T k h
-refuses T flag_or_schema h = refl
-refuses T a_schema h = refl
-refuses T a_schema_kind h = refl
-refuses T status_code h = refl
-
 name_reads : (T : Tables) (m : Mode) (k : Kind) (l : List (Entry Tree)) → mode_fits m k ≡ true
     → name_holds m k (judged T l) ≡ true → (name_holds optional k (judged T l) ≡ true)
     × ((may_miss m || not (is_null (first_tree l))) ≡ true)
@@ -183,7 +152,7 @@ name_reads T m k (e ∷ l) s h = (
   where
     there : (m : Mode) → mode_fits m k ≡ true → (skips_null m && is_null e.value || conforms T k e.value) ≡ true
         → (may_miss m || not (is_null e.value)) ≡ true
-    there required s h = not_null_conforms T k e.value (refuses T k s) h
+    there required s h = not_null_conforms T k e.value (null_refused T k s) h
     there optional s h = refl
     there nullable s h = refl
     there listed s h = refl
@@ -198,9 +167,8 @@ row_reads T (either a j b k) l s h = h
 row_reads T (class c k) l s h = h
 row_reads T (constant n v) l s h = tt
 
+-- sound rows that hold find what they must
 pub all_read : (T : Tables) (es : List (Entry Tree)) (ws : List Row) → Each (λ w. row_sound T w ≡ true) ws
     → AllHold T es ws → AllRead T es ws
 all_read T es [] s h = tt
 all_read T es (w ∷ ws) s h = (row_reads T w (own w es) s.0 h.0, all_read T es ws s.1 h.1)
-
--- the rows of the sort of a schema whose kind names all hold

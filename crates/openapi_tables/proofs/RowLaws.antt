@@ -2,22 +2,17 @@
 use Rattle.std.proofs.Common.{ℕ, Bool, true, false, not, cond, ◌&&◌, ◌≤◌, nat_le, List, [], ◌∷◌, Some, None, ◌≡◌, refl}
 use Rattle.std.proofs.Common.{sym, ap, ◌∙◌, subst, codes, eqb-true, leb-true, arith, ⊎_elim}
 use Rattle.std.proofs.lemmas.Bool.{and_parts, or_cases, or_from, cases_Bool, both_ways, not-true}
-use Rattle.openapi_tables.specs.Lists.{join, only, every, same_text}
+use Rattle.openapi_tables.specs.Prelude.{join, only, every, same_text, Entry, Code, Row, row, either, class, constant}
+use Rattle.openapi_tables.specs.Prelude.{Class, extensions, callback_names, Mode, Kind, status_names, takes, in_class}
+use Rattle.openapi_tables.specs.Prelude.{is_code, Tables, own, Form, apart, rows_apart, row_print, one}
 use Rattle.openapi_node.specs.Tree.{Tree}
-use Rattle.openapi_tables.specs.Tree.{Entry}
-use Rattle.openapi_tables.specs.Kind.{Code, Row, row, either, class, constant, Class, extensions, callback_names, Mode}
-use Rattle.openapi_tables.specs.Kind.{Kind}
-use Rattle.openapi_tables.specs.Kind.{path_names, status_names, takes, in_class, is_code, is_digit, is_x, begins}
-use Rattle.openapi_tables.specs.Kind.{Tables}
-use Rattle.openapi_tables.specs.Members.{own}
-use Rattle.openapi_tables.specs.Form.{Form}
-use Rattle.openapi_tables.specs.Sound.{apart, rows_apart, classes_meet}
-use Rattle.openapi_tables.specs.Print.{row_print, one}
+use Rattle.openapi_tables.specs.Kind.{path_names, is_digit, is_x, begins}
+use Rattle.openapi_tables.specs.Sound.{classes_meet}
 use Rattle.openapi_tables.proofs.ListLaws.{same_text-refl, Each, each_under, only-join, only_all, only_none, join-nil}
-use Rattle.openapi_tables.proofs.ListLaws.{join_assoc, same_text-refl}
-use Rattle.openapi_tables.proofs.ListLaws.{same_text_eq, every_each}
+use Rattle.openapi_tables.proofs.ListLaws.{join_assoc, same_text-refl, same_text_eq, every_each}
 use Rattle.openapi_tables.proofs.PrintLaws.{printed, members_for}
 
+-- a flag that cannot be true is false
 pub not_both : (b : Bool) → (b ≡ true → ⊥) → b ≡ false
 not_both b h = ⊎_elim (λ (e : b ≡ true). absurd (h e)) (λ (e : b ≡ false). e) (cases_Bool b)
 
@@ -52,24 +47,14 @@ code_first a b c false true e g x y h =
 code_first a b c false false e g x y h = cc
 
 status_first : (n : List ℕ) → in_class status_names n ≡ true → (48 ≤ first_byte n) × (first_byte n ≤ 57)
-status_first [] h = cc
-status_first (a ∷ []) h = cc
-status_first (a ∷ b ∷ []) h = cc
 status_first (a ∷ b ∷ c ∷ []) h = code_first a b c _ _ refl refl _ _ h
-status_first (a ∷ b ∷ c ∷ d ∷ l) h = cc
+status_first (a ∷ b ∷ []) h = cc
+status_first n h = cc
 
 begins_both : (n : List ℕ) → begins (codes "x-") n ≡ true → not (begins (codes "x-") n) ≡ true → ⊥
 begins_both n h g = both_ways (begins (codes "x-") n) (not-true (begins (codes "x-") n) g) h
 
 classes_apart : (c d : Class) (n : List ℕ) → classes_meet c d ≡ false → in_class c n ≡ true → in_class d n ≡ true → ⊥
-classes_apart extensions extensions n e h g = cc
-classes_apart callback_names callback_names n e h g = cc
-classes_apart callback_names path_names n e h g = cc
-classes_apart callback_names status_names n e h g = cc
-classes_apart path_names path_names n e h g = cc
-classes_apart path_names callback_names n e h g = cc
-classes_apart status_names status_names n e h g = cc
-classes_apart status_names callback_names n e h g = cc
 classes_apart extensions callback_names n e h g = begins_both n h g
 classes_apart callback_names extensions n e h g = begins_both n g h
 classes_apart extensions path_names n e h g = let p = extension_first n h in let q = path_first n g in omega arith
@@ -78,6 +63,8 @@ classes_apart extensions status_names n e h g = let p = extension_first n h in l
 classes_apart status_names extensions n e h g = let q = status_first n h in let p = extension_first n g in omega arith
 classes_apart path_names status_names n e h g = let p = path_first n h in let q = status_first n g in omega arith
 classes_apart status_names path_names n e h g = let q = status_first n h in let p = path_first n g in omega arith
+classes_apart c extensions n e h g = cc
+classes_apart c d n e h g = cc
 
 at_name : (v : Row) (a n : List ℕ) → not (takes v a) ≡ true → same_text a n ≡ true → takes v n ≡ false
 at_name v a n h e = subst (λ m. takes v m ≡ false) (same_text_eq a n e) (not-true (takes v a) h)
@@ -103,6 +90,7 @@ apart_takes (class c k) (either b j d i) n h e =
 apart_takes (class c k) (class d i) n h e =
     not_both (in_class d n) (classes_apart c d n (not-true (classes_meet c d) h) e)
 
+-- of two rows that are apart, the first takes no name that the second takes
 pub apart_back : (w v : Row) (n : List ℕ) → apart w v ≡ true → takes v n ≡ true → takes w n ≡ false
 apart_back w v n h e = not_both (takes w n) (λ x. both_ways (takes v n) (apart_takes w v n h x) e)
 
@@ -214,6 +202,7 @@ no_name T n (w ∷ ws) (f ∷ fs) h g =
     other e x = not_both (same_text n e.name)
         (λ y. both_ways (takes w e.name) (subst (λ m. takes w m ≡ false) (same_text_eq n e.name y) h.0) x)
 
+-- a row of a name takes what it writes under it, be it one member or none
 pub takes_cond : (n : List ℕ) (m : Mode) (k : Kind) (t : Tree) (b : Bool) → TakesAll (row n m k) (cond b [] (one n t))
 takes_cond n m k t true = tt
 takes_cond n m k t false = (same_text-refl n, tt)

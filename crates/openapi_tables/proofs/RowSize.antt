@@ -2,9 +2,13 @@
 use Rattle.std.proofs.Common.{ℕ, suc, Bool, true, false, not, cond, ◌&&◌, ◌||◌, List, [], ◌∷◌, Some, ◌≡◌, refl, sym, ap}
 use Rattle.std.proofs.Common.{◌∙◌, subst, ◌≤◌, ◌+◌, ◌*◌, arith, nat_le, leb-true}
 use Rattle.std.proofs.lemmas.Bool.{and_parts}
-use Rattle.openapi_tables.specs.Kind.{Kind, Tables, Row, Class, Mode, callback_names, class, constant, either}
-use Rattle.openapi_tables.specs.Kind.{extensions, flagged, formatted, list_of, listed, map_of, nullable, optional}
-use Rattle.openapi_tables.specs.Kind.{path_names, required, row, status_names, styled, takes}
+use Rattle.openapi_tables.specs.Prelude.{Kind, Tables, Row, Class, Mode, class, constant, either, flagged, formatted}
+use Rattle.openapi_tables.specs.Prelude.{list_of, listed, map_of, nullable, optional, required, row, status_names}
+use Rattle.openapi_tables.specs.Prelude.{styled, takes, conforms, may_miss, Form, Key, Pair, each, every, join}
+use Rattle.openapi_tables.specs.Prelude.{same_text, Choice, choice, is_null, own, rows_of, clean, is_silent, members_in}
+use Rattle.openapi_tables.specs.Prelude.{one, print, row_print, class_form, default_of, form, gather, key_in, name_slot}
+use Rattle.openapi_tables.specs.Prelude.{put, put_all, same_key, slot_of_own, apart, mode_fits, row_sound, rows_apart}
+use Rattle.openapi_tables.specs.Prelude.{sound, Entry, Seen, members_of}
 use Rattle.openapi_tables.proofs.FaultLaws.{judged}
 use Rattle.openapi_tables.proofs.ListLaws.{Each, Each_within-only, each_under, every_each}
 use Rattle.openapi_tables.proofs.PrintLaws.{entry_of, members_for, print-fields, print-map, printed}
@@ -12,29 +16,19 @@ use Rattle.openapi_tables.proofs.ReadLaws.{class_form-reads, form-fields, pair_o
 use Rattle.openapi_tables.proofs.ReadProper.{AllRead, RowReads, or_false_right}
 use Rattle.openapi_tables.proofs.RowLaws.{apart_takes}
 use Rattle.openapi_tables.proofs.TreeLaws.{members_list-of}
-use Rattle.openapi_tables.specs.Conforms.{conforms, may_miss}
-use Rattle.openapi_tables.specs.Form.{Form, Key, Pair}
-use Rattle.openapi_tables.specs.Lists.{each, every, join, same_text}
-use Rattle.openapi_tables.specs.Members.{Choice, choice, is_null, own, rows_of}
-use Rattle.openapi_tables.specs.Print.{clean, is_silent, members_in, one, print, row_print}
-use Rattle.openapi_tables.specs.Read.{class_form, default_of, form, gather, key_in, name_slot, put, put_all, same_key}
-use Rattle.openapi_tables.specs.Read.{slot_of_own}
-use Rattle.openapi_tables.specs.Sound.{apart, extra, extras, mode_fits, row_sound, rows_apart, sound}
-use Rattle.openapi_node.specs.Tree.{Tree, flag, list, members_size, null, object, size_of, text, whole}
-use Rattle.openapi_tables.specs.Tree.{Entry, Seen, members_of}
+use Rattle.openapi_tables.specs.Sound.{extra, extras}
+use Rattle.openapi_node.specs.Tree.{Tree, members_size, null, object, size_of}
 use Rattle.openapi_tables.proofs.SoundLaws.{sound_pick}
 
+-- the number of values in the trees of members
 abbrev pub total : List (Entry Tree) → ℕ
 total [] = 0
 total (e ∷ es) = size_of e.value + total es
 
+-- a tree has at least one value, itself
 pub size_positive : (t : Tree) → 1 ≤ size_of t
 size_positive null = omega arith
-size_positive (flag b) = omega arith
-size_positive (whole z) = omega arith
-size_positive (text s) = omega arith
-size_positive (list ts) = omega arith
-size_positive (object ms) = omega arith
+size_positive t = omega arith
 
 members_size-of : (es : List (Entry Tree)) → members_size (members_of es) ≡ total es
 members_size-of [] = refl
@@ -83,6 +77,7 @@ owned_le ws (e ∷ es) h = let p = owned_more ws e es h in let q = owned_le ws e
 abbrev pub Small : (T : Tables) → Tree → Type 0
 Small T t = (k : Kind) → sound T k ≡ true → conforms T k t ≡ true → size_of (clean T k t) ≤ 2 * size_of t
 
+-- the tree of each member, where it conforms, is cleaned to one of at most twice its size
 abbrev pub Smalls : (T : Tables) → List (Entry Tree) → Type 0
 Smalls T es = Each (λ (e : Entry Tree). Small T e.value) es
 
@@ -136,9 +131,7 @@ put_all_small T k m (e ∷ es) = let p = put_all_small T k (put e.key e.value m)
 gather_small : (T : Tables) (k : Kind) (c : Class) (es : List (Pair Form))
     → total (each (entry_of T k) (gather c es)) ≤ total (each (entry_of T k) es)
 gather_small T k status_names es = let p = put_all_small T k [] es in omega arith
-gather_small T k extensions es = omega arith
-gather_small T k callback_names es = omega arith
-gather_small T k path_names es = omega arith
+gather_small T k c es = omega arith
 
 pairs_small : (T : Tables) (g : List ℕ → Key) (k : Kind) (l : List (Entry Tree)) → sound T k ≡ true → Smalls T l
     → every (λ (e : Entry (Seen (Kind → Bool))). e.value.answer k) (judged T l) ≡ true
@@ -187,6 +180,7 @@ row_small T (class c k) l s d h f =
     subst (λ x. total x ≤ 2 * total l + 0) (sym p) (omega arith)
 row_small T (constant n v) l s d h f = let p : 1 ≤ 2 * total l + 0 = omega arith in p
 
+-- each tag among the rows, whose text is always written, is there in a list of members
 abbrev pub AllFull : List (Entry Tree) → List Row → Type 0
 AllFull es ws = Each (λ w. Full (own w es) w) ws
 
@@ -200,6 +194,7 @@ rows_small T es (w ∷ ws) s d h f =
     let r = total-join (row_print w (printed T (slot_in T es w))) (members_for T ws (each (slot_in T es) ws)) in
     omega arith
 
+-- an object is cleaned to at most twice its size if its members are and its rows add at most one member
 pub object_small : (T : Tables) (k : Kind) (c : Choice) (es : List (Entry Tree)) → choice k es ≡ Some c
     → rows_apart (rows_of T k c) ≡ true → Each (λ w. row_sound T w ≡ true) (rows_of T k c)
     → nat_le (extras (rows_of T k c)) 1 ≡ true

@@ -3,38 +3,29 @@ use Rattle.openapi_tables.proofs.RowLaws.{takes_cond}
 use Rattle.std.proofs.Common.{ℕ, Bool, true, false, not, cond, ◌&&◌, ◌||◌, List, [], ◌∷◌, ◌≡◌, refl, sym, ap, ◌∙◌}
 use Rattle.std.proofs.Common.{subst, ⊎_elim}
 use Rattle.std.proofs.lemmas.Bool.{and_parts, and_from, or_right, or_cases}
-use Rattle.openapi_tables.specs.Kind.{Kind, Tables, Row, Mode, Class, class, row, map_of, in_class, optional, nullable}
-use Rattle.openapi_tables.specs.Kind.{constant, either, flagged, formatted, listed, required, styled}
-use Rattle.openapi_tables.specs.Proper.{proper, row_proper, rows_proper, Held, face_proper, is_written, may_be_absent}
-use Rattle.openapi_tables.specs.Proper.{of_kind}
-use Rattle.openapi_tables.specs.Form.{Form, Named, Pair, named, named_list, absent, deciding}
-use Rattle.openapi_tables.specs.Sound.{sound, row_sound, mode_fits}
-use Rattle.openapi_tables.specs.Conforms.{Judged, conforms, row_holds, may_miss, name_holds, skips_null, root_conforms}
-use Rattle.openapi_tables.specs.Conforms.{constant_holds, either_holds}
+use Rattle.openapi_tables.specs.Prelude.{Kind, Tables, Row, Mode, Class, class, row, map_of, in_class, optional}
+use Rattle.openapi_tables.specs.Prelude.{nullable, constant, either, required, proper, row_proper, rows_proper, Held}
+use Rattle.openapi_tables.specs.Prelude.{face_proper, is_written, may_be_absent, of_kind, Form, Named, Pair, named}
+use Rattle.openapi_tables.specs.Prelude.{named_list, absent, deciding, sound, row_sound, mode_fits, conforms, row_holds}
+use Rattle.openapi_tables.specs.Prelude.{may_miss, name_holds, skips_null, root_conforms, constant_holds, either_holds}
+use Rattle.openapi_tables.specs.Prelude.{Entry, Seen, is_silent, row_print, print, one, members_in, text_of_key, every}
+use Rattle.openapi_tables.specs.Prelude.{each, same_text, own, is_null, same_key, key_in}
+use Rattle.openapi_tables.specs.Conforms.{Judged}
 use Rattle.openapi_node.specs.Tree.{Tree}
-use Rattle.openapi_tables.specs.Tree.{Entry, Seen}
-use Rattle.openapi_tables.specs.Print.{is_silent, row_print, print, one, members_in, text_of_key}
 use Rattle.openapi_tables.proofs.RowLaws.{OwnWrites, TakesAll, Found}
-use Rattle.openapi_tables.specs.Lists.{every, each, same_text}
 use Rattle.openapi_tables.proofs.ListLaws.{Each, same_text-refl}
 use Rattle.openapi_tables.proofs.FormLaws.{show, Deep, on_pair, of_named_lem, named_of-list}
-use Rattle.openapi_tables.specs.Members.{own, is_null}
 use Rattle.openapi_tables.proofs.PrintLaws.{printed, entry_of, print-map}
 use Rattle.openapi_tables.proofs.FaultLaws.{judged, own_judged}
-use Rattle.openapi_tables.specs.Read.{same_key, key_in}
 use Rattle.openapi_tables.proofs.TreeLaws.{members_list-of}
 use Rattle.openapi_tables.proofs.SoundLaws.{sound_pick}
 
--- each row takes all that it writes for a proper form
+-- a mode that writes nothing for a form takes a missing member
 pub silent_may_miss : (m : Mode) (f : Form) → is_silent m f ≡ true → may_miss m ≡ true
 silent_may_miss required f h = cc
-silent_may_miss optional f h = refl
-silent_may_miss nullable f h = refl
-silent_may_miss listed f h = refl
-silent_may_miss flagged f h = refl
-silent_may_miss (styled s) f h = refl
-silent_may_miss formatted f h = refl
+silent_may_miss m f h = refl
 
+-- a row of a class writes a member for each entry of its slot
 pub class_prints : (T : Tables) (c : Class) (k : Kind) (es : Named)
     → row_print (class c k) (printed T (named es)) ≡ each (entry_of T k) (named_list es)
 class_prints T c k es =
@@ -53,6 +44,7 @@ class_entries T c k (e ∷ es) h =
     (each (on_pair (show (face_proper T))) es)) h in
     (and_parts (is_written c e.key) (proper T k e.value) p.0, class_entries T c k es p.1)
 
+-- in a proper slot of a class each key is read again from its name, and each value is proper
 pub of_class_entries : (T : Tables) (c : Class) (k : Kind) (es : Named)
     → row_proper (class c k) (show (face_proper T) (named es)) ≡ true
     → Each (λ (e : Pair Form). (is_written c e.key ≡ true) × (proper T k e.value ≡ true)) (named_list es)
@@ -89,6 +81,7 @@ SlotsProper T [] (f ∷ fs) = ⊥
 SlotsProper T (w ∷ ws) [] = ⊥
 SlotsProper T (w ∷ ws) (f ∷ fs) = (row_proper w (show (face_proper T) f) ≡ true) × SlotsProper T ws fs
 
+-- slots that are found to be proper for rows are proper one by one
 pub slots_proper : (T : Tables) (ws : List Row) (fs : List Form)
     → rows_proper ws (each (show (face_proper T)) fs) ≡ true → SlotsProper T ws fs
 slots_proper T [] [] h = tt
@@ -98,6 +91,7 @@ slots_proper T (w ∷ ws) (f ∷ fs) h =
     let p = and_parts (row_proper w (show (face_proper T) f)) (rows_proper ws (each (show (face_proper T)) fs)) h in
     (p.0, slots_proper T ws fs p.1)
 
+-- rows with proper slots each take all that they write
 pub proper_writes : (T : Tables) (ws : List Row) (fs : List Form) → SlotsProper T ws fs → OwnWrites T ws fs
 proper_writes T [] [] h = tt
 proper_writes T [] (f ∷ fs) h = h
@@ -139,11 +133,10 @@ row_holds_own (either a j b k) es = either_holds a j k es
 row_holds_own (class c k) es = every (λ (e : Entry (Seen (Kind → Bool))). e.value.answer k) es
 row_holds_own (constant n v) es = constant_holds v es
 
+-- whether a row holds is seen from the members that it takes
 pub row_holds_lem : (w : Row) (es : Judged) → row_holds es w ≡ row_holds_own w (own w es)
 row_holds_lem (row n m k) es = refl
-row_holds_lem (either a j b k) es = refl
-row_holds_lem (class c k) es = refl
-row_holds_lem (constant n v) es = refl
+row_holds_lem w es = refl
 
 -- a row holds of what it writes
 own_writes_holds : (T : Tables) (w : Row) (f : Form) → row_sound T w ≡ true → Deep (Writes T) f
@@ -169,6 +162,7 @@ row_writes T w f l s g h e =
     row_holds_lem w (judged T l) ∙ ap (row_holds_own w) (own_judged (root_conforms T) w l ∙ ap (judged T) e)
     ∙ own_writes_holds T w f s g h
 
+-- sound rows hold where each finds what it writes for a proper slot, if the forms are printed as what conforms
 pub rows_write : (T : Tables) (l : List (Entry Tree)) (ws : List Row) (fs : List Form)
     → Each (λ w. row_sound T w ≡ true) ws → Each (Deep (Writes T)) fs → SlotsProper T ws fs → Found T l ws fs
     → Each (λ w. row_holds (judged T l) w ≡ true) ws

@@ -2,51 +2,47 @@
 use Rattle.std.proofs.Common.{ℕ, Bool, true, false, cond, ◌&&◌, List, [], ◌∷◌, Option, Some, None, ◌≡◌, refl, sym, ap}
 use Rattle.std.proofs.Common.{◌∙◌, subst, codes, ◌≤◌, ◌+◌, ◌*◌, arith, nat_le, leb-true, le-leb}
 use Rattle.std.proofs.lemmas.Bool.{and_parts, both_ways}
-use Rattle.openapi_tables.specs.Kind.{Kind, Tables, Row, Case, Code, TableName, a_schema, a_schema_kind, any_flag}
-use Rattle.openapi_tables.specs.Kind.{any_text, any_tree, by, class, code, code_of, constant, either, flag_or_schema}
-use Rattle.openapi_tables.specs.Kind.{format, list_of, map_of, null_or, number, one_of, ref_to, row, schema_data}
-use Rattle.openapi_tables.specs.Kind.{status_code, tagged, text_of}
+use Rattle.openapi_tables.specs.Prelude.{Kind, Tables, Row, Case, Code, TableName, a_schema, a_schema_kind, any_flag}
+use Rattle.openapi_tables.specs.Prelude.{any_text, any_tree, by, code, code_of, constant, flag_or_schema, format}
+use Rattle.openapi_tables.specs.Prelude.{list_of, map_of, null_or, number, one_of, ref_to, schema_data, status_code}
+use Rattle.openapi_tables.specs.Prelude.{tagged, text_of, chosen_holds, conforms, is_reference, object_holds}
+use Rattle.openapi_tables.specs.Prelude.{reference_or, root_conforms, text_in, tag_table, Form, forms_of, known, leaf}
+use Rattle.openapi_tables.specs.Prelude.{name, named_of, of_code, of_forms, of_named, other, each, every, has, join}
+use Rattle.openapi_tables.specs.Prelude.{Choice, Sort, all_of_sort, any_of_sort, any_sort, array_sort, boolean_sort}
+use Rattle.openapi_tables.specs.Prelude.{checked_rows, choice, first_tree, held, integer_sort, is_present}
+use Rattle.openapi_tables.specs.Prelude.{made_optional, not_sort, number_sort, object_sort, one_of_sort, own, plain}
+use Rattle.openapi_tables.specs.Prelude.{possible_sort, rows_of, sort, sort_of, sort_rows, string_sort, case_rows}
+use Rattle.openapi_tables.specs.Prelude.{Prints, clean, face_print, pair_prints, print, code_form, form, pairs_as}
+use Rattle.openapi_tables.specs.Prelude.{reference_or_item, root_form, has_members, row_sound, rows_apart, sorts, sound}
+use Rattle.openapi_tables.specs.Prelude.{table_names, tables_sound, under_ref, any_rows, array_rows, boolean_rows}
+use Rattle.openapi_tables.specs.Prelude.{object_rows, string_rows, Entry, Seen, Shape, an_object, items_list}
+use Rattle.openapi_tables.specs.Prelude.{members_list, members_of, of_items, of_members}
 use Rattle.std.specs.Prelude.{suc, pos}
-use Rattle.openapi_tables.proofs.SchemaCalm.{front}
+use Rattle.openapi_tables.proofs.again.SchemasSettle.{front}
 use Rattle.openapi_tables.proofs.FaultLaws.{judged, rows_at_tag}
 use Rattle.openapi_tables.proofs.ListLaws.{Each, Each-join, every_each}
-use Rattle.openapi_tables.proofs.ObjectBack.{checked, every_table, rows_of_sound, tag_case}
+use Rattle.openapi_tables.proofs.again.ObjectsBack.{checked, every_table, rows_of_sound, tag_case}
 use Rattle.openapi_tables.proofs.PlainLaws.{clean-plain, is_plain}
 use Rattle.openapi_tables.proofs.PrintLaws.{print-flag_or_schema}
-use Rattle.openapi_tables.proofs.ReadAgain.{sort_in}
+use Rattle.openapi_tables.proofs.again.ReadAgain.{sort_in}
 use Rattle.openapi_tables.proofs.ReadProper.{AllRead, RowReads, all_read}
 use Rattle.openapi_tables.proofs.AllReadProper.{from_list, held_of, of_list}
 use Rattle.openapi_tables.proofs.SortReads.{sort_reads}
 use Rattle.openapi_tables.proofs.AllReadProper.{sound_rows_of}
 use Rattle.openapi_tables.proofs.RowSize.{AllFull, Full, Small, Smalls, object_small, size_positive, total}
-use Rattle.openapi_tables.proofs.SortAgain.{sort_meets}
+use Rattle.openapi_tables.proofs.again.SortsBack.{sort_meets}
 use Rattle.openapi_tables.proofs.Taken.{trees_of-members}
 use Rattle.openapi_tables.proofs.TreeLaws.{Inside, by_trees}
 use Rattle.openapi_tables.proofs.Writes.{behind, object_conforms}
-use Rattle.openapi_tables.specs.Conforms.{chosen_holds, conforms, is_reference, object_holds, reference_or}
-use Rattle.openapi_tables.specs.Conforms.{root_conforms, text_in}
-use Rattle.openapi_tables.specs.Faults.{tag_table}
-use Rattle.openapi_tables.specs.Form.{Form, forms_of, known, leaf, name, named_of, of_code, of_forms, of_named, other}
-use Rattle.openapi_tables.specs.Lists.{each, every, has, join}
-use Rattle.openapi_tables.specs.Members.{Choice, Sort, all_of_sort, any_of_sort, any_sort, array_sort, boolean_sort}
-use Rattle.openapi_tables.specs.Members.{checked_rows, choice, first_tree, held, integer_sort, is_present}
-use Rattle.openapi_tables.specs.Members.{made_optional, not_sort, number_sort, object_sort, one_of_sort, own, plain}
-use Rattle.openapi_tables.specs.Members.{possible_sort, rows_of, sort, sort_of, sort_rows, string_sort, tag, case_rows}
-use Rattle.openapi_tables.specs.Print.{Prints, clean, face_print, pair_prints, print}
-use Rattle.openapi_tables.specs.Read.{code_form, form, pairs_as, reference_or_item, root_form}
-use Rattle.openapi_tables.specs.Sound.{extras, has_members, row_sound, rows_apart, sorts, sound, table_names}
-use Rattle.openapi_tables.specs.Sound.{tables_small, tables_sound, under_ref}
-use Rattle.openapi_tables.specs.Tables.{any_rows, array_rows, boolean_rows, object_rows, string_rows}
+use Rattle.openapi_tables.specs.Members.{tag}
+use Rattle.openapi_tables.specs.Sound.{extras}
+use Rattle.openapi_tables.specs.Sound.{tables_small}
 use Rattle.openapi_node.specs.Tree.{Items, Members, Tree, flag, item, items_of, items_size, list, member, members_size}
 use Rattle.openapi_node.specs.Tree.{no_items, no_members, null, object, size_of, text, whole}
-use Rattle.openapi_tables.specs.Tree.{Entry, Seen, Shape, an_object, items_list, members_list, members_of, of_items}
-use Rattle.openapi_tables.specs.Tree.{of_members}
 
 full_row : (w : Row) (l : List (Entry Tree)) → has_members w ≡ true → Full l w
-full_row (row n m k) l h = tt
-full_row (either a j b k) l h = tt
-full_row (class c k) l h = tt
 full_row (constant n v) l h = cc
+full_row w l h = tt
 
 full_rows : (ws : List Row) (es : List (Entry Tree)) → Each (λ w. has_members w ≡ true) ws → AllFull es ws
 full_rows [] es h = tt
@@ -285,11 +281,6 @@ one_is_small t u h = let p = size_positive t in omega arith
 
 item_small : (T : Tables) (k : Kind) (t : Tree) → (conforms T k t ≡ true → size_of (clean T k t) ≤ 2 * size_of t)
     → conforms T (ref_to k) t ≡ true → size_of (clean T (ref_to k) t) ≤ 2 * size_of t
-item_small T k null g h = g h
-item_small T k (flag b) g h = g h
-item_small T k (whole z) g h = g h
-item_small T k (text u) g h = g h
-item_small T k (list ts) g h = g h
 item_small T k (object ms) g h = at (text_in (held (codes "$ref") (members_list ms))) refl
   where
     same : (X : Type 0) (f : Shape (Seen X) → X)
@@ -306,6 +297,7 @@ item_small T k (object ms) g h = at (text_in (held (codes "$ref") (members_list 
         let p : 2 ≤ 2 * suc (members_size ms) = omega arith in
         subst (λ r. size_of (print T (ref_to k) (reference_or_item r (form T k (object ms))))
         ≤ 2 * size_of (object ms)) (sym (same (Kind → Form) (root_form T) ∙ e)) p
+item_small T k t g h = g h
 
 small_step : (T : Tables) (W : tables_sound T ≡ true) → tables_small T ≡ true → (t : Tree) → Inside (Small T) t
     → Small T t
@@ -370,11 +362,7 @@ small_step T W x (whole (pos n)) g status_code s h = at (nat_le 100 n && nat_le 
     at true = one_is_small (whole (pos n)) (text (text_of (code n))) refl
     at false = one_is_small (whole (pos n)) (whole (pos n)) refl
 small_step T W x null g k s h = cc
-small_step T W x (flag b) g k s h = cc
-small_step T W x (whole z) g k s h = cc
-small_step T W x (text u) g k s h = cc
-small_step T W x (list ts) g k s h = cc
-small_step T W x (object ms) g k s h = cc
+small_step T W x t g k s h = cc
 
 -- a tree that conforms is cleaned to one of at most twice its size
 pub small : (T : Tables) (W : tables_sound T ≡ true) → tables_small T ≡ true → (t : Tree) → Small T t

@@ -1,30 +1,22 @@
 -- Lists of slots: what they write and lose together, and which names they take.
-use Rattle.std.proofs.Common.{◌≡◌, ℕ, Bool, true, false, cond, ◌||◌, List, [], ◌∷◌, ◌++◌}
-use Rattle.std.proofs.Common.{Some, None, refl, sym, ap, ◌∙◌, subst, bytes_eq, true≢false, inl}
-use Rattle.std.proofs.Common.{inr}
+use Rattle.std.proofs.Common.{◌≡◌, ℕ, Bool, true, false, cond, ◌||◌, List, [], ◌∷◌, ◌++◌, Some, None, refl, sym, ap}
+use Rattle.std.proofs.Common.{◌∙◌, subst, bytes_eq, true≢false, inl, inr}
 use Rattle.std.proofs.lemmas.Bool.{and_parts, and_from}
 use Rattle.openapi_map.specs.Entries.{Entries, get}
 use Rattle.openapi_node.specs.Place.{Step, Place}
 use Rattle.openapi_node.specs.Tree.{Tree, object, member, members_of as node_members}
-use Rattle.openapi_tables.specs.Lists.{each, join, every}
-use Rattle.openapi_tables.specs.Tree.{Entry, members_of}
-use Rattle.openapi_tables.specs.Kind.{Kind, any_text, any_flag, number, any_tree, one_of, format, null_or, list_of}
-use Rattle.openapi_tables.specs.Kind.{map_of, by, tagged, ref_to, flag_or_schema, a_schema, a_schema_kind, status_code}
-use Rattle.openapi_tables.specs.Kind.{Row}
-use Rattle.openapi_tables.specs.Kind.{takes, Tables, TableName}
-use Rattle.openapi_tables.specs.Members.{Choice, choice, rows_of}
-use Rattle.openapi_tables.specs.Form.{Form, fields, forms_of}
-use Rattle.openapi_tables.specs.Print.{print, row_print, rows_print}
-use Rattle.openapi_tables.specs.Unwritable.{unwritable, each_below, row_lost, rows_lost, face_lost}
-use Rattle.openapi_tables.specs.Sound.{apart, rows_apart, row_sound, tables_sound}
-use Rattle.openapi_tables.specs.Laws.{Among}
-use Rattle.openapi_tables.specs.Slots.{Slot, slots, slot_where, before, through, slots_apart, printed, lost}
-use Rattle.openapi_tables.specs.Slots.{slots_print, slots_lost, untied, taken, all_taken}
+use Rattle.openapi_tables.specs.Prelude.{each, join, every, Entry, members_of, Kind, by, tagged, a_schema}
+use Rattle.openapi_tables.specs.Prelude.{a_schema_kind, Row, takes, Tables, TableName, Choice, choice, rows_of, Form}
+use Rattle.openapi_tables.specs.Prelude.{fields, forms_of, print, row_print, rows_print, unwritable, each_below}
+use Rattle.openapi_tables.specs.Prelude.{row_lost, rows_lost, face_lost, apart, rows_apart, row_sound, tables_sound}
+use Rattle.openapi_tables.specs.Prelude.{Among, Slot, slots, slot_where, before, through, slots_apart, slots_print}
+use Rattle.openapi_tables.specs.Prelude.{slots_lost, untied, taken, all_taken}
+use Rattle.openapi_tables.specs.Slots.{printed, lost}
 use Rattle.openapi_tables.proofs.ListLaws.{Each, every_each, same_text_eq, join_assoc}
 use Rattle.openapi_tables.proofs.FormLaws.{of_forms-of}
 use Rattle.openapi_tables.proofs.PrintLaws.{print-fields}
 use Rattle.openapi_tables.proofs.RowLaws.{apart_back}
-use Rattle.openapi_tables.proofs.ObjectBack.{table_sound}
+use Rattle.openapi_tables.proofs.again.ObjectsBack.{table_sound}
 use Rattle.openapi_tables.proofs.ByRowLaws.{same_bytes}
 
 -- the slots of rows, written
@@ -35,6 +27,7 @@ slots_print-rows T [] fs = refl
 slots_print-rows T (w ∷ ws) [] = refl
 slots_print-rows T (w ∷ ws) (f ∷ fs) = ap (λ l. join (row_print w (printed T f)) l) (slots_print-rows T ws fs)
 
+-- what is unwritable in the forms of rows is what is so in the slots that the rows and forms make
 pub slots_lost-rows : (T : Tables) (ws : List Row) (fs : List Form)
     → rows_lost ws (each (lost T) fs) ≡ slots_lost T (slots ws fs)
 unfolding slots_lost
@@ -42,6 +35,7 @@ slots_lost-rows T [] fs = refl
 slots_lost-rows T (w ∷ ws) [] = refl
 slots_lost-rows T (w ∷ ws) (f ∷ fs) = ap (λ l. join (row_lost w (lost T f)) l) (slots_lost-rows T ws fs)
 
+-- the members made of a list of entries are those made of its names with their trees
 pub members_untied : (es : List (Entry Tree)) → members_of es ≡ node_members (untied es)
 members_untied [] = refl
 members_untied (e ∷ es) = ap (λ ms. member e.name e.value ms) (members_untied es)
@@ -53,6 +47,7 @@ fields_print T k c es fs h =
     print-fields T k c es fs h ∙ ap (λ l. object (members_of l)) (slots_print-rows T (rows_of T k c) fs)
     ∙ ap object (members_untied (slots_print T (slots (rows_of T k c) fs)))
 
+-- what is unwritable in an object's form is what is so in the slots of its rows
 pub fields_lost : (T : Tables) (k : Kind) (c : Choice) (es : List (Entry Tree)) (fs : List Form) → choice k es ≡ Some c
     → unwritable T k (fields c (forms_of fs)) ≡ slots_lost T (slots (rows_of T k c) fs)
 fields_lost T (by i) c es fs h =
@@ -67,18 +62,7 @@ fields_lost T a_schema c es fs h =
 fields_lost T a_schema_kind c es fs h =
     ap (λ l. rows_lost (rows_of T a_schema_kind c) l) (of_forms-of (face_lost T) fs)
     ∙ slots_lost-rows T (rows_of T a_schema_kind c) fs
-fields_lost T any_text c es fs h = cc
-fields_lost T any_flag c es fs h = cc
-fields_lost T (number w) c es fs h = cc
-fields_lost T any_tree c es fs h = cc
-fields_lost T (one_of ws) c es fs h = cc
-fields_lost T (format ws b) c es fs h = cc
-fields_lost T (null_or k) c es fs h = cc
-fields_lost T (list_of k) c es fs h = cc
-fields_lost T (map_of k) c es fs h = cc
-fields_lost T (ref_to k) c es fs h = cc
-fields_lost T flag_or_schema c es fs h = cc
-fields_lost T status_code c es fs h = cc
+fields_lost T k c es fs h = cc
 
 -- the slots of apart rows are apart
 pub slots_part : (w : Row) (ws : List Row) (fs : List Form) → every (apart w) ws ≡ true
@@ -89,6 +73,7 @@ slots_part w (v ∷ ws) (f ∷ fs) h =
     let p = and_parts (apart w v) (every (apart w) ws) h in
     and_from (apart w v) (every (λ (s : Slot). apart w s.0) (slots ws fs)) p.0 (slots_part w ws fs p.1)
 
+-- the slots of rows of which no two take the same name are apart
 pub slots_apart-rows : (ws : List Row) (fs : List Form) → rows_apart ws ≡ true → slots_apart (slots ws fs) ≡ true
 slots_apart-rows [] fs h = refl
 slots_apart-rows (w ∷ ws) [] h = refl
@@ -97,6 +82,7 @@ slots_apart-rows (w ∷ ws) (f ∷ fs) h =
     and_from (every (λ (s : Slot). apart w s.0) (slots ws fs)) (slots_apart (slots ws fs)) (slots_part w ws fs p.0)
     (slots_apart-rows ws fs p.1)
 
+-- the slots of a sound table are apart
 pub table_apart : (T : Tables) (W : tables_sound T ≡ true) (i : TableName) (fs : List Form)
     → slots_apart (slots (T i) fs) ≡ true
 table_apart T W i fs =
@@ -114,6 +100,7 @@ through-before p (x ∷ ss) s e = go (λ q. through-before p ss s q) (p x.0) e
     go more true q = let h : x ≡ s = cc in ap (λ y. y ∷ []) h
     go more false q = ap (λ l. x ∷ l) (more q)
 
+-- two lists of slots in a row are written as the first and then the second
 pub slots_print-join : (T : Tables) (xs ys : List Slot)
     → slots_print T (join xs ys) ≡ join (slots_print T xs) (slots_print T ys)
 unfolding slots_print
@@ -122,6 +109,7 @@ slots_print-join T (x ∷ xs) ys =
     ap (λ l. join (row_print x.0 (printed T x.1)) l) (slots_print-join T xs ys)
     ∙ sym (join_assoc (row_print x.0 (printed T x.1)) (slots_print T xs) (slots_print T ys))
 
+-- what is unwritable in two lists of slots in a row is that of the first and then that of the second
 pub slots_lost-join : (T : Tables) (xs ys : List Slot)
     → slots_lost T (join xs ys) ≡ join (slots_lost T xs) (slots_lost T ys)
 unfolding slots_lost
@@ -130,10 +118,12 @@ slots_lost-join T (x ∷ xs) ys =
     ap (λ l. join (row_lost x.0 (lost T x.1)) l) (slots_lost-join T xs ys)
     ∙ sym (join_assoc (row_lost x.0 (lost T x.1)) (slots_lost T xs) (slots_lost T ys))
 
+-- two lists of members in a row, as names with their trees, are the first and then the second
 pub untied-join : (xs ys : List (Entry Tree)) → untied (join xs ys) ≡ untied xs ++ untied ys
 untied-join [] ys = refl
 untied-join (x ∷ xs) ys = ap (λ l. (x.name, x.value) ∷ l) (untied-join xs ys)
 
+-- a flag with `|| true` is true
 pub or_true : (b : Bool) → (b || true) ≡ true
 or_true true = refl
 or_true false = refl
@@ -148,11 +138,13 @@ taken-first (x ∷ xs) ys n h = go (takes x.0 n) (taken xs n) (λ q. taken-first
     go true c f q = refl
     go false c f q = f q
 
+-- a name that the row of the last slot takes is taken by one of the rows
 pub taken-last : (xs : List Slot) (s : Slot) (n : List ℕ) → takes s.0 n ≡ true → taken (join xs (s ∷ [])) n ≡ true
 unfolding taken
 taken-last [] s n h = ap (λ b. b || false) h
 taken-last (x ∷ xs) s n h = ap (λ b. takes x.0 n || b) (taken-last xs s n h) ∙ or_true (takes x.0 n)
 
+-- names that are each taken by one of some slots still are with more slots behind
 pub all_taken-first : (xs ys : List Slot) (es : Entries Tree) → all_taken xs es ≡ true
     → all_taken (join xs ys) es ≡ true
 unfolding all_taken
@@ -161,6 +153,7 @@ all_taken-first xs ys (e ∷ es) h =
     let p = and_parts (taken xs e.0) (all_taken xs es) h in
     and_from _ _ (taken-first xs ys e.0 p.0) (all_taken-first xs ys es p.1)
 
+-- where the rows take each name of two lists of members, they take each of both in a row
 pub all_taken-append : (ss : List Slot) (es fs : Entries Tree) → all_taken ss es ≡ true → all_taken ss fs ≡ true
     → all_taken ss (es ++ fs) ≡ true
 unfolding all_taken
@@ -169,7 +162,7 @@ all_taken-append ss (e ∷ es) fs h g =
     let p = and_parts (taken ss e.0) (all_taken ss es) h in
     and_from _ _ p.0 (all_taken-append ss es fs p.1 g)
 
--- a name that a slot's row takes is taken by no slot before it
+-- what holds of each slot holds of the one that is found
 pub slot_each : (P : Slot → Type 0) (p : Row → Bool) (ss : List Slot) (s : Slot) → Each P ss
     → slot_where p ss ≡ Some s → P s
 slot_each P p [] s h e = cc
@@ -179,6 +172,7 @@ slot_each P p (x ∷ ss) s h e = go (λ q. slot_each P p ss s h.1 q) (p x.0) e
     go more true q = let r : x ≡ s = cc in subst P r h.0
     go more false q = more q
 
+-- where slots are apart, a name that the row of one takes is taken by none before it
 pub not_taken : (p : Row → Bool) (ss : List Slot) (s : Slot) (n : List ℕ) → slots_apart ss ≡ true
     → slot_where p ss ≡ Some s → takes s.0 n ≡ true → taken (before p ss) n ≡ false
 unfolding taken
@@ -211,6 +205,7 @@ get_none ss (e ∷ es) n h g =
         absurd (true≢false (sym t ∙ ap (taken ss) (sym (same_text_eq n e.0 (same_bytes n e.0 ∙ q))) ∙ g))
     go t more false q = more
 
+-- a name that is in neither of two lists of members is not in both in a row
 pub get_none-append : (xs ys : Entries Tree) (n : List ℕ) → get n xs ≡ None → get n ys ≡ None → get n (xs ++ ys) ≡ None
 get_none-append [] ys n h g = g
 get_none-append (x ∷ xs) ys n h g = go (λ q. get_none-append xs ys n q g) (bytes_eq n x.0) h
@@ -220,10 +215,12 @@ get_none-append (x ∷ xs) ys n h g = go (λ q. get_none-append xs ys n q g) (by
     go more true q = cc
     go more false q = more q
 
+-- a list with the empty list behind it is that list
 pub append_nil : {A : Type 0} (xs : List A) → xs ++ [] ≡ xs
 append_nil [] = refl
 append_nil (x ∷ xs) = ap (λ l. x ∷ l) (append_nil xs)
 
+-- a place of a list is, with the step before it, a place of the list seen from one step above
 pub below_each : (s : Step) (q : Place) (ps : List Place) → Among q ps → Among (s ∷ q) (each_below s ps)
 below_each s q [] h = absurd h
 below_each s q (r ∷ ps) (inl e) = inl (ap (λ x. s ∷ x) e)

@@ -2,19 +2,14 @@
 use Rattle.std.proofs.Common.{ℕ, Bool, true, not, ◌&&◌, ◌||◌, List, [], ◌∷◌, ◌≡◌, refl, ap, ◌∙◌, subst, codes, inl, inr}
 use Rattle.std.proofs.Common.{⊎_elim}
 use Rattle.std.proofs.lemmas.Bool.{and_parts, and_from, or_cases, or_left, or_right, not-true}
-use Rattle.openapi_tables.specs.Lists.{each, join, every, same_text, has}
+use Rattle.openapi_tables.specs.Prelude.{each, join, every, same_text, has, Entry, Kind, any_text, any_flag, number}
+use Rattle.openapi_tables.specs.Prelude.{unlimited, signed, null_or, list_of, Mode, optional, listed, Row, row, takes}
+use Rattle.openapi_tables.specs.Prelude.{Tables, any_rows, string_rows, object_rows, array_rows, boolean_rows, is_null}
+use Rattle.openapi_tables.specs.Prelude.{own, first_tree, held, Sort, string_sort, number_sort, integer_sort}
+use Rattle.openapi_tables.specs.Prelude.{boolean_sort, kind_names, sort_rows, allowed, entries_pass, is_null_or_text}
+use Rattle.openapi_tables.specs.Prelude.{is_null_or_whole, is_null_or_signed, is_null_or_flag, further, Form, row_print}
+use Rattle.openapi_tables.specs.Prelude.{sorts, untaken, names_fit}
 use Rattle.openapi_node.specs.Tree.{Tree, null}
-use Rattle.openapi_tables.specs.Tree.{Entry}
-use Rattle.openapi_tables.specs.Kind.{Kind, any_text, any_flag, number, unlimited, signed, null_or, list_of, Mode}
-use Rattle.openapi_tables.specs.Kind.{optional, listed, Row, row, takes, Tables}
-use Rattle.openapi_tables.specs.Tables.{any_rows, string_rows, object_rows, array_rows, boolean_rows}
-use Rattle.openapi_tables.specs.Members.{is_null, own, first_tree, held, Sort, string_sort, number_sort, integer_sort}
-use Rattle.openapi_tables.specs.Members.{boolean_sort, object_sort, array_sort, one_of_sort, all_of_sort, any_of_sort}
-use Rattle.openapi_tables.specs.Members.{not_sort, any_sort, kind_names, sort_rows, allowed, entries_pass}
-use Rattle.openapi_tables.specs.Members.{is_null_or_text, is_null_or_whole, is_null_or_signed, is_null_or_flag, further}
-use Rattle.openapi_tables.specs.Form.{Form}
-use Rattle.openapi_tables.specs.Print.{row_print}
-use Rattle.openapi_tables.specs.Sound.{sorts, untaken, names_fit}
 use Rattle.openapi_tables.proofs.ListLaws.{Each, every_each, each_under, same_text_eq}
 use Rattle.openapi_tables.proofs.ReadLaws.{slot_in}
 use Rattle.openapi_tables.proofs.PrintLaws.{printed, members_for}
@@ -25,11 +20,13 @@ use Rattle.openapi_tables.proofs.PlainLaws.{NullOr, written_again}
 abbrev pub Rewrites : (T : Tables) → List (Entry Tree) → List (Entry Tree) → List Row → Type 0
 Rewrites T es l ws = Each (λ w. own w l ≡ row_print w (printed T (slot_in T es w))) ws
 
+-- where rows find in a list what they write for what they read, each row by itself takes that of the list
 pub rewrites : (T : Tables) (es l : List (Entry Tree)) (ws : List Row) → Found T l ws (each (slot_in T es) ws)
     → Rewrites T es l ws
 rewrites T es l [] h = tt
 rewrites T es l (w ∷ ws) h = (h.0, rewrites T es l ws h.1)
 
+-- what holds of each element of two lists in a row holds of each of the second
 pub Each_behind : {A : Type 0} → (P : A → Type 0) (xs ys : List A) → Each P (join xs ys) → Each P ys
 Each_behind P [] ys h = h
 Each_behind P (x ∷ xs) ys h = Each_behind P xs ys h.1
@@ -42,10 +39,12 @@ held_nothing T n ws fs h g =
     (each_under (λ w (x : not (takes w n) ≡ true). not-true (takes w n) x) ws
     (every_each (λ w. not (takes w n)) ws h)) g)
 
+-- no sort has a row that takes a kind name which the sort does not allow, by computation
 pub names_fit_none : every (names_fit []) sorts ≡ true
 unfolding any_rows sort_rows allowed kind_names string_rows object_rows array_rows boolean_rows
 names_fit_none = refl
 
+-- a test that each name of a list passes is passed by a name that is found in it
 pub each_name : (p : List ℕ → Bool) (ns : List (List ℕ)) (n : List ℕ) → Each (λ m. p m ≡ true) ns → has ns n ≡ true
     → p n ≡ true
 each_name p [] n h g = cc
@@ -53,6 +52,7 @@ each_name p (m ∷ ns) n h g =
     ⊎_elim (λ (x : same_text m n ≡ true). subst (λ u. p u ≡ true) (same_text_eq m n x) h.0)
     (λ (x : has ns n ≡ true). each_name p ns n h.1 x) (or_cases (same_text m n) (has ns n) g)
 
+-- of what rows write, each name is allowed in the sort or null, if it is allowed or taken by no row
 pub names_held : (T : Tables) (s : Sort) (ws : List Row) (fs : List Form) → OwnWrites T ws fs → (ns : List (List ℕ))
     → Each (λ n. (has (allowed s) n || untaken ws n) ≡ true) ns
     → Each (λ n. (has (allowed s) n || is_null (held n (members_for T ws fs))) ≡ true) ns
@@ -121,10 +121,4 @@ further_again T boolean_sort es l h f =
     held_passes T (entries_pass is_null_or_flag) (codes "enum") listed (list_of (null_or any_flag)) es l refl f
     (written_again T (codes "enum") listed (list_of (null_or any_flag))
     (own (row (codes "enum") listed (list_of (null_or any_flag))) es) refl refl) h.1.0
-further_again T object_sort es l h f = refl
-further_again T array_sort es l h f = refl
-further_again T one_of_sort es l h f = refl
-further_again T all_of_sort es l h f = refl
-further_again T any_of_sort es l h f = refl
-further_again T not_sort es l h f = refl
-further_again T any_sort es l h f = refl
+further_again T s es l h f = refl

@@ -1,8 +1,8 @@
 -- Parts of what is well made are well made.
 use Rattle.std.proofs.Common.{Bool, true, false, cond, ◌≡◌}
-use Rattle.openapi_tables.specs.Kind.{Kind, Tables}
-use Rattle.openapi_tables.specs.Sound.{sound}
+use Rattle.openapi_tables.specs.Prelude.{Kind, Tables, sound}
 
+-- the one of two sound kinds that a flag picks is sound
 pub sound_pick : (T : Tables) (b : Bool) (j k : Kind) → sound T j ≡ true → sound T k ≡ true
     → sound T (cond b j k) ≡ true
 sound_pick T true j k h g = h

@@ -2,19 +2,16 @@
 use Rattle.std.proofs.Common.{ℕ, Bool, true, List, [], ◌∷◌, Option, Some, None, ◌≡◌, refl, sym, subst, inl, inr}
 use Rattle.std.proofs.lemmas.Bool.{and_parts, and_from}
 use Rattle.openapi_tables.proofs.KindsHold.{any_conforms}
-use Rattle.openapi_tables.specs.Lists.{every}
-use Rattle.openapi_node.specs.Tree.{Tree, null, flag, whole, text, list, object, Members}
-use Rattle.openapi_tables.specs.Tree.{members_list, Entry, Seen}
-use Rattle.openapi_tables.specs.Kind.{Kind, map_of, by, ref_to, any_tree, Row, class, callback_names, extensions, takes}
-use Rattle.openapi_tables.specs.Kind.{TableName, Tables, operation, components, path_item, schema_data, callback_object}
+use Rattle.openapi_tables.specs.Prelude.{every, members_list, Entry, Seen, Kind, map_of, by, ref_to, any_tree, Row}
+use Rattle.openapi_tables.specs.Prelude.{class, callback_names, extensions, takes, TableName, Tables, operation}
+use Rattle.openapi_tables.specs.Prelude.{path_item, schema_data, callback_object, tables_with, final_tables, own}
+use Rattle.openapi_tables.specs.Prelude.{reference_or, root_conforms, conforms, Asking, root_asks, asked, sound, Among}
+use Rattle.openapi_node.specs.Tree.{Tree, list, object, Members}
+use Rattle.openapi_tables.specs.Kind.{components}
 use Rattle.openapi_tables.specs.Kind.{xml_object}
-use Rattle.openapi_tables.specs.Tables.{tables_with, tables_before_callbacks, tables_before_xml, final_tables}
+use Rattle.openapi_tables.specs.Tables.{tables_before_callbacks, tables_before_xml}
 use Rattle.openapi_tables.specs.Tables.{callback_map}
-use Rattle.openapi_tables.specs.Members.{own}
-use Rattle.openapi_tables.specs.Conforms.{reference_or, root_conforms, conforms}
-use Rattle.openapi_tables.specs.Faults.{Asking, root_asks, asked}
-use Rattle.openapi_tables.specs.Sound.{sound}
-use Rattle.openapi_tables.specs.Laws.{Among, CallbacksKept, XmlKept}
+use Rattle.openapi_tables.specs.Laws.{CallbacksKept, XmlKept}
 use Rattle.openapi_tables.proofs.ListLaws.{Each, each_all, Each_within-only}
 use Rattle.openapi_tables.proofs.TreeLaws.{Inside, of_members_lem, tree_of_root-seen}
 use Rattle.openapi_tables.proofs.FaultLaws.{judged}
@@ -129,22 +126,10 @@ widened (object ms) g j k (of_each i l c) s h o =
     (judged_each tables_before_callbacks i (members_list ms)
     (subst (λ es. every (λ (e : Entry (Seen (Kind → Bool))). e.value.answer i) es ≡ true)
     (of_members_lem (root_conforms tables_before_callbacks) ms) h))))
-widened null g j k of_map s h o = cc
-widened null g j k of_reference s h o = cc
-widened null g j k (of_each i l c) s h o = cc
-widened (flag b) g j k of_map s h o = cc
-widened (flag b) g j k of_reference s h o = cc
-widened (flag b) g j k (of_each i l c) s h o = cc
-widened (whole z) g j k of_map s h o = cc
-widened (whole z) g j k of_reference s h o = cc
-widened (whole z) g j k (of_each i l c) s h o = cc
-widened (text u) g j k of_map s h o = cc
-widened (text u) g j k of_reference s h o = cc
-widened (text u) g j k (of_each i l c) s h o = cc
-widened (list ts) g j k of_map s h o = cc
-widened (list ts) g j k of_reference s h o = cc
-widened (list ts) g j k (of_each i l c) s h o = cc
+widened t g j k of_map s h o = cc
+widened t g j k x s h o = cc
 
+-- what conforms before callbacks have a table conforms when they have one: the law `CallbacksKept`
 pub callbacks_kept : CallbacksKept
 callbacks_kept k t s h =
     (kept tables_before_callbacks tables_before_xml second_sound Free Widened callback_rows widened t).0 k s h (free _)
@@ -169,12 +154,9 @@ XmlConforms k t = k ≡ by xml_object → conforms final_tables (by xml_object) 
 
 root_asked : (T : Tables) (P : Kind → Tree → Type 0) (i : TableName) (t : Tree) → OfAsked P (asked T (by i) t)
     → P (by i) t
-root_asked T P i null o = o.0
-root_asked T P i (flag b) o = o.0
-root_asked T P i (whole z) o = o.0
-root_asked T P i (text s) o = o.0
 root_asked T P i (list ts) o = subst (λ u. P (by i) u) (tree_of_root-seen (root_asks T) (list ts)) o.0
 root_asked T P i (object ms) o = subst (λ u. P (by i) u) (tree_of_root-seen (root_asks T) (object ms)) o.0
+root_asked T P i t o = o.0
 
 xml_conforms : (t : Tree) → OfAsked XmlConforms (asked final_tables (by xml_object) t)
     → conforms final_tables (by xml_object) t ≡ true
@@ -198,6 +180,7 @@ each_among : {A : Type 0} → (P : A → Type 0) (l : List A) → ((a : A) → A
 each_among P [] h = tt
 each_among P (x ∷ l) h = (h x (inl refl), each_among P l (λ a m. h a (inr m)))
 
+-- a tree conforms exactly where it does without `xml` and what is asked under `xml` does: the law `XmlKept`
 pub xml_kept : XmlKept
 xml_kept k t s f = (
   (λ h. (

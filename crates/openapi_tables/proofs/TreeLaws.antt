@@ -1,26 +1,27 @@
 -- A tree and its root; what a function gives of a tree by its root; induction.
 use Rattle.std.proofs.Common.{List, [], ◌∷◌, ◌≡◌, refl, ap, true}
-use Rattle.openapi_tables.specs.Lists.{each}
+use Rattle.openapi_tables.specs.Prelude.{each, Entry, Shape, a_null, a_flag, a_whole, a_text, a_list, an_object, Seen}
+use Rattle.openapi_tables.specs.Prelude.{items_list, members_list, members_of, on_entry, of_tree, of_items, of_members}
+use Rattle.openapi_tables.specs.Prelude.{tree_of_root, is_null}
 use Rattle.openapi_node.specs.Tree.{Tree, null, flag, whole, text, list, object, Items, no_items, item, Members}
 use Rattle.openapi_node.specs.Tree.{no_members, member, items_of}
-use Rattle.openapi_tables.specs.Tree.{Entry, Shape, a_null, a_flag, a_whole, a_text, a_list, an_object, Seen}
-use Rattle.openapi_tables.specs.Tree.{items_list, members_list, members_of, on_entry, of_tree, of_items, of_members}
-use Rattle.openapi_tables.specs.Read.{tree_of_root}
 use Rattle.openapi_tables.proofs.ListLaws.{Each}
-use Rattle.openapi_tables.specs.Members.{is_null}
 
 pub items_list-of : (ts : List Tree) → items_list (items_of ts) ≡ ts
 items_list-of [] = refl
 items_list-of (t ∷ ts) = ap (λ l. t ∷ l) (items_list-of ts)
 
+-- items made of the list that items are, are those items
 pub items_of-list : (ts : Items) → items_of (items_list ts) ≡ ts
 items_of-list no_items = refl
 items_of-list (item t ts) = ap (item t) (items_of-list ts)
 
+-- members made of a list, as a list again, are that list
 pub members_list-of : (es : List (Entry Tree)) → members_list (members_of es) ≡ es
 members_list-of [] = refl
 members_list-of (e ∷ es) = ap (λ l. e ∷ l) (members_list-of es)
 
+-- members made of the list that members are, are those members
 pub members_of-list : (ms : Members) → members_of (members_list ms) ≡ ms
 members_of-list no_members = refl
 members_of-list (member n t ms) = ap (member n t) (members_of-list ms)
@@ -29,10 +30,12 @@ members_of-list (member n t ms) = ap (member n t) (members_of-list ms)
 abbrev pub see : {X : Type 0} → (Shape (Seen X) → X) → Tree → Seen X
 see f t = record { tree = t; answer = of_tree f t }
 
+-- what a function gives of items, by the list that they are
 pub of_items_lem : {X : Type 0} → (f : Shape (Seen X) → X) (ts : Items) → of_items f ts ≡ each (see f) (items_list ts)
 of_items_lem f no_items = refl
 of_items_lem f (item t ts) = ap (λ l. see f t ∷ l) (of_items_lem f ts)
 
+-- what a function gives of members, by the list that they are
 pub of_members_lem : {X : Type 0} → (f : Shape (Seen X) → X) (ms : Members)
     → of_members f ms ≡ each (on_entry (see f)) (members_list ms)
 of_members_lem f no_members = refl
@@ -43,6 +46,7 @@ pub of_items-of : {X : Type 0} → (f : Shape (Seen X) → X) (ts : List Tree) �
 of_items-of f [] = refl
 of_items-of f (t ∷ ts) = ap (λ l. see f t ∷ l) (of_items-of f ts)
 
+-- what a function gives of members made of a list, entry by entry
 pub of_members-of : {X : Type 0} → (f : Shape (Seen X) → X) (es : List (Entry Tree))
     → of_members f (members_of es) ≡ each (on_entry (see f)) es
 of_members-of f [] = refl
@@ -66,21 +70,16 @@ seen_root f (text s) = a_text s
 seen_root f (list ts) = a_list (of_items f ts)
 seen_root f (object ms) = an_object (of_members f ms)
 
+-- what a function gives of a tree is stated by the root that is seen of it
 pub of_tree_lem : {X : Type 0} → (f : Shape (Seen X) → X) (t : Tree) → of_tree f t ≡ f (seen_root f t)
 of_tree_lem f null = refl
-of_tree_lem f (flag b) = refl
-of_tree_lem f (whole z) = refl
-of_tree_lem f (text s) = refl
-of_tree_lem f (list ts) = refl
-of_tree_lem f (object ms) = refl
+of_tree_lem f t = refl
 
+-- the tree of the root that is seen of a tree is that tree
 pub tree_of_root-seen : {X : Type 0} → (f : Shape (Seen X) → X) (t : Tree) → tree_of_root (seen_root f t) ≡ t
-tree_of_root-seen f null = refl
-tree_of_root-seen f (flag b) = refl
-tree_of_root-seen f (whole z) = refl
-tree_of_root-seen f (text s) = refl
 tree_of_root-seen f (list ts) = ap list (seen_items f ts)
 tree_of_root-seen f (object ms) = ap object (seen_members f ms)
+tree_of_root-seen f t = refl
 
 -- P holds of each tree that stands directly inside
 abbrev pub Inside : (Tree → Type 0) → Tree → Type 0
@@ -110,10 +109,7 @@ mutual
   by_members P h no_members = tt
   by_members P h (member n t ms) = (by_trees P h t, by_members P h ms)
 
+-- a tree that is found to be null is null
 pub null_tree : (t : Tree) → is_null t ≡ true → t ≡ null
 null_tree null h = refl
-null_tree (flag b) h = cc
-null_tree (whole z) h = cc
-null_tree (text s) h = cc
-null_tree (list ts) h = cc
-null_tree (object ms) h = cc
+null_tree t h = cc

@@ -1,23 +1,14 @@
 -- What the rows of an object weigh together is at most what its members weigh.
-use Rattle.std.proofs.Common.{ℕ, ◌+◌, ◌≤◌, Bool, true, false, cond, List, [], ◌∷◌}
-use Rattle.std.proofs.Common.{◌≡◌, refl, ap, ◌∙◌, arith}
+use Rattle.std.proofs.Common.{ℕ, ◌+◌, ◌≤◌, Bool, true, false, cond, List, [], ◌∷◌, ◌≡◌, refl, ap, ◌∙◌, arith}
 use Rattle.std.proofs.lemmas.Bool.{and_parts}
-use Rattle.openapi_node.specs.Tree.{Tree, Members, no_members, member}
-use Rattle.openapi_node.specs.Tree.{members_size, size_of}
-use Rattle.openapi_tables.specs.Lists.{every}
-use Rattle.openapi_tables.specs.Tree.{Entry}
-use Rattle.openapi_tables.specs.Tree.{members_list}
-use Rattle.openapi_tables.specs.Kind.{Row, takes, Tables}
-use Rattle.openapi_tables.specs.Kind.{TableName}
-use Rattle.openapi_tables.specs.Members.{own}
-use Rattle.openapi_tables.specs.Sound.{apart, rows_apart, row_sound}
-use Rattle.openapi_tables.specs.Sound.{tables_sound}
-use Rattle.openapi_tables.specs.ByRow.{weight, row_weight, rows_weight}
+use Rattle.openapi_node.specs.Tree.{Tree, Members, no_members, member, members_size, size_of}
+use Rattle.openapi_tables.specs.Prelude.{every, Entry, members_list, Row, takes, Tables, TableName, own, apart}
+use Rattle.openapi_tables.specs.Prelude.{rows_apart, row_sound, tables_sound, weight, row_weight, rows_weight}
 use Rattle.openapi_tables.proofs.ListLaws.{Each, every_each}
 use Rattle.openapi_tables.proofs.RowLaws.{apart_takes}
-use Rattle.openapi_tables.proofs.ObjectBack.{table_sound}
+use Rattle.openapi_tables.proofs.again.ObjectsBack.{table_sound}
 
--- Rows that are apart take different members, so together at most all.
+-- the weight of members of which the first counts or not
 pub weight_cond : (b : Bool) (e : Entry Tree) (es : List (Entry Tree))
     → weight (cond b (e ∷ es) es) ≡ cond b (size_of e.value) 0 + weight es
 weight_cond true e es = refl
@@ -74,10 +65,12 @@ pub weight-all : (ms : Members) → weight (members_list ms) ≡ members_size ms
 weight-all no_members = refl
 weight-all (member n t ms) = ap (λ x. size_of t + x) (weight-all ms)
 
+-- rows that are apart take no more values than all members of an object have
 pub rows_weight-le : (ws : List Row) (ms : Members) → rows_apart ws ≡ true → rows_weight ws ms ≤ members_size ms
 rows_weight-le ws ms h =
     omega (arith, rows_weight-weights ws ms, weight-all ms, weights-le ws (members_list ms) h)
 
+-- the rows of a sound table take no more values than all members of an object have
 pub table_weight-le : (T : Tables) (W : tables_sound T ≡ true) (i : TableName) (ms : Members)
     → rows_weight (T i) ms ≤ members_size ms
 table_weight-le T W i ms =

@@ -1,8 +1,7 @@
 -- The worked examples of refusals, by computation.
 use Rattle.std.proofs.Common.{refl}
-use Rattle.openapi_tables.specs.Tables.{final_tables, tables_with, any_rows, string_rows, object_rows, array_rows}
-use Rattle.openapi_tables.specs.Tables.{boolean_rows}
-use Rattle.openapi_tables.specs.Members.{kind_names, sort_rows, allowed, rows_of, checked_rows}
+use Rattle.openapi_tables.specs.Prelude.{final_tables, tables_with, any_rows, string_rows, object_rows, array_rows}
+use Rattle.openapi_tables.specs.Prelude.{boolean_rows, kind_names, sort_rows, allowed, rows_of, checked_rows}
 use Rattle.openapi_tables.specs.WorkedFaults.{MissingNames, NullMembers, WrongKinds, NotAllowed, UnknownVariants}
 use Rattle.openapi_tables.specs.WorkedFaults.{FarInside, SeveralFaults, WorkedFaults}
 
@@ -41,6 +40,7 @@ unfolding final_tables tables_with any_rows string_rows object_rows array_rows b
     allowed rows_of checked_rows
 several_faults = refl
 
+-- all worked examples of refusals hold
 pub worked_faults : WorkedFaults
 worked_faults =
     (missing_names, null_members, wrong_kinds, numbers_not_allowed, unknown_variants, far_inside, several_faults)

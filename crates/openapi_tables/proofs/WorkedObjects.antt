@@ -1,8 +1,7 @@
 -- The worked examples of objects that are no schemas, by computation.
 use Rattle.std.proofs.Common.{refl}
-use Rattle.openapi_tables.specs.Tables.{final_tables, tables_with, any_rows, string_rows, object_rows, array_rows}
-use Rattle.openapi_tables.specs.Tables.{boolean_rows}
-use Rattle.openapi_tables.specs.Members.{kind_names, sort_rows, allowed, rows_of, checked_rows}
+use Rattle.openapi_tables.specs.Prelude.{final_tables, tables_with, any_rows, string_rows, object_rows, array_rows}
+use Rattle.openapi_tables.specs.Prelude.{boolean_rows, kind_names, sort_rows, allowed, rows_of, checked_rows}
 use Rattle.openapi_tables.specs.WorkedObjects.{TagMembers, EmptyMembers, FirstOfTwo, DefaultStyles, StatusCodes}
 use Rattle.openapi_tables.specs.WorkedObjects.{ResponseCodes, OperationResponses, PathNames, Callbacks, SecuritySchemes}
 use Rattle.openapi_tables.specs.WorkedObjects.{DocumentOperations, Petstore, UnwritableNames, UnwritablePlaces}
@@ -78,6 +77,7 @@ unfolding final_tables tables_with any_rows string_rows object_rows array_rows b
     allowed rows_of checked_rows
 unwritable_places = (refl, refl, refl, refl, refl)
 
+-- all worked examples of objects that are no schemas hold
 pub worked_objects : WorkedObjects
 worked_objects = (
   tag_members,

@@ -1,8 +1,7 @@
 -- The worked examples of schemas, by computation.
 use Rattle.std.proofs.Common.{refl}
-use Rattle.openapi_tables.specs.Tables.{final_tables, tables_with, any_rows, string_rows, object_rows, array_rows}
-use Rattle.openapi_tables.specs.Tables.{boolean_rows}
-use Rattle.openapi_tables.specs.Members.{kind_names, sort_rows, allowed, rows_of, checked_rows}
+use Rattle.openapi_tables.specs.Prelude.{final_tables, tables_with, any_rows, string_rows, object_rows, array_rows}
+use Rattle.openapi_tables.specs.Prelude.{boolean_rows, kind_names, sort_rows, allowed, rows_of, checked_rows}
 use Rattle.openapi_tables.specs.WorkedSchemas.{EachSort, HeldAsAny, EmptyLists, EmptyAlternatives, FirstAgain}
 use Rattle.openapi_tables.specs.WorkedSchemas.{NullNames, Limits, SchemaReferences, WrittenOrder, MixedNames}
 use Rattle.openapi_tables.specs.WorkedSchemas.{AdditionalProperties, TypesAlone, XmlMember, Formats, WorkedSchemas}
@@ -83,6 +82,7 @@ unfolding final_tables tables_with any_rows string_rows object_rows array_rows b
     allowed rows_of checked_rows
 xml_member = ((refl, refl), (refl, refl))
 
+-- all worked examples of schemas hold
 pub worked_schemas : WorkedSchemas
 worked_schemas = (
   each_sort,

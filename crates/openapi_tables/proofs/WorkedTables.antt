@@ -1,8 +1,7 @@
 -- Each table by examples, by computation.
 use Rattle.std.proofs.Common.{refl}
-use Rattle.openapi_tables.specs.Tables.{final_tables, tables_with, any_rows, string_rows, object_rows, array_rows}
-use Rattle.openapi_tables.specs.Tables.{boolean_rows}
-use Rattle.openapi_tables.specs.Members.{kind_names, sort_rows, allowed, rows_of, checked_rows}
+use Rattle.openapi_tables.specs.Prelude.{final_tables, tables_with, any_rows, string_rows, object_rows, array_rows}
+use Rattle.openapi_tables.specs.Prelude.{boolean_rows, kind_names, sort_rows, allowed, rows_of, checked_rows}
 use Rattle.openapi_tables.specs.WorkedTables.{OfDocuments, OfPaths, OfParameters, OfSecurity, OfSchemas, WorkedTables}
 
 of_documents : OfDocuments
@@ -86,5 +85,6 @@ of_schemas = (
   ((refl, refl), refl, refl, refl),
 )
 
+-- all worked examples of the tables hold
 pub worked_tables : WorkedTables
 worked_tables = (of_documents, of_paths, of_parameters, of_security, of_schemas)

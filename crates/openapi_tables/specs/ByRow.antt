@@ -1,4 +1,5 @@
--- An object row by row: what a row reads among the members, what it may look at, and what is broken at a place.
+-- An object row by row, for the readers: what a row reads among the members, what it may look at, and what is broken
+-- at a place.
 use Rattle.std.specs.Prelude.{◌≡◌, ℕ, ◌+◌, Bool, true, false, cond, List, [], ◌∷◌, Option, Some, None}
 use Rattle.openapi_node.specs.Place.{Step, Place}
 use Rattle.openapi_node.specs.Tree.{Tree, Members, size_of}

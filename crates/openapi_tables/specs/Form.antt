@@ -1,4 +1,4 @@
--- What is read of a tree: forms.
+-- What is read of a tree: forms. Which form a tree has is said in Read, and which tree a form is written as in Print.
 use Rattle.std.specs.Prelude.{ℕ, List, [], ◌∷◌}
 use Rattle.openapi_node.specs.Tree.{Tree}
 use Rattle.openapi_tables.specs.Kind.{Code}

@@ -1,4 +1,4 @@
--- What a value is read as: kinds, the modes of rows, and rows.
+-- What a value is read as: kinds, the classes of names, the modes of rows, and rows; and the names of the tables.
 use Rattle.std.specs.Prelude.{ℕ, ℤ, pos, negsuc, Bool, true, false, not, ◌&&◌, ◌||◌, List, [], ◌∷◌, ◌==◌, nat_le, codes}
 use Rattle.openapi_tables.specs.Lists.{same_text}
 use Rattle.openapi_tables.specs.Code.{is_code, code_of}

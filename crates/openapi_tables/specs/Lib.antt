@@ -30,3 +30,4 @@ pub mod WorkedFaults
 pub mod WorkedTables
 pub mod ByRow
 pub mod Slots
+pub mod Prelude

@@ -1,4 +1,5 @@
--- The members of an object that a name or a row takes, and the sort of a schema by its members.
+-- The members of an object that a name or a row takes, and the sort of a schema by its members: which schema is a
+-- string, a number, ..
 use Rattle.std.specs.Prelude.{ℕ, Bool, true, false, not, ◌&&◌, ◌||◌, cond, List, [], ◌∷◌, Option, Some, None, codes}
 use Rattle.openapi_tables.specs.Lists.{each, join, only, every, same_text, has}
 use Rattle.openapi_node.specs.Tree.{Tree, null, flag, whole, text, list}

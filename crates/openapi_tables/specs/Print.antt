@@ -1,4 +1,5 @@
--- The tree that a form gives, and what reading and printing again do.
+-- The tree that a form gives (`print`), and what reading and printing again do: `clean` reads a tree and prints its
+-- form, and `again` prints a form and reads it.
 use Rattle.std.specs.Prelude.{ℕ, Bool, true, false, cond, List, [], ◌∷◌, codes}
 use Rattle.openapi_tables.specs.Lists.{each, join, same_text}
 use Rattle.openapi_node.specs.Tree.{Tree, null, flag, text, list, object, items_of}

@@ -1,4 +1,5 @@
--- Which forms the fields of a value can have, and which of them can be written.
+-- Which forms the fields of a value can have (`shaped`), and which of them can be written: what a writer takes
+-- (`proper`).
 use Rattle.std.specs.Prelude.{ℕ, Bool, true, false, ◌&&◌, ◌||◌, cond, List, [], ◌∷◌}
 use Rattle.openapi_tables.specs.Lists.{every, same_text, has}
 use Rattle.openapi_node.specs.Tree.{Tree, null, flag, whole, text}

@@ -1,4 +1,4 @@
--- An object as it is written, slot by slot: each row beside its form.
+-- An object as it is written, slot by slot, for the writers: a slot is a row beside its form.
 use Rattle.std.specs.Prelude.{◌≡◌, ℕ, Bool, true, false, cond, ◌&&◌, ◌||◌, List, [], ◌∷◌, Option, Some, None}
 use Rattle.openapi_node.specs.Place.{Place}
 use Rattle.openapi_node.specs.Tree.{Tree}

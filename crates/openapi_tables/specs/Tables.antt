@@ -1,4 +1,5 @@
--- The table of each object by its name: three lists of tables, the final one and two earlier ones.
+-- The table of each object by its name: three lists of tables, the final one and two earlier ones. The rows stand by
+-- subject in DocumentTables, PathTables, ParameterTables, ResponseTables, SecurityTables and SchemaTables.
 use Rattle.std.specs.Prelude.{List, [], ◌∷◌}
 use Rattle.openapi_tables.specs.Kind.{Kind, by, ref_to, unlimited, signed, Row, Tables, open_api, info, contact}
 use Rattle.openapi_tables.specs.Kind.{license, example, server, server_variable, tag, external_documentation}

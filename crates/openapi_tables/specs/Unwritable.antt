@@ -1,4 +1,5 @@
--- Where a form holds a name or a code that is not read again from what it is written as.
+-- Where a form holds a name or a code that is not read again from what it is written as: the places at which a writer
+-- refuses.
 use Rattle.std.specs.Prelude.{ℕ, suc, cond, List, [], ◌∷◌}
 use Rattle.openapi_tables.specs.Lists.{join, same_text}
 use Rattle.openapi_tables.specs.Kind.{Kind, list_of, map_of, ref_to, status_code, Class, status_names, Row, row, either}

@@ -1,7 +1,7 @@
 //! Trees from JSON text, and trees as text, with their members in order.
 ghost use Rattle.std.specs.Prelude.{◌≤◌, length};
 
-use openapiv3::{Fault, FromNode, Node, OrderedMap, Steps, ToNode};
+use openapiv3::{Fault, Node, OrderedMap, ToNode};
 use serde_json::Value;
 use std::test::Fail;
 
@@ -95,20 +95,6 @@ fn halves(member: &[u8]) -> Result<(&str, &[u8]), Fail> {
     Ok((std::str::from_utf8(name)?, value))
 }
 
-/// An object with these members in this order, each value as JSON text.
-pub fn object(rt: &HostRuntime, given: &[(&str, &str)]) -> Result<Node, Fail> {
-    Ok(Node::object(members(rt, given)?))
-}
-
-/// Members in this order, each value as JSON text.
-pub fn members(rt: &HostRuntime, given: &[(&str, &str)]) -> Result<OrderedMap<Node>, Fail> {
-    let mut out = OrderedMap::new(rt.alloc());
-    for (name, value) in given {
-        out.insert(name.to_string(rt.alloc())?, tree(rt, value)?)?;
-    }
-    Ok(out)
-}
-
 /// A map with one entry.
 pub fn map_with<V: Drop>(rt: &HostRuntime, name: &str, value: V) -> Result<OrderedMap<V>, Fail> {
     let name = name.to_string(rt.alloc())?;
@@ -118,37 +104,13 @@ pub fn map_with<V: Drop>(rt: &HostRuntime, name: &str, value: V) -> Result<Order
 }
 
 /// A tree as text, with the members of each object as they stand. Equality of nodes does not see their order.
-pub fn shown(rt: &HostRuntime, node: &Node) -> Result<String, Fail> {
+fn shown(rt: &HostRuntime, node: &Node) -> Result<String, Fail> {
     Ok(format!(in rt.alloc(); "{node:?}")?)
-}
-
-/// What a tree is cleaned to as a `T`, or the text of the fault that refuses it.
-pub fn cleaned<T: FromNode + ToNode + Drop>(
-    rt: &HostRuntime,
-    node: &Node,
-) -> Result<Result<Node, String>, Fail> {
-    let mut steps = Steps::new(rt);
-    match T::from_node(rt.alloc(), node, &mut steps) {
-        Ok(value) => Ok(Ok(value.to_node(rt.alloc())?)),
-        Err(fault) => Ok(Err(fault_text(rt, &fault)?)),
-    }
 }
 
 /// The printed form of a fault.
 pub fn fault_text(rt: &HostRuntime, fault: &Fault) -> Result<String, Fail> {
     Ok(format!(in rt.alloc(); "{fault}")?)
-}
-
-/// That an answer is a fault that prints as a text.
-pub fn check_fault<T: Drop>(
-    rt: &HostRuntime,
-    answer: Result<T, Fault>,
-    wanted: &str,
-) -> Result<(), Fail> {
-    match answer {
-        Ok(_) => Err(Fail::from("no fault")),
-        Err(fault) => check_same(rt, fault_text(rt, &fault)?.as_str(), wanted),
-    }
 }
 
 /// The text of the fault that refuses to write a value, or `written`.
@@ -186,47 +148,4 @@ pub fn check_written(
             check_same(rt, fault_text(rt, &fault)?.as_str(), text)
         }
     }
-}
-
-/// That what was read is written as a JSON text, member order included, or was refused with a text.
-pub fn check_read<T: ToNode + Drop>(
-    rt: &HostRuntime,
-    read: Result<T, Fault>,
-    wanted: Result<&str, &str>,
-) -> Result<(), Fail> {
-    match read {
-        Ok(value) => check_written(rt, value.to_node(rt.alloc()), wanted),
-        Err(fault) => check_written(rt, Err(fault), wanted),
-    }
-}
-
-/// That a tree is cleaned to another, member order included, or is refused with the text.
-pub fn check_cleaned<T: FromNode + ToNode + Drop>(
-    rt: &HostRuntime,
-    given: &Node,
-    wanted: Result<&Node, &str>,
-) -> Result<(), Fail> {
-    let found = match cleaned::<T>(rt, given)? {
-        Ok(node) => shown(rt, &node)?,
-        Err(fault) => fault,
-    };
-    match wanted {
-        Ok(node) => check_same(rt, found.as_str(), shown(rt, node)?.as_str()),
-        Err(fault) => check_same(rt, found.as_str(), fault),
-    }
-}
-
-/// That each JSON text is cleaned to another, member order included, or is refused with the text.
-pub fn check_texts<T: FromNode + ToNode + Drop>(
-    rt: &HostRuntime,
-    rows: &[(&str, Result<&str, &str>)],
-) -> Result<(), Fail> {
-    for (given, wanted) in rows {
-        let node = tree(rt, given)?;
-        match wanted {
-            Ok(text) => check_cleaned::<T>(rt, &node, Ok(&tree(rt, text)?))?,
-            Err(fault) => check_cleaned::<T>(rt, &node, Err(fault))?,
-        }
-    }
-    Ok(())
 }

@@ -5,7 +5,6 @@ ghost use Rattle.openapi_tables.specs.Tables.{number_formats};
 ghost use Rattle.openapi_values.specs.VariantOr.{format_form, variant_form};
 ghost use Rattle.openapi_values.specs.Words.{number_format_word};
 
-use openapi_node::Whole;
 use openapi_values::{
     APIKeyLocation, CookieStyle, HeaderStyle, IntegerFormat, NumberFormat, PathStyle, QueryStyle,
     ReferenceOr, StatusCode, StringFormat, VariantOrUnknown, VariantOrUnknownOrEmpty, Word,
@@ -49,12 +48,13 @@ fn debug_text<T: fmt::Debug>(alloc: Global, value: &T) -> Result<String, AllocEr
     format!(in alloc; "{value:?}")
 }
 
-fn reads_set<T>(rt: &impl Abort, set: &[(T, &str)])
+/// That the words of a set are these, and stand for these values.
+fn reads_set<T>(rt: &impl Abort, words: &[&str], values: &[T])
 where
     T: Word + FromStr<Err = ()> + PartialEq + fmt::Debug,
 {
-    assert_eq!(rt; T::all().len(), set.len());
-    for (value, word) in set {
+    assert_eq!(rt; (T::all().len(), words.len()), (values.len(), values.len()));
+    for (value, word) in values.iter().zip(words) {
         assert_eq!(rt; value.as_str(), *word);
         assert_eq!(rt; T::from_str(*word), Ok(*value));
         assert_eq!(rt; one_of(*word), Ok(*value));
@@ -69,37 +69,14 @@ where
 fn reads_status_codes(rt: HostRuntime) -> Result<(), Fail> {
     let texts = [
         ("099", Err(())),
-        ("+20", Err(())),
-        ("6666", Err(())),
         ("2XY", Err(())),
-        ("", Err(())),
-        ("2X", Err(())),
-        ("XXX", Err(())),
         ("2é", Err(())),
         ("0XX", Ok(StatusCode::Range(0))),
-        ("9xX", Ok(StatusCode::Range(9))),
-        ("4xx", Ok(StatusCode::Range(4))),
+        ("4xX", Ok(StatusCode::Range(4))),
         ("200", Ok(StatusCode::Code(200))),
     ];
     for (text, want) in texts {
         assert_eq!(rt; StatusCode::from_str(text), want);
-    }
-    Ok(())
-}
-
-#[test]
-fn reads_numbers_as_status_codes(rt: HostRuntime) -> Result<(), Fail> {
-    let numbers = [
-        (-200, Err(())),
-        (99, Err(())),
-        (1000, Err(())),
-        (100, Ok(StatusCode::Code(100))),
-        (200, Ok(StatusCode::Code(200))),
-        (999, Ok(StatusCode::Code(999))),
-    ];
-    for (number, want) in numbers {
-        let whole = Whole::new(number).ok_or("a whole number")?;
-        assert_eq!(rt; StatusCode::try_from(whole), want);
     }
     Ok(())
 }
@@ -129,69 +106,50 @@ fn prints_status_codes(rt: HostRuntime) -> Result<(), Fail> {
 }
 
 #[test]
-fn orders_status_codes(rt: HostRuntime) {
-    for (place, (code, ..)) in CODES.iter().enumerate() {
-        for (later, (other, ..)) in CODES.iter().enumerate() {
-            assert_eq!(rt; code.cmp(other), place.cmp(&later));
-            assert_eq!(rt; code == other, place == later);
-        }
-    }
-}
-
-#[test]
-fn reads_sets_of_words(rt: HostRuntime) -> Result<(), Fail> {
+fn reads_sets_of_words(rt: HostRuntime) {
     reads_set(
         &rt,
-        &[
-            (NumberFormat::Float, "float"),
-            (NumberFormat::Double, "double"),
-        ],
+        &["float", "double"],
+        &[NumberFormat::Float, NumberFormat::Double],
     );
     reads_set(
         &rt,
-        &[
-            (IntegerFormat::Int32, "int32"),
-            (IntegerFormat::Int64, "int64"),
-        ],
+        &["int32", "int64"],
+        &[IntegerFormat::Int32, IntegerFormat::Int64],
     );
+    let dates = [
+        StringFormat::Date,
+        StringFormat::DateTime,
+        StringFormat::Password,
+        StringFormat::Byte,
+        StringFormat::Binary,
+    ];
     reads_set(
         &rt,
-        &[
-            (StringFormat::Date, "date"),
-            (StringFormat::DateTime, "date-time"),
-            (StringFormat::Password, "password"),
-            (StringFormat::Byte, "byte"),
-            (StringFormat::Binary, "binary"),
-        ],
+        &["date", "date-time", "password", "byte", "binary"],
+        &dates,
     );
+    let paths = [PathStyle::Matrix, PathStyle::Label, PathStyle::Simple];
+    reads_set(&rt, &["matrix", "label", "simple"], &paths);
+    let queries = [
+        QueryStyle::Form,
+        QueryStyle::SpaceDelimited,
+        QueryStyle::PipeDelimited,
+        QueryStyle::DeepObject,
+    ];
     reads_set(
         &rt,
-        &[
-            (PathStyle::Matrix, "matrix"),
-            (PathStyle::Label, "label"),
-            (PathStyle::Simple, "simple"),
-        ],
+        &["form", "spaceDelimited", "pipeDelimited", "deepObject"],
+        &queries,
     );
-    reads_set(
-        &rt,
-        &[
-            (QueryStyle::Form, "form"),
-            (QueryStyle::SpaceDelimited, "spaceDelimited"),
-            (QueryStyle::PipeDelimited, "pipeDelimited"),
-            (QueryStyle::DeepObject, "deepObject"),
-        ],
-    );
-    reads_set(&rt, &[(CookieStyle::Form, "form")]);
-    reads_set(&rt, &[(HeaderStyle::Simple, "simple")]);
-    reads_set(
-        &rt,
-        &[
-            (APIKeyLocation::Query, "query"),
-            (APIKeyLocation::Header, "header"),
-            (APIKeyLocation::Cookie, "cookie"),
-        ],
-    );
-    Ok(())
+    reads_set(&rt, &["form"], &[CookieStyle::Form]);
+    reads_set(&rt, &["simple"], &[HeaderStyle::Simple]);
+    let keys = [
+        APIKeyLocation::Query,
+        APIKeyLocation::Header,
+        APIKeyLocation::Cookie,
+    ];
+    reads_set(&rt, &["query", "header", "cookie"], &keys);
 }
 
 /// That a value prints as a text, and as another for programmers.

@@ -1,16 +1,15 @@
 -- Looking for a word along the values of a set.
-use Rattle.std.proofs.Common.{◌≡◌, ℕ, suc, ◌+◌, ◌<◌, Bool, true, false, ◌&&◌, ◌||◌, ◌==◌, List, [], ◌∷◌}
-use Rattle.std.proofs.Common.{length, get_or, drop, map, refl, sym, ap, ◌∙◌, add-one}
+use Rattle.std.proofs.Common.{◌≡◌, ℕ, suc, ◌+◌, ◌<◌, Bool, true, false, ◌&&◌, ◌||◌, ◌==◌, List, [], ◌∷◌, length, get_or}
+use Rattle.std.proofs.Common.{drop, map, refl, sym, ap, ◌∙◌, add-one}
 use Rattle.std.proofs.Math.Seq.{drop-cons}
 use Rattle.std.specs.Str.{bytes_eq}
 use Rattle.openapi_tables.specs.Lists.{same_text, has}
 
 -- the two tests of texts agree
 pub same_text-bytes_eq : (s t : List ℕ) → same_text s t ≡ bytes_eq s t
-same_text-bytes_eq [] [] = refl
-same_text-bytes_eq [] (b ∷ t) = refl
-same_text-bytes_eq (a ∷ s) [] = refl
 same_text-bytes_eq (a ∷ s) (b ∷ t) = ap (λ r. a == b && r) (same_text-bytes_eq s t)
+same_text-bytes_eq s [] = refl
+same_text-bytes_eq s t = refl
 
 -- the values from an index on have the word where the first does, or those after it
 step : {X : Type 0} → (word : X → List ℕ) (xs : List X) (i : ℕ) (x : X) (t : List ℕ)

@@ -1,17 +1,18 @@
 //! Values that are built, and not read: what they are written as, and the names that are not written.
 
-use crate::extended::{Extended, with_extension};
+use indexmap::IndexMap;
 use openapi_test_support::trees::{check_tree, check_written, map_with};
 use openapiv3::{
-    Components, Content, Encoding, ExternalDocumentation, FromNode, MediaType, ObjectType, OpenAPI,
-    Operation, OrderedMap, PathItem, ReferenceOr, Schema, SchemaData, SchemaKind, SchemaType,
-    Steps, StringFormat, StringType, Tag, ToNode, Type, VariantOrUnknownOrEmpty, Xml,
+    AnySchema, Callback, Components, FromNode, IntoNode, Node, ObjectType, OpenAPI, Operation,
+    OrderedMap, PathItem, Paths, ReferenceOr, Response, Responses, Schema, SchemaData, SchemaKind,
+    SchemaType, StatusCode, Steps, StringFormat, StringType, Tag, ToNode, Type,
+    VariantOrUnknownOrEmpty,
 };
 use std::alloc::Global;
 use std::test::Fail;
 
 /// That a value that was built is written as a JSON text, member order included, or is refused with a text.
-pub(crate) fn check_built<T: ToNode + Drop>(
+fn check_built<T: ToNode + Drop>(
     rt: &HostRuntime,
     built: Result<T, Fail>,
     wanted: Result<&str, &str>,
@@ -22,30 +23,58 @@ pub(crate) fn check_built<T: ToNode + Drop>(
     }
 }
 
-/// A tag whose documentation has a null extension of this name.
+/// That a value that was built is turned into a JSON text, or is refused with a text.
+fn check_taken<T: IntoNode>(
+    rt: &HostRuntime,
+    built: Result<T, Fail>,
+    wanted: Result<&str, &str>,
+) -> Result<(), Fail> {
+    match built {
+        Ok(value) => check_written(rt, value.into_node(rt.alloc()), wanted),
+        Err(fail) => Err(fail),
+    }
+}
+
+/// A null extension of this name.
+fn extension(rt: &HostRuntime, name: &str) -> Result<OrderedMap<Node>, Fail> {
+    map_with(rt, name, Node::null())
+}
+
+/// An empty tag but for a null extension of this name.
 fn tag_with(rt: &HostRuntime, name: &str) -> Result<Tag, Fail> {
-    let docs: ExternalDocumentation = with_extension(rt, name)?;
+    let extensions = extension(rt, name)?;
     let mut tag = Tag::new(rt.alloc());
-    tag.external_docs = Some(docs);
+    tag.extensions = extensions;
     Ok(tag)
 }
 
-/// A schema of no sort in particular that is told of in XML, with a null extension of this name.
-fn schema_with(rt: &HostRuntime, name: &str) -> Result<Schema, Fail> {
-    let xml: Xml = with_extension(rt, name)?;
-    let mut schema = Schema::extended(rt.alloc(), OrderedMap::new(rt.alloc()));
-    schema.schema_data.xml = Some(xml);
-    Ok(schema)
+// A name that would not be read as an extension again is not written, with its place; `x-` alone is a name of one.
+#[test]
+fn names_of_extensions_begin_with_their_prefix(rt: HostRuntime) -> Result<(), Fail> {
+    let rows = [
+        ("", Err("name not writable at #/")),
+        ("-x", Err("name not writable at #/-x")),
+        ("X-a", Err("name not writable at #/X-a")),
+        ("/a", Err("name not writable at #/~1a")),
+        ("name", Err("name not writable at #/name")),
+        ("x-", Ok(r#"{"name":"","x-":null}"#)),
+        ("x-a/b", Ok(r#"{"name":"","x-a/b":null}"#)),
+    ];
+    for (name, wanted) in rows {
+        check_built(&rt, tag_with(&rt, name), wanted)?;
+        check_taken(&rt, tag_with(&rt, name), wanted)?;
+    }
+    Ok(())
 }
 
-/// A schema with a null extension of this name, where a reference may stand.
-fn item_with(rt: &HostRuntime, name: &str) -> Result<ReferenceOr<Schema>, Fail> {
-    Ok(ReferenceOr::Item(with_extension(rt, name)?))
-}
-
-/// The same in a box.
-fn boxed_with(rt: &HostRuntime, name: &str) -> Result<ReferenceOr<Box<Schema>>, Fail> {
-    Ok(ReferenceOr::boxed_item(rt.alloc(), with_extension(rt, name)?)?)
+/// A schema of no sort in particular with these extensions.
+fn schema_of(alloc: Global, extensions: OrderedMap<Node>) -> Schema {
+    let mut schema_data = SchemaData::new(alloc);
+    schema_data.extensions = extensions;
+    Schema {
+        schema_data,
+        schema_kind: SchemaKind::Any(AnySchema::new(alloc)),
+    }
 }
 
 /// A schema of an object with these properties.
@@ -60,41 +89,9 @@ fn object_of(alloc: Global, properties: OrderedMap<ReferenceOr<Box<Schema>>>) ->
 
 /// A schema of an object with a property that has a null extension of this name.
 fn object_with(rt: &HostRuntime, name: &str) -> Result<Schema, Fail> {
-    let properties = map_with(rt, "p", boxed_with(rt, name)?)?;
-    Ok(object_of(rt.alloc(), properties))
-}
-
-/// A media type with these encodings.
-fn media_type_of(alloc: Global, encodings: OrderedMap<Encoding>) -> MediaType {
-    let mut media_type = MediaType::new(alloc);
-    media_type.encoding = encodings;
-    media_type
-}
-
-/// A content with one media type, which has one encoding, which has a null extension of this name.
-fn content_with(rt: &HostRuntime, name: &str) -> Result<Content, Fail> {
-    let encodings = map_with(rt, "p", with_extension(rt, name)?)?;
-    map_with(rt, "a/b", media_type_of(rt.alloc(), encodings))
-}
-
-/// A path item with an operation that has a null extension of this name.
-fn path_item_with(rt: &HostRuntime, name: &str) -> Result<PathItem, Fail> {
-    let operation: Operation = with_extension(rt, name)?;
-    let mut path_item = PathItem::new(rt.alloc());
-    path_item.trace = Some(operation);
-    Ok(path_item)
-}
-
-/// A document with these components.
-fn document_of(alloc: Global, components: Components) -> OpenAPI {
-    let mut document = OpenAPI::new(alloc);
-    document.components = Some(components);
-    document
-}
-
-/// A document whose components have a null extension of this name.
-fn document_with(rt: &HostRuntime, name: &str) -> Result<OpenAPI, Fail> {
-    Ok(document_of(rt.alloc(), with_extension(rt, name)?))
+    let extensions = extension(rt, name)?;
+    let property = ReferenceOr::boxed_item(rt.alloc(), schema_of(rt.alloc(), extensions))?;
+    Ok(object_of(rt.alloc(), map_with(rt, "p", property)?))
 }
 
 /// Components with these schemas.
@@ -104,80 +101,30 @@ fn components_of(alloc: Global, schemas: OrderedMap<ReferenceOr<Schema>>) -> Com
     components
 }
 
-/// A document with a schema of an object with a property that has a null extension of this name.
-pub(crate) fn document_of_schema(rt: &HostRuntime, name: &str) -> Result<OpenAPI, Fail> {
-    let schemas = map_with(rt, "S", ReferenceOr::Item(object_with(rt, name)?))?;
-    Ok(document_of(rt.alloc(), components_of(rt.alloc(), schemas)))
+/// A document with these components.
+fn document_of(alloc: Global, components: Components) -> OpenAPI {
+    let mut document = OpenAPI::new(alloc);
+    document.components = Some(components);
+    document
 }
 
-#[test]
-fn extensions_are_looked_at_in_schemas(rt: HostRuntime) -> Result<(), Fail> {
-    check_built(
-        &rt,
-        schema_with(&rt, "foo"),
-        Err("name not writable at #/xml/foo"),
-    )?;
-    check_built(
-        &rt,
-        item_with(&rt, "foo"),
-        Err("name not writable at #/foo"),
-    )?;
-    check_built(
-        &rt,
-        boxed_with(&rt, "foo"),
-        Err("name not writable at #/foo"),
-    )?;
-    check_built(
-        &rt,
-        object_with(&rt, "foo"),
-        Err("name not writable at #/properties/p/foo"),
-    )
+/// A document with a schema of an object with a property that has a null extension of this name.
+fn document_with(rt: &HostRuntime, name: &str) -> Result<OpenAPI, Fail> {
+    let schemas = map_with(rt, "S", ReferenceOr::Item(object_with(rt, name)?))?;
+    Ok(document_of(rt.alloc(), components_of(rt.alloc(), schemas)))
 }
 
 // A fault of an inner object is told with the whole place.
 #[test]
 fn extensions_are_looked_at_deep_inside(rt: HostRuntime) -> Result<(), Fail> {
-    check_built(
-        &rt,
-        tag_with(&rt, "a/b"),
-        Err("name not writable at #/externalDocs/a~1b"),
-    )?;
-    check_built(
-        &rt,
-        content_with(&rt, "foo"),
-        Err("name not writable at #/a~1b/encoding/p/foo"),
-    )?;
-    check_built(
-        &rt,
-        path_item_with(&rt, "foo"),
-        Err("name not writable at #/trace/foo"),
-    )?;
-    check_built(
-        &rt,
-        document_with(&rt, "a"),
-        Err("name not writable at #/components/a"),
-    )?;
-    check_built(
-        &rt,
-        document_of_schema(&rt, "foo"),
-        Err("name not writable at #/components/schemas/S/properties/p/foo"),
-    )
-}
-
-#[test]
-fn extensions_are_written_deep_inside(rt: HostRuntime) -> Result<(), Fail> {
-    check_built(
-        &rt,
-        content_with(&rt, "x-foo"),
-        Ok(r#"{"a/b":{"encoding":{"p":{"contentType":null,"x-foo":null}}}}"#),
-    )?;
-    check_built(
-        &rt,
-        document_of_schema(&rt, "x-a"),
-        Ok(
-            r#"{"openapi":"","info":{"title":"","version":""},"paths":{},"components":{"schemas":{"S":{"type":"object","properties":{"p":{"x-a":null}}}}}}"#,
-        ),
-    )
+    let refused = Err("name not writable at #/properties/p/foo");
+    check_built(&rt, object_with(&rt, "foo"), refused)?;
+    check_taken(&rt, object_with(&rt, "foo"), refused)?;
+    let refused = Err("name not writable at #/components/schemas/S/properties/p/foo");
+    check_built(&rt, document_with(&rt, "foo"), refused)?;
+    check_taken(&rt, document_with(&rt, "foo"), refused)?;
+    let wanted = r#"{"openapi":"","info":{"title":"","version":""},"paths":{},"components":{"schemas":{"S":{"type":"object","properties":{"p":{"x-a":null}}}}}}"#;
+    check_built(&rt, document_with(&rt, "x-a"), Ok(wanted))
 }
 
 #[test]
@@ -199,5 +146,78 @@ fn unknown_formats_that_are_known_are_read_as_known(rt: HostRuntime) -> Result<(
     let mut steps = Steps::new(&rt);
     let read = StringType::from_node(rt.alloc(), &node, &mut steps)?;
     assert!(rt; read.format == VariantOrUnknownOrEmpty::Item(StringFormat::Date));
+    Ok(())
+}
+
+/// Empty responses but for a new response at this code.
+fn responses_with(rt: &HostRuntime, code: StatusCode) -> Result<Responses, Fail> {
+    let mut coded = IndexMap::new(rt.alloc());
+    coded.insert(code, ReferenceOr::Item(Response::new(rt.alloc())))?;
+    let mut responses = Responses::new(rt.alloc());
+    responses.responses = coded;
+    Ok(responses)
+}
+
+// A code is written where it is read again.
+#[test]
+fn codes_are_three_digits_or_a_digit_and_two_letters(rt: HostRuntime) -> Result<(), Fail> {
+    let rows = [
+        (StatusCode::Code(99), Err("name not writable at #/99")),
+        (StatusCode::Code(100), Ok(r#"{"100":{"description":""}}"#)),
+        (StatusCode::Code(999), Ok(r#"{"999":{"description":""}}"#)),
+        (StatusCode::Code(1000), Err("name not writable at #/1000")),
+        (StatusCode::Range(0), Ok(r#"{"0XX":{"description":""}}"#)),
+        (StatusCode::Range(9), Ok(r#"{"9XX":{"description":""}}"#)),
+        (StatusCode::Range(10), Err("name not writable at #/10XX")),
+    ];
+    for (code, wanted) in rows {
+        check_built(&rt, responses_with(&rt, code), wanted)?;
+    }
+    Ok(())
+}
+
+/// A callback that has an empty path item of this name.
+fn callback_with(rt: &HostRuntime, name: &str) -> Result<Callback, Fail> {
+    Ok(Callback {
+        paths: map_with(rt, name, PathItem::new(rt.alloc()))?,
+        extensions: OrderedMap::new(rt.alloc()),
+    })
+}
+
+/// An operation with such a callback under the name `c`.
+fn operation_with(rt: &HostRuntime, name: &str) -> Result<Operation, Fail> {
+    let callbacks = map_with(rt, "c", ReferenceOr::Item(callback_with(rt, name)?))?;
+    let mut operation = Operation::new(rt.alloc());
+    operation.callbacks = callbacks;
+    Ok(operation)
+}
+
+/// Paths with an empty path item of this name.
+fn paths_with(rt: &HostRuntime, name: &str) -> Result<Paths, Fail> {
+    Ok(Paths {
+        paths: map_with(rt, name, ReferenceOr::Item(PathItem::new(rt.alloc())))?,
+        extensions: OrderedMap::new(rt.alloc()),
+    })
+}
+
+// A path item of a callback under a name of extensions would be read as one, and a path begins with a slash.
+#[test]
+fn path_items_have_names_of_their_own(rt: HostRuntime) -> Result<(), Fail> {
+    let refused = Err("name not writable at #/callbacks/c/x-a");
+    check_built(&rt, operation_with(&rt, "x-a"), refused)?;
+    for name in ["x", "", "X-a", "/x-a", "u"] {
+        let wanted = format!(in rt.alloc(); "{{\"{name}\":{{}}}}")?;
+        check_built(&rt, callback_with(&rt, name), Ok(wanted.as_str()))?;
+    }
+    let rows = [
+        ("", Err("name not writable at #/")),
+        ("x-a", Err("name not writable at #/x-a")),
+        ("a/", Err("name not writable at #/a~1")),
+        ("/", Ok(r#"{"/":{}}"#)),
+        ("/x-a", Ok(r#"{"/x-a":{}}"#)),
+    ];
+    for (name, wanted) in rows {
+        check_built(&rt, paths_with(&rt, name), wanted)?;
+    }
     Ok(())
 }

@@ -70,21 +70,6 @@ fn present_operations_are_given_in_order(rt: HostRuntime) -> Result<(), Fail> {
     Ok(())
 }
 
-/// A path item with three new operations.
-fn with_operations(alloc: Global) -> PathItem {
-    let mut path_item = PathItem::new(alloc);
-    path_item.delete = Some(Operation::new(alloc));
-    path_item.post = Some(Operation::new(alloc));
-    path_item.get = Some(Operation::new(alloc));
-    path_item
-}
-
-#[test]
-fn new_operations_are_given(rt: HostRuntime) -> Result<(), Fail> {
-    check_lent(&rt, &with_operations(rt.alloc()), "get post delete ")?;
-    check_given(&rt, with_operations(rt.alloc()), "get post delete ")
-}
-
 /// A path item with one operation.
 fn with_head(alloc: Global) -> PathItem {
     let mut path_item = PathItem::new(alloc);

@@ -8,15 +8,11 @@ mod built;
 #[cfg(test)]
 mod compared;
 #[cfg(test)]
-mod extended;
-#[cfg(test)]
 mod iterators;
 #[cfg(test)]
 mod listed;
 #[cfg(test)]
 mod loops;
-#[cfg(test)]
-mod names;
 #[cfg(test)]
 mod parameters;
 #[cfg(test)]
@@ -27,8 +23,6 @@ mod read;
 mod readme;
 #[cfg(test)]
 mod readme_tests;
-#[cfg(test)]
-mod taken;
 #[cfg(test)]
 mod values;
 #[cfg(test)]

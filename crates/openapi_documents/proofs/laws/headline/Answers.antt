@@ -1,7 +1,5 @@
 use Rattle.std.proofs.Common.{sym, ap}
-use Rattle.openapi_tables.specs.Print.{print}
-use Rattle.openapi_tables.specs.Read.{form}
-use Rattle.openapi_tables.specs.Tables.{final_tables}
+use Rattle.openapi_tables.specs.Prelude.{print, form, final_tables}
 use Rattle.openapi_tables.proofs.AllReadProper.{read_proper}
 use Rattle.openapi_tables.proofs.FaultFound.{faults}
 use Rattle.openapi_tables.proofs.Size.{small}

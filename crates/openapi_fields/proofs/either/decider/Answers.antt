@@ -1,8 +1,7 @@
 use Rattle.std.proofs.Common.{sym, ap, ◌∙◌, subst}
 use Rattle.openapi_node.specs.Tree.{object, members_of}
 use Rattle.openapi_node.specs.declared.fault.Cause.TheVariants.{MissingEither}
-use Rattle.openapi_tables.specs.Kind.{any_text, by}
-use Rattle.openapi_tables.specs.Lists.{same_text}
+use Rattle.openapi_tables.specs.Prelude.{any_text, by, same_text}
 use Rattle.openapi_tables.proofs.ListLaws.{same_text_eq}
 use Rattle.openapi_fields.specs.Decided.{Decides}
 use Rattle.openapi_fields.proofs.Below.{fails_here}

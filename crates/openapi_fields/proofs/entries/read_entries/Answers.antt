@@ -1,22 +1,11 @@
 use Rattle.std.proofs.Common.{◌≡◌, ◌∙◌, true, false, sym, ap, inr, arith}
 use Rattle.std.proofs.lemmas.List.{take_all}
 use Rattle.openapi_node.specs.Place.{named}
-use Rattle.openapi_tables.specs.Lists.{every}
-use Rattle.openapi_tables.specs.Tables.{final_tables}
-use Rattle.openapi_tables.specs.Conforms.{conforms}
-use Rattle.openapi_tables.specs.Read.{form}
-use Rattle.openapi_tables.specs.Slots.{pairs_of}
+use Rattle.openapi_tables.specs.Prelude.{every, final_tables, conforms, form, pairs_of}
 use Rattle.openapi_fields.specs.Entries.{chosen, entries_size}
 use Rattle.openapi_fields.proofs.Below.{step_ok, step_err}
-use Rattle.openapi_fields.proofs.Chosen.{
-  entry_fails,
-  next_skipped,
-  next_within,
-  next_size,
-  next_holds,
-  next_same,
-  next_new,
-}
+use Rattle.openapi_fields.proofs.Chosen.{entry_fails, next_skipped, next_within, next_size, next_holds, next_same}
+use Rattle.openapi_fields.proofs.Chosen.{next_new}
 use Rattle.openapi_fields.proofs.entries.read_entries.Goals as goal
 
 pub loop-i-preserved-then-not-contains : goal.loop-i-preserved-then-not-contains

@@ -1,9 +1,5 @@
 use Rattle.std.proofs.Common.{◌≡◌, ◌+◌, ◌*◌, ◌≤◌, take, true}
-use Rattle.openapi_tables.specs.Lists.{every}
-use Rattle.openapi_tables.specs.Tables.{final_tables}
-use Rattle.openapi_tables.specs.Conforms.{conforms}
-use Rattle.openapi_tables.specs.Read.{form}
-use Rattle.openapi_tables.specs.Slots.{pairs_of}
+use Rattle.openapi_tables.specs.Prelude.{every, final_tables, conforms, form, pairs_of}
 use Rattle.openapi_fields.specs.Entries.{chosen, entries_size}
 use Rattle.openapi_fields.proofs.entries.read_entries.Given as goal
 

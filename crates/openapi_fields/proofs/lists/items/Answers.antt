@@ -3,11 +3,7 @@ use Rattle.std.proofs.lemmas.List.{take_all}
 use Rattle.openapi_node.specs.Place.{indexed}
 use Rattle.openapi_node.specs.Tree.{list, items_of}
 use Rattle.openapi_node.proofs.TreeLemmas.{next_item}
-use Rattle.openapi_tables.specs.Lists.{each, every}
-use Rattle.openapi_tables.specs.Tables.{final_tables}
-use Rattle.openapi_tables.specs.Conforms.{conforms}
-use Rattle.openapi_tables.specs.Kind.{list_of}
-use Rattle.openapi_tables.specs.Read.{form}
+use Rattle.openapi_tables.specs.Prelude.{each, every, final_tables, conforms, list_of, form}
 use Rattle.openapi_fields.proofs.Below.{step_ok, step_err, fails_above}
 use Rattle.openapi_fields.proofs.Elements.{list_gives, every-more, each-more, item_leads, next_here}
 use Rattle.openapi_fields.proofs.lists.items.Goals as goal

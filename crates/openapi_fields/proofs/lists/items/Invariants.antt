@@ -1,9 +1,6 @@
 use Rattle.std.proofs.Common.{◌≡◌, ◌+◌, ◌*◌, ◌≤◌, take, true}
 use Rattle.openapi_node.specs.Tree.{items_of, items_size}
-use Rattle.openapi_tables.specs.Lists.{each, every}
-use Rattle.openapi_tables.specs.Tables.{final_tables}
-use Rattle.openapi_tables.specs.Conforms.{conforms}
-use Rattle.openapi_tables.specs.Read.{form}
+use Rattle.openapi_tables.specs.Prelude.{each, every, final_tables, conforms, form}
 use Rattle.openapi_fields.proofs.lists.items.Given as goal
 
 abbrev pub invariant-loop-i : goal.invariant-loop-i

@@ -1,10 +1,6 @@
 use Rattle.std.proofs.Common.{◌∙◌, length, subst, sym, ap, arith}
 use Rattle.std.proofs.lemmas.List.{take_all}
-use Rattle.openapi_tables.specs.Form.{sequence, forms_of}
-use Rattle.openapi_tables.specs.Kind.{list_of}
-use Rattle.openapi_tables.specs.Lists.{each, every}
-use Rattle.openapi_tables.specs.Tables.{final_tables}
-use Rattle.openapi_tables.specs.Unwritable.{unwritable}
+use Rattle.openapi_tables.specs.Prelude.{sequence, forms_of, list_of, each, every, final_tables, unwritable}
 use Rattle.openapi_fields.specs.Returned.{NotWritable}
 use Rattle.openapi_fields.proofs.Elements.{written, is_whole, list_written, item_loses}
 use Rattle.openapi_fields.proofs.lists.write_items.Goals as goal

@@ -1,8 +1,7 @@
 use Rattle.std.proofs.Common.{sym, ap, ◌∙◌, Some, None, if◌then◌else◌, arith}
 use Rattle.openapi_node.specs.Tree.{members_of, size_of}
 use Rattle.openapi_node.specs.View.{shown}
-use Rattle.openapi_tables.specs.Kind.{optional, any_tree}
-use Rattle.openapi_tables.specs.Tables.{final_tables}
+use Rattle.openapi_tables.specs.Prelude.{optional, any_tree, final_tables}
 use Rattle.openapi_tables.proofs.ByRowLaws.{weight-found}
 use Rattle.openapi_fields.specs.Returned.{unless_null}
 use Rattle.openapi_fields.proofs.Below.{size-positive}

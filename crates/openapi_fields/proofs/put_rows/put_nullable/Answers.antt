@@ -1,7 +1,5 @@
 use Rattle.std.proofs.Common.{refl}
-use Rattle.openapi_tables.specs.Form.{absent}
-use Rattle.openapi_tables.specs.Kind.{nullable}
-use Rattle.openapi_tables.specs.Tables.{final_tables}
+use Rattle.openapi_tables.specs.Prelude.{absent, nullable, final_tables}
 use Rattle.openapi_tables.proofs.SlotWriting.{row_new}
 use Rattle.openapi_fields.proofs.Losing.{value_put, value_loses, null_put}
 use Rattle.openapi_fields.proofs.put_rows.put_nullable.Goals as goal

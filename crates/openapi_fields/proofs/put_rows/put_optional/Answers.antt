@@ -1,7 +1,5 @@
 use Rattle.std.proofs.Common.{refl}
-use Rattle.openapi_tables.specs.Form.{absent}
-use Rattle.openapi_tables.specs.Kind.{optional}
-use Rattle.openapi_tables.specs.Tables.{final_tables}
+use Rattle.openapi_tables.specs.Prelude.{absent, optional, final_tables}
 use Rattle.openapi_tables.proofs.SlotWriting.{row_new, row_silent}
 use Rattle.openapi_fields.proofs.Losing.{value_put, value_loses, not_silent}
 use Rattle.openapi_fields.proofs.put_rows.put_optional.Goals as goal

@@ -1,6 +1,5 @@
 use Rattle.std.proofs.Common.{refl}
-use Rattle.openapi_tables.specs.Kind.{required}
-use Rattle.openapi_tables.specs.Tables.{final_tables}
+use Rattle.openapi_tables.specs.Prelude.{required, final_tables}
 use Rattle.openapi_tables.proofs.SlotWriting.{row_new}
 use Rattle.openapi_fields.proofs.Losing.{value_put, value_loses}
 use Rattle.openapi_fields.proofs.put_rows.put_required.Goals as goal

@@ -1,6 +1,5 @@
 use Rattle.openapi_node.specs.Place.{named}
-use Rattle.openapi_tables.specs.Tables.{final_tables}
-use Rattle.openapi_tables.specs.Unwritable.{unwritable}
+use Rattle.openapi_tables.specs.Prelude.{final_tables, unwritable}
 use Rattle.openapi_fields.proofs.Losing.{below}
 use Rattle.openapi_fields.proofs.put_rows.put_value.Goals as goal
 

@@ -1,7 +1,6 @@
 use Rattle.std.proofs.Common.{sym, subst, arith}
 use Rattle.openapi_node.specs.Tree.{members_of}
-use Rattle.openapi_tables.specs.Kind.{required}
-use Rattle.openapi_tables.specs.Tables.{final_tables}
+use Rattle.openapi_tables.specs.Prelude.{required, final_tables}
 use Rattle.openapi_tables.proofs.ByRowLaws.{weight-found}
 use Rattle.openapi_fields.specs.Returned.{MemberReadAs}
 use Rattle.openapi_fields.proofs.Present.{at_member}

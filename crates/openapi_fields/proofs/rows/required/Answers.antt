@@ -1,8 +1,7 @@
 use Rattle.std.proofs.Common.{refl, Some, None, Ok}
 use Rattle.openapi_node.specs.Tree.{members_of, object, find}
 use Rattle.openapi_node.specs.declared.fault.Cause.TheVariants.{Missing}
-use Rattle.openapi_tables.specs.Kind.{required}
-use Rattle.openapi_tables.specs.Tables.{final_tables}
+use Rattle.openapi_tables.specs.Prelude.{required, final_tables}
 use Rattle.openapi_tables.proofs.ByRowLaws.{row_missing}
 use Rattle.openapi_tables.proofs.WellMade.{final_sound}
 use Rattle.openapi_fields.specs.Returned.{MemberReadAs}

@@ -3,9 +3,7 @@ use Rattle.openapi_node.specs.Place.{named}
 use Rattle.openapi_node.specs.Tree.{object, members_of}
 use Rattle.openapi_node.specs.View.{shown}
 use Rattle.openapi_node.specs.declared.fault.Cause.TheVariants.{Missing}
-use Rattle.openapi_tables.specs.Kind.{one_of, tagged, required}
-use Rattle.openapi_tables.specs.Faults.{words}
-use Rattle.openapi_tables.specs.Tables.{final_tables}
+use Rattle.openapi_tables.specs.Prelude.{one_of, tagged, required, words, final_tables}
 use Rattle.openapi_tables.proofs.ByRowLaws.{weight-found}
 use Rattle.openapi_values.specs.Words.{word_form}
 use Rattle.openapi_fields.specs.Returned.{ReadAs, FailsBelow}

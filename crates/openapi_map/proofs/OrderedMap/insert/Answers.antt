@@ -1,5 +1,4 @@
-use Rattle.std.proofs.Common.{Some, None, string_bytes}
-use Rattle.std.proofs.Common.{sym, ap, ◌∙◌}
+use Rattle.std.proofs.Common.{Some, None, string_bytes, sym, ap, ◌∙◌}
 use Rattle.std.specs.Str.{bytes_eq}
 use Rattle.indexmap.proofs.MapLemmas.{Found-position}
 use Rattle.indexmap.specs.IndexMap.{set_value_at}

@@ -13,20 +13,14 @@ use Rattle.openapi_fields.proofs.Below.{memory_fails}
 use Rattle.openapi_fields.proofs.Referring.{reads_reference}
 use Rattle.openapi_fields.proofs.Deciding.{decided_weight, first_read, second_read}
 use Rattle.openapi_schema.specs.SchemaForms.{schema_form}
-use Rattle.openapi_fields.proofs.RecursiveReading.{all_so_far, map_at, map_read, next_refused, next_so_far, no_map, no_map_at, none_so_far, object_read}
+use Rattle.openapi_fields.proofs.RecursiveReading.{all_so_far, map_at, map_read, next_refused, next_so_far, no_map}
+use Rattle.openapi_fields.proofs.RecursiveReading.{no_map_at, none_so_far, object_read}
 use Rattle.openapi_fields.proofs.EntryReading.{name_unread}
-use Rattle.openapi_media_types.specs.ContentForms.{encoding_form, encoding_rows, header_form, header_rows, media_type_form, media_type_rows}
+use Rattle.openapi_media_types.specs.ContentForms.{encoding_form, encoding_rows, header_form, header_rows}
+use Rattle.openapi_media_types.specs.ContentForms.{media_type_form, media_type_rows}
 use Rattle.openapi_media_types.specs.Fields.{encoding_fields, format_row, header_fields, media_type_fields}
-use Rattle.openapi_media_types.proofs.Opened.{
-  encoding_same,
-  encoding_read,
-  format-content,
-  format-schema,
-  header_same,
-  header_read,
-  media_type_same,
-  media_type_read,
-}
+use Rattle.openapi_media_types.proofs.Opened.{encoding_same, encoding_read, format-content, format-schema, header_same}
+use Rattle.openapi_media_types.proofs.Opened.{header_read, media_type_same, media_type_read}
 use Rattle.openapi_media_types.proofs.read.+read.Goals as goal
 
 pub read_header-returns-in-Ok : goal.read_header-returns-in-Ok

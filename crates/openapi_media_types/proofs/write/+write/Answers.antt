@@ -1,33 +1,18 @@
 use Rattle.std.proofs.Common.{◌∙◌, cond, codes, refl, sym, ap, subst, arith}
-use Rattle.openapi_tables.specs.Kind.{by, encoding, header, media_type, ref_to}
-use Rattle.openapi_tables.specs.Lists.{same_text}
-use Rattle.openapi_tables.specs.Tables.{content, final_tables, schema_ref, tables_with}
-use Rattle.openapi_tables.specs.Form.{fields, forms_of}
-use Rattle.openapi_tables.specs.Members.{plain}
+use Rattle.openapi_tables.specs.Prelude.{by, encoding, header, media_type, ref_to, same_text, content, final_tables}
+use Rattle.openapi_tables.specs.Prelude.{schema_ref, tables_with, fields, forms_of, plain}
 use Rattle.openapi_tables.proofs.SlotWriting.{none_written}
 use Rattle.openapi_values.specs.Reference.{reference_form}
 use Rattle.openapi_fields.specs.Returned.{WrittenAs}
 use Rattle.openapi_fields.proofs.RecursiveWriting.{all_put, next_lost, next_put, unwritten}
 use Rattle.openapi_fields.proofs.Losing.{none_mapped}
 use Rattle.openapi_fields.proofs.FormSizes.{form_size, rows_size, value_smaller}
-use Rattle.openapi_media_types.specs.ContentForms.{
-  deciding_name,
-  deciding_value,
-  encoding_form,
-  format_form,
-  header_form,
-  media_type_form,
-}
+use Rattle.openapi_media_types.specs.ContentForms.{deciding_name, deciding_value, encoding_form, format_form}
+use Rattle.openapi_media_types.specs.ContentForms.{header_form, media_type_form}
 use Rattle.openapi_media_types.specs.Fields.{encoding_fields, header_fields, header_slots, media_type_fields}
 use Rattle.openapi_media_types.specs.declared.header.Header.{out-Header}
-use Rattle.openapi_media_types.proofs.Opened.{
-  encoding_rows-out,
-  format-content,
-  format-schema,
-  format_held,
-  header_rows-out,
-  media_type_rows-out,
-}
+use Rattle.openapi_media_types.proofs.Opened.{encoding_rows-out, format-content, format-schema, format_held}
+use Rattle.openapi_media_types.proofs.Opened.{header_rows-out, media_type_rows-out}
 use Rattle.openapi_media_types.proofs.write.+write.Goals as goal
 
 pub write_content-put_written-requires : goal.write_content-put_written-requires

@@ -1,8 +1,7 @@
 use Rattle.std.proofs.Common.{◌≡◌, ◌∙◌, true, false, refl, sym, ap, arith}
 use Rattle.std.proofs.lemmas.List.{take_all}
-use Rattle.openapi_tables.specs.Form.{leaf}
+use Rattle.openapi_tables.specs.Prelude.{leaf, every}
 use Rattle.openapi_tables.specs.Kind as kinds
-use Rattle.openapi_tables.specs.Lists.{every}
 use Rattle.openapi_fields.proofs.Written.{next_named, name_loses}
 use Rattle.openapi_metadata.proofs.moved.check_names.Goals as goal
 

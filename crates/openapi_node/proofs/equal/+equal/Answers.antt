@@ -1,12 +1,11 @@
-use Rattle.std.proofs.Common.{◌≡◌, ◌↔◌, ℕ, ◌<◌, List, IsTrue, true, false, refl, sym, ap, subst, ◌∙◌}
-use Rattle.std.proofs.Common.{true≢false, arith, length, take, map}
+use Rattle.std.proofs.Common.{◌≡◌, ◌↔◌, ℕ, ◌<◌, List, IsTrue, true, false, refl, sym, ap, subst, ◌∙◌, true≢false, arith}
+use Rattle.std.proofs.Common.{length, take, map}
 use Rattle.std.proofs.lemmas.List.{take_all}
 use Rattle.serde_json.specs.Data as json
 use Rattle.serde_json.specs.View.{items_of as view_items_of}
 use Rattle.openapi_node.specs.Json.{data_of}
 use Rattle.openapi_node.specs.Tree.{Tree}
-use Rattle.openapi_node.proofs.EqualLemmas.{same_length, same_item}
-use Rattle.openapi_node.proofs.EqualLemmas.{AreFoundIn, AreFoundIn-push, equal_members, as_many}
+use Rattle.openapi_node.proofs.EqualLemmas.{same_length, same_item, AreFoundIn, AreFoundIn-push, equal_members, as_many}
 use Rattle.openapi_node.proofs.EqualLemmas.{found_from_equal, same_found}
 use Rattle.openapi_node.proofs.DataOrder.{not_both}
 use Rattle.openapi_node.proofs.JsonLemmas.{items_data-items_of}

@@ -1,5 +1,5 @@
-use Rattle.std.proofs.Common.{◌≡◌, ◌<◌, ◌≤◌, ◌+◌, inr, string_cmp, [], ◌∷◌, ◌++◌, length, get_or, take, sym, ap}
-use Rattle.std.proofs.Common.{subst, ◌∙◌, rules, append_assoc, append-nil, string_bytes}
+use Rattle.std.proofs.Common.{◌≡◌, ◌<◌, ◌≤◌, ◌+◌, inr, string_cmp, [], ◌∷◌, ◌++◌, length, get_or, take, sym, ap, subst}
+use Rattle.std.proofs.Common.{◌∙◌, rules, append_assoc, append-nil, string_bytes}
 use Rattle.std.proofs.lemmas.List.{take_more, take_all}
 use Rattle.std.specs.List.Sorted.{IsStrictlySortedBy}
 use Rattle.std.specs.Map.{keys_of}
@@ -11,8 +11,8 @@ use Rattle.serde_json.specs.declared.value.Value.{the_lemmas}
 use Rattle.openapi_node.specs.Tree.{list, object, items_of, members_of}
 use Rattle.openapi_map.specs.Entries.{get}
 use Rattle.openapi_node.proofs.JsonLemmas.{not_whole_here, goes_up, at_item, at_member, trees, named_trees}
-use Rattle.openapi_node.proofs.JsonLemmas.{no_float-push, no_float-member, trees-push, named_trees-push}
-use Rattle.openapi_node.proofs.JsonLemmas.{absent_last, items_of-trees, members_of-named_trees}
+use Rattle.openapi_node.proofs.JsonLemmas.{no_float-push, no_float-member, trees-push, named_trees-push, absent_last}
+use Rattle.openapi_node.proofs.JsonLemmas.{items_of-trees, members_of-named_trees}
 use Rattle.openapi_node.proofs.read_value.+read.Goals as goal
 
 pub read_node-returns-in-None-clause-err : goal.read_node-returns-in-None-clause-err

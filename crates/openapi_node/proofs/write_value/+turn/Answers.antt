@@ -1,9 +1,7 @@
-use Rattle.std.proofs.Common.{◌≡◌, [], ◌++◌, ◌∷◌, map, string_bytes, sym, ap, ◌∙◌}
-use Rattle.std.proofs.Common.{arith, append_assoc, append-nil}
+use Rattle.std.proofs.Common.{◌≡◌, [], ◌++◌, ◌∷◌, map, string_bytes, sym, ap, ◌∙◌, arith, append_assoc, append-nil}
 use Rattle.std.proofs.lemmas.List.{nil_from_length}
 use Rattle.std.specs.Vec.Iter.{into_iter_items}
-use Rattle.serde_json.specs.View.{view}
-use Rattle.serde_json.specs.View.{items_of as view_items_of}
+use Rattle.serde_json.specs.View.{view, items_of as view_items_of}
 use Rattle.openapi_node.specs.Json.{data_of}
 use Rattle.openapi_node.specs.Pairs.{pair_view, pair_data}
 use Rattle.openapi_node.proofs.JsonLemmas.{items_data-items_of, push_made}

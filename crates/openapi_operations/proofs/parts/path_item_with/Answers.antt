@@ -1,8 +1,6 @@
 use Rattle.std.proofs.Common.{sym, subst}
 use Rattle.openapi_node.specs.Tree.{members_of}
-use Rattle.openapi_tables.specs.ByRow.{AreRows}
-use Rattle.openapi_tables.specs.Kind.{path_item}
-use Rattle.openapi_tables.specs.Tables.{final_tables, tables_with}
+use Rattle.openapi_tables.specs.Prelude.{AreRows, path_item, final_tables, tables_with}
 use Rattle.openapi_operations.proofs.parts.path_item_with.Goals as goal
 
 pub returns-in-Ok-clause-reads : goal.returns-in-Ok-clause-reads

@@ -1,11 +1,12 @@
-use Rattle.std.proofs.Common.{◌≡◌, ◌∙◌, Ok, Err, Some, not, None, refl, rules, sym, ap, subst, arith, codes, string_bytes}
+use Rattle.std.proofs.Common.{◌≡◌, ◌∙◌, Ok, Err, Some, not, None, refl, rules, sym, ap, subst, arith, codes}
+use Rattle.std.proofs.Common.{string_bytes}
 use Rattle.std.proofs.lemmas.List.{take_all}
 use Rattle.openapi_node.specs.Tree.{members_of, size_of}
 use Rattle.openapi_node.specs.View.{shown}
 use Rattle.openapi_node.proofs.TreeLemmas.{next_member}
-use Rattle.openapi_tables.specs.ByRow.{AreRows, RowGives, is_named, row_where, rows_asked}
-use Rattle.openapi_tables.specs.Kind.{any_tree, by, callback_names, callback_object, in_class, operation, optional, path_item, row}
-use Rattle.openapi_tables.specs.Tables.{callback_ref, final_tables, tables_with}
+use Rattle.openapi_tables.specs.Prelude.{AreRows, RowGives, is_named, row_where, rows_asked, any_tree, by}
+use Rattle.openapi_tables.specs.Prelude.{callback_names, callback_object, in_class, operation, optional, path_item, row}
+use Rattle.openapi_tables.specs.Prelude.{callback_ref, final_tables, tables_with}
 use Rattle.openapi_values.specs.Reference.{reference_form}
 use Rattle.openapi_fields.specs.Entries.{chosen, entries_size}
 use Rattle.openapi_fields.specs.Forms.{optional_form}
@@ -15,26 +16,16 @@ use Rattle.openapi_fields.proofs.Referring.{reads_reference}
 use Rattle.openapi_fields.proofs.Chosen.{next_size, next_skipped, next_within}
 use Rattle.openapi_fields.proofs.Classed.{class_count, class_gives}
 use Rattle.openapi_fields.proofs.RowReading.{weight_of_name}
-use Rattle.openapi_fields.proofs.RecursiveReading.{all_so_far, map_at, next_refused, next_so_far, no_map, no_map_at, none_so_far, object_read}
+use Rattle.openapi_fields.proofs.RecursiveReading.{all_so_far, map_at, next_refused, next_so_far, no_map, no_map_at}
+use Rattle.openapi_fields.proofs.RecursiveReading.{none_so_far, object_read}
 use Rattle.openapi_fields.proofs.EntryReading.{name_unread}
 use Rattle.openapi_fields.proofs.PresentRows.{row_gone, row_read}
-use Rattle.openapi_operations.specs.OperationForms.{callback_form, callback_rows, operation_form, operation_rows, path_item_form, path_item_rows}
+use Rattle.openapi_operations.specs.OperationForms.{callback_form, callback_rows, operation_form, operation_rows}
+use Rattle.openapi_operations.specs.OperationForms.{path_item_form, path_item_rows}
 use Rattle.openapi_operations.specs.Fields.{callback_fields, operation_fields, path_item_fields}
-use Rattle.openapi_operations.proofs.ClassReading.{
-  AreTaken,
-  all_taken,
-  name_untaken,
-  none_passed,
-  none_taken,
-  one_refused,
-  one_taken,
-}
-use Rattle.openapi_operations.proofs.Opened.{
-  callback_same,
-  callback_read,
-  operation_same,
-  path_item_same,
-}
+use Rattle.openapi_operations.proofs.ClassReading.{AreTaken, all_taken, name_untaken, none_passed, none_taken}
+use Rattle.openapi_operations.proofs.ClassReading.{one_refused, one_taken}
+use Rattle.openapi_operations.proofs.Opened.{callback_same, callback_read, operation_same, path_item_same}
 use Rattle.openapi_operations.proofs.PartRows.{methods_read, path_item_weight}
 use Rattle.openapi_operations.proofs.read.+read.Goals as goal
 

@@ -1,51 +1,49 @@
 use Rattle.std.proofs.Common.{◌+◌, ◌*◌, ◌≤◌, take}
-use Rattle.openapi_node.specs.Tree.{members_of, members_size, size_of}
-use Rattle.openapi_node.specs.View.{shown}
-use Rattle.openapi_tables.specs.Kind.{by, callback_names, in_class, path_item}
-use Rattle.openapi_tables.specs.Tables.{callback_ref}
+use Rattle.openapi_tables.specs.Prelude.{by, callback_names, in_class, path_item, callback_ref}
 use Rattle.openapi_values.specs.Reference.{reference_form}
 use Rattle.openapi_fields.specs.Entries.{chosen, entries_size}
 use Rattle.openapi_fields.proofs.RecursiveReading.{SoFar}
 use Rattle.openapi_operations.specs.OperationForms.{callback_form, path_item_form}
 use Rattle.openapi_operations.proofs.ClassReading.{AreTaken}
+use Rattle.openapi_fields.proofs.Measures.{members_left, view_left}
 use Rattle.openapi_operations.proofs.read.+read.Given as goal
 
 -- the size of the tree that is left to read; and for the same tree, the caller above what it calls
 abbrev pub decreases-read_path_item : goal.decreases-read_path_item
-decreases-read_path_item l = 8 * size_of (shown l.view.now)
+decreases-read_path_item l = view_left l.view.now 0
 
 abbrev pub decreases-path_item_of : goal.decreases-path_item_of
-decreases-path_item_of l = 8 * members_size (members_of l.members.now) + 5
+decreases-path_item_of l = members_left l.members.now 5
 
 abbrev pub decreases-read_methods : goal.decreases-read_methods
-decreases-read_methods l = 8 * members_size (members_of l.members.now) + 4
+decreases-read_methods l = members_left l.members.now 4
 
 abbrev pub decreases-read_method : goal.decreases-read_method
-decreases-read_method l = 8 * members_size (members_of l.members.now) + 3
+decreases-read_method l = members_left l.members.now 3
 
 abbrev pub decreases-read_operation : goal.decreases-read_operation
-decreases-read_operation l = 8 * size_of (shown l.view.now)
+decreases-read_operation l = view_left l.view.now 0
 
 abbrev pub decreases-operation_of : goal.decreases-operation_of
-decreases-operation_of l = 8 * members_size (members_of l.members.now) + 5
+decreases-operation_of l = members_left l.members.now 5
 
 abbrev pub decreases-read_callbacks : goal.decreases-read_callbacks
-decreases-read_callbacks l = 8 * members_size (members_of l.members.now) + 4
+decreases-read_callbacks l = members_left l.members.now 4
 
 abbrev pub decreases-callbacks_of : goal.decreases-callbacks_of
-decreases-callbacks_of l = 8 * members_size (members_of l.members.now) + 2
+decreases-callbacks_of l = members_left l.members.now 2
 
 abbrev pub decreases-read_callback_ref : goal.decreases-read_callback_ref
-decreases-read_callback_ref l = 8 * size_of (shown l.view.now) + 1
+decreases-read_callback_ref l = view_left l.view.now 1
 
 abbrev pub decreases-read_callback : goal.decreases-read_callback
-decreases-read_callback l = 8 * size_of (shown l.view.now)
+decreases-read_callback l = view_left l.view.now 0
 
 abbrev pub decreases-callback_of : goal.decreases-callback_of
-decreases-callback_of l = 8 * members_size (members_of l.members.now) + 5
+decreases-callback_of l = members_left l.members.now 5
 
 abbrev pub decreases-read_requests : goal.decreases-read_requests
-decreases-read_requests l = 8 * members_size (members_of l.members.now) + 4
+decreases-read_requests l = members_left l.members.now 4
 
 abbrev pub invariant-callbacks_of-loop-i : goal.invariant-callbacks_of-loop-i
 invariant-callbacks_of-loop-i l = SoFar (reference_form callback_form) callback_ref l.members l.initial.steps l.i l.values l.steps

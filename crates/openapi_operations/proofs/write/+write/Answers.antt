@@ -1,10 +1,7 @@
 use Rattle.std.proofs.Common.{◌∙◌, [], not, Ok, Err, refl, sym, ap, subst, arith}
 use Rattle.std.proofs.lemmas.List.{take_all}
-use Rattle.openapi_tables.specs.Kind.{by, callback_names, callback_object, in_class, operation, optional, path_item}
-use Rattle.openapi_tables.specs.Lists.{every}
-use Rattle.openapi_tables.specs.Tables.{callback_ref, final_tables, tables_with}
-use Rattle.openapi_tables.specs.Form.{fields, forms_of}
-use Rattle.openapi_tables.specs.Members.{plain}
+use Rattle.openapi_tables.specs.Prelude.{by, callback_names, callback_object, in_class, operation, optional, path_item}
+use Rattle.openapi_tables.specs.Prelude.{every, callback_ref, final_tables, tables_with, fields, forms_of, plain}
 use Rattle.openapi_tables.proofs.SlotWriting.{none_written}
 use Rattle.openapi_values.specs.Reference.{reference_form}
 use Rattle.openapi_fields.specs.Entries.{all_whole, written_entries}

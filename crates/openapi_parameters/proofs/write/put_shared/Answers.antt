@@ -1,7 +1,6 @@
 use Rattle.std.proofs.Common.{◌∙◌, Some, Ok, Err, ap, sym, codes}
 use Rattle.std.proofs.lemmas.Result.{err_from_is_err_and}
-use Rattle.openapi_tables.specs.Form.{absent}
-use Rattle.openapi_tables.specs.Kind.{constant}
+use Rattle.openapi_tables.specs.Prelude.{absent, constant}
 use Rattle.openapi_parameters.proofs.SharedSlots.{data_loses, data_new, data_put, of_data}
 use Rattle.openapi_parameters.proofs.write.put_shared.Goals as goal
 

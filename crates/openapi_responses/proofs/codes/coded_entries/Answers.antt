@@ -1,11 +1,7 @@
 use Rattle.std.proofs.Common.{◌∙◌, Ok, Err, sym, ap, inr, arith}
 use Rattle.std.proofs.lemmas.List.{take_all}
 use Rattle.openapi_node.specs.Place.{named}
-use Rattle.openapi_tables.specs.Kind.{status_names, in_class}
-use Rattle.openapi_tables.specs.Lists.{every}
-use Rattle.openapi_tables.specs.Tables.{final_tables}
-use Rattle.openapi_tables.specs.Conforms.{conforms}
-use Rattle.openapi_tables.specs.Read.{form}
+use Rattle.openapi_tables.specs.Prelude.{status_names, in_class, every, final_tables, conforms, form}
 use Rattle.openapi_fields.specs.Entries.{entries_size}
 use Rattle.openapi_fields.proofs.Below.{step_ok, step_err}
 use Rattle.openapi_fields.proofs.Chosen.{entry_fails, next_skipped, next_within, next_size, next_holds}

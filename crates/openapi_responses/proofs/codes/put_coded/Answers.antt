@@ -1,16 +1,8 @@
 use Rattle.std.proofs.Common.{◌++◌, ◌∙◌, map, ap, sym}
 use Rattle.std.specs.Map.Iter.{deref_pair}
 use Rattle.std.proofs.lemmas.Map.Iter.{iter_end}
-use Rattle.openapi_responses.proofs.CodeWriting.{
-  members,
-  all_kept,
-  next_split,
-  next_absent,
-  next_members,
-  next_kept,
-  codes_put,
-  code_loses,
-}
+use Rattle.openapi_responses.proofs.CodeWriting.{members, all_kept, next_split, next_absent, next_members, next_kept}
+use Rattle.openapi_responses.proofs.CodeWriting.{codes_put, code_loses}
 use Rattle.openapi_responses.proofs.codes.put_coded.Goals as goal
 
 pub put_code-requires : goal.put_code-requires

@@ -1,6 +1,5 @@
 use Rattle.std.proofs.Common.{[], ◌∷◌, sym, ap, ◌∙◌, unwrap_or, take, drop}
-use Rattle.openapi_tables.specs.Lists.{join}
-use Rattle.openapi_tables.specs.Form.{leaf}
+use Rattle.openapi_tables.specs.Prelude.{join, leaf}
 use Rattle.openapi_fields.specs.Forms.{optional_form, list_form, map_form, text_form}
 use Rattle.openapi_schema.specs.PlainNames.{plain_first_rows, plain_last_rows}
 use Rattle.openapi_schema.specs.Reading.{ref_form, inner_box_form, outer_box_form}

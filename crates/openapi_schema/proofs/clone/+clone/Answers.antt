@@ -1,10 +1,8 @@
 use Rattle.std.proofs.Common.{◌∙◌, ◌∷◌, [], sym, ap, arith, take, string_bytes}
 use Rattle.openapi_map.specs.Entries.{get}
 use Rattle.openapi_map.proofs.EntryLemmas.{absent-next}
-use Rattle.openapi_tables.specs.Form.{absent, leaf}
-use Rattle.openapi_tables.specs.Lists.{each, join}
-use Rattle.openapi_tables.specs.Members.{string_sort, number_sort, integer_sort, boolean_sort, object_sort}
-use Rattle.openapi_tables.specs.Members.{one_of_sort, all_of_sort, any_of_sort, any_sort}
+use Rattle.openapi_tables.specs.Prelude.{absent, leaf, each, join, string_sort, number_sort, integer_sort, boolean_sort}
+use Rattle.openapi_tables.specs.Prelude.{object_sort, one_of_sort, all_of_sort, any_of_sort, any_sort}
 use Rattle.openapi_fields.specs.Forms.{text_form, flag_form, number_form, size_form, optional_form, list_form}
 use Rattle.openapi_schema.specs.KindNames.{any_last_rows}
 use Rattle.openapi_schema.specs.Reading.{ref_form, inner_box_form}

@@ -1,7 +1,5 @@
 use Rattle.std.proofs.Common.{ap, ◌∙◌}
-use Rattle.openapi_tables.specs.Lists.{join}
-use Rattle.openapi_tables.specs.Members.{any_sort, kind_names, sort_rows}
-use Rattle.openapi_tables.specs.Tables.{any_rows}
+use Rattle.openapi_tables.specs.Prelude.{join, any_sort, kind_names, sort_rows, any_rows}
 use Rattle.openapi_schema.specs.KindNames.{any_first_rows, any_last_rows}
 use Rattle.openapi_schema.specs.RawSlots.{sort_slots}
 use Rattle.openapi_schema.proofs.FormatSlots.{kept_slot}

@@ -1,7 +1,5 @@
 use Rattle.std.proofs.Common.{[], ◌∷◌, ap, ◌∙◌}
-use Rattle.openapi_tables.specs.Form.{absent}
-use Rattle.openapi_tables.specs.Members.{array_sort, kind_names, sort_rows}
-use Rattle.openapi_tables.specs.Tables.{any_rows, array_rows}
+use Rattle.openapi_tables.specs.Prelude.{absent, array_sort, kind_names, sort_rows, any_rows, array_rows}
 use Rattle.openapi_fields.specs.Forms.{optional_form}
 use Rattle.openapi_values.specs.Reference.{reference_form}
 use Rattle.openapi_schema.specs.RawSlots.{sort_slots}

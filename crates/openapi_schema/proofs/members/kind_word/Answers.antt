@@ -1,14 +1,6 @@
 use Rattle.std.proofs.Common.{◌≡◌, [], ◌∷◌, codes, drop, refl, inl, inr}
-use Rattle.openapi_tables.specs.Kind.{any_text, a_schema, list_of, ref_to, required, optional}
-use Rattle.openapi_tables.specs.Members.{
-  sort_rows,
-  one_of_sort,
-  all_of_sort,
-  any_of_sort,
-  not_sort,
-  any_sort,
-}
-use Rattle.openapi_tables.specs.Tables.{any_rows}
+use Rattle.openapi_tables.specs.Prelude.{any_text, a_schema, list_of, ref_to, required, optional, sort_rows}
+use Rattle.openapi_tables.specs.Prelude.{one_of_sort, all_of_sort, any_of_sort, not_sort, any_sort, any_rows}
 use Rattle.openapi_fields.specs.Forms.{list_form}
 use Rattle.openapi_schema.specs.Reading.{ref_form, outer_box_form}
 use Rattle.openapi_schema.specs.SchemaForms.{schema_kind_rows, any_schema_rows}

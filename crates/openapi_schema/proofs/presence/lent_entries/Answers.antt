@@ -2,10 +2,8 @@ use Rattle.std.proofs.Common.{List, codes, refl, arith}
 use Rattle.std.specs.Borrow.{Bor}
 use Rattle.openapi_node.specs.Tree.{Tree, members_of}
 use Rattle.openapi_node.specs.View.{shown}
-use Rattle.openapi_tables.specs.Kind.{a_schema_kind, any_tree, list_of, optional, row}
-use Rattle.openapi_tables.specs.Tables.{any_rows}
-use Rattle.openapi_tables.specs.Members.{checked_rows}
-use Rattle.openapi_tables.specs.ByRow.{row_weight}
+use Rattle.openapi_tables.specs.Prelude.{a_schema_kind, any_tree, list_of, optional, row, any_rows, checked_rows}
+use Rattle.openapi_tables.specs.Prelude.{row_weight}
 use Rattle.openapi_fields.proofs.Below.{size-positive}
 use Rattle.openapi_fields.proofs.RowReading.{weight_of_name}
 use Rattle.openapi_schema.specs.KindNames.{trees_form}

@@ -1,23 +1,18 @@
-use Rattle.std.proofs.Common.{◌≡◌, ◌+◌, ◌≤◌, ◌∙◌, ◌++◌, ◌∷◌, [], Some, take, codes, string_bytes, refl, sym, ap, subst, arith, rules}
+use Rattle.std.proofs.Common.{◌≡◌, ◌+◌, ◌≤◌, ◌∙◌, ◌++◌, ◌∷◌, [], Some, take, codes, string_bytes, refl, sym, ap, subst}
+use Rattle.std.proofs.Common.{arith, rules}
 use Rattle.std.proofs.lemmas.List.{take_all}
 use Rattle.openapi_node.specs.Place.{indexed}
 use Rattle.openapi_node.specs.Tree.{list, items_of, members_of, members_size, size_of}
 use Rattle.openapi_node.specs.View.{shown}
 use Rattle.openapi_node.specs.declared.fault.Expected.TheVariants as words
 use Rattle.openapi_node.proofs.TreeLemmas.{next_item, next_member}
-use Rattle.openapi_tables.specs.Lists.{each, every}
-use Rattle.openapi_tables.specs.Kind.{ref_to, a_schema, a_schema_kind, flag_or_schema, list_of, map_of, by}
-use Rattle.openapi_tables.specs.Kind.{optional, row, schema_data}
-use Rattle.openapi_tables.specs.ByRow.{is_named, row_where, rows_asked, rows_weight}
-use Rattle.openapi_tables.specs.Tables.{final_tables, any_rows}
-use Rattle.openapi_tables.specs.Members.{checked_rows}
-use Rattle.openapi_tables.specs.Conforms.{conforms}
-use Rattle.openapi_tables.specs.Read.{form}
+use Rattle.openapi_tables.specs.Prelude.{each, every, ref_to, a_schema, a_schema_kind, flag_or_schema, list_of, map_of}
+use Rattle.openapi_tables.specs.Prelude.{by, optional, row, schema_data, is_named, row_where, rows_asked, rows_weight}
+use Rattle.openapi_tables.specs.Prelude.{final_tables, any_rows, checked_rows, conforms, form}
 use Rattle.openapi_fields.specs.Forms.{list_form, map_form}
 use Rattle.openapi_fields.specs.Returned.{ReadAs}
 use Rattle.openapi_fields.specs.References.{reference_in}
-use Rattle.openapi_fields.proofs.Below.{fails_above, refuses, size-positive}
-use Rattle.openapi_fields.proofs.Below.{wrong_here, not_list, not_map}
+use Rattle.openapi_fields.proofs.Below.{fails_above, refuses, size-positive, wrong_here, not_list, not_map}
 use Rattle.openapi_fields.proofs.Elements.{list_gives, every-more, each-more, item_leads, next_here}
 use Rattle.openapi_fields.proofs.Referring.{reads_reference}
 use Rattle.openapi_schema.specs.RawSlots.{optional_rows}
@@ -25,11 +20,11 @@ use Rattle.openapi_schema.specs.Reading.{ref_form, inner_box_form, outer_box_for
 use Rattle.openapi_schema.specs.SchemaForms.{additional_form, schema_form}
 use Rattle.openapi_schema.proofs.KindGives.{schema_weight-le}
 use Rattle.openapi_schema.proofs.PartRows.{first_whole, last_whole, last_weight}
-use Rattle.openapi_fields.proofs.RecursiveReading.{all_so_far, map_read, next_refused, next_so_far, none_present, none_so_far, read_present}
+use Rattle.openapi_fields.proofs.RecursiveReading.{all_so_far, map_read, next_refused, next_so_far, none_present}
+use Rattle.openapi_fields.proofs.RecursiveReading.{none_so_far, read_present}
 use Rattle.openapi_fields.proofs.EntryReading.{name_unread}
 use Rattle.openapi_schema.proofs.Refusals.{not_object_fails, not_flag_or_object}
-use Rattle.openapi_schema.proofs.SchemaReads.{entries_left-le, names_weight, none_referred}
-use Rattle.openapi_schema.proofs.SchemaReads.{additional-any}
+use Rattle.openapi_schema.proofs.SchemaReads.{entries_left-le, names_weight, none_referred, additional-any}
 use Rattle.openapi_schema.proofs.read.+read.Goals as goal
 
 pub read_inner_box-returns-in-None : goal.read_inner_box-returns-in-None

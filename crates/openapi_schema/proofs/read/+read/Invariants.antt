@@ -1,13 +1,9 @@
 use Rattle.std.proofs.Common.{◌≡◌, ◌+◌, ◌*◌, ◌≤◌, take, true}
-use Rattle.openapi_node.specs.Tree.{size_of, items_size, members_size, items_of, members_of}
-use Rattle.openapi_node.specs.View.{shown}
-use Rattle.openapi_tables.specs.Lists.{each, every}
-use Rattle.openapi_tables.specs.Kind.{ref_to, a_schema}
-use Rattle.openapi_tables.specs.Tables.{final_tables}
-use Rattle.openapi_tables.specs.Conforms.{conforms}
-use Rattle.openapi_tables.specs.Read.{form}
+use Rattle.openapi_node.specs.Tree.{size_of, items_size, items_of}
+use Rattle.openapi_tables.specs.Prelude.{each, every, ref_to, a_schema, final_tables, conforms, form}
 use Rattle.openapi_fields.proofs.RecursiveReading.{SoFar}
 use Rattle.openapi_schema.specs.Reading.{ref_form, inner_box_form}
+use Rattle.openapi_fields.proofs.Measures.{members_left, view_left}
 use Rattle.openapi_schema.proofs.read.+read.Given as goal
 
 -- the size of the tree that is left to read; and for the same tree, the caller above what it calls
@@ -15,52 +11,52 @@ abbrev pub decreases-schema_ref_from_node : goal.decreases-schema_ref_from_node
 decreases-schema_ref_from_node l = 8 * size_of l.node.now + 1
 
 abbrev pub decreases-read_schema_ref : goal.decreases-read_schema_ref
-decreases-read_schema_ref l = 8 * size_of (shown l.view.now)
+decreases-read_schema_ref l = view_left l.view.now 0
 
 abbrev pub decreases-read_boxed_schema_ref : goal.decreases-read_boxed_schema_ref
-decreases-read_boxed_schema_ref l = 8 * size_of (shown l.view.now) + 1
+decreases-read_boxed_schema_ref l = view_left l.view.now 1
 
 abbrev pub decreases-read_boxed_ref : goal.decreases-read_boxed_ref
-decreases-read_boxed_ref l = 8 * size_of (shown l.view.now) + 1
+decreases-read_boxed_ref l = view_left l.view.now 1
 
 abbrev pub decreases-read_kind : goal.decreases-read_kind
-decreases-read_kind l = 8 * members_size (members_of l.members.now) + 5
+decreases-read_kind l = members_left l.members.now 5
 
 abbrev pub decreases-read_first_names : goal.decreases-read_first_names
-decreases-read_first_names l = 8 * members_size (members_of l.members.now) + 4
+decreases-read_first_names l = members_left l.members.now 4
 
 abbrev pub decreases-read_last_names : goal.decreases-read_last_names
-decreases-read_last_names l = 8 * members_size (members_of l.members.now) + 4
+decreases-read_last_names l = members_left l.members.now 4
 
 abbrev pub decreases-read_inner_box : goal.decreases-read_inner_box
-decreases-read_inner_box l = 8 * members_size (members_of l.members.now) + 3
+decreases-read_inner_box l = members_left l.members.now 3
 
 abbrev pub decreases-read_outer_box : goal.decreases-read_outer_box
-decreases-read_outer_box l = 8 * members_size (members_of l.members.now) + 3
+decreases-read_outer_box l = members_left l.members.now 3
 
 abbrev pub decreases-read_listed : goal.decreases-read_listed
-decreases-read_listed l = 8 * members_size (members_of l.members.now) + 3
+decreases-read_listed l = members_left l.members.now 3
 
 abbrev pub decreases-read_refs_in : goal.decreases-read_refs_in
-decreases-read_refs_in l = 8 * size_of (shown l.view.now)
+decreases-read_refs_in l = view_left l.view.now 0
 
 abbrev pub decreases-read_refs : goal.decreases-read_refs
 decreases-read_refs l = 8 * items_size (items_of l.nodes.now) + 2
 
 abbrev pub decreases-read_properties : goal.decreases-read_properties
-decreases-read_properties l = 8 * members_size (members_of l.members.now) + 3
+decreases-read_properties l = members_left l.members.now 3
 
 abbrev pub decreases-read_properties_in : goal.decreases-read_properties_in
-decreases-read_properties_in l = 8 * size_of (shown l.view.now)
+decreases-read_properties_in l = view_left l.view.now 0
 
 abbrev pub decreases-read_named : goal.decreases-read_named
-decreases-read_named l = 8 * members_size (members_of l.members.now) + 2
+decreases-read_named l = members_left l.members.now 2
 
 abbrev pub decreases-read_additional : goal.decreases-read_additional
-decreases-read_additional l = 8 * members_size (members_of l.members.now) + 3
+decreases-read_additional l = members_left l.members.now 3
 
 abbrev pub decreases-read_additional_in : goal.decreases-read_additional_in
-decreases-read_additional_in l = 8 * size_of (shown l.view.now) + 2
+decreases-read_additional_in l = view_left l.view.now 2
 
 abbrev pub invariant-read_refs-loop-i : goal.invariant-read_refs-loop-i
 invariant-read_refs-loop-i l =

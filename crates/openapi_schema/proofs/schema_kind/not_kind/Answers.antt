@@ -1,8 +1,5 @@
 use Rattle.std.proofs.Common.{[], ◌∷◌, sym, ap, ◌∙◌, refl, codes}
-use Rattle.openapi_tables.specs.Kind.{ref_to, a_schema}
-use Rattle.openapi_tables.specs.Members.{not_sort, kind_names, sort_rows}
-use Rattle.openapi_tables.specs.Tables.{any_rows}
-use Rattle.openapi_tables.specs.Tree.{members_list}
+use Rattle.openapi_tables.specs.Prelude.{ref_to, a_schema, not_sort, kind_names, sort_rows, any_rows, members_list}
 use Rattle.openapi_fields.specs.Forms.{optional_form}
 use Rattle.openapi_schema.specs.RawSlots.{optional_rows, sort_slots}
 use Rattle.openapi_schema.specs.Reading.{outer_box_form}

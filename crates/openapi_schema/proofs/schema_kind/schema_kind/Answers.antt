@@ -1,9 +1,6 @@
 use Rattle.std.proofs.Common.{◌≡◌, [], ◌∷◌, None, ap, ◌∙◌, refl, codes}
-use Rattle.openapi_tables.specs.Kind.{list_of, ref_to, a_schema}
-use Rattle.openapi_tables.specs.Members.{object_sort, array_sort, one_of_sort, all_of_sort, any_of_sort, not_sort}
-use Rattle.openapi_tables.specs.Members.{kind_names, sort_rows}
-use Rattle.openapi_tables.specs.Tables.{any_rows}
-use Rattle.openapi_tables.specs.Tree.{members_list}
+use Rattle.openapi_tables.specs.Prelude.{list_of, ref_to, a_schema, object_sort, array_sort, one_of_sort, all_of_sort}
+use Rattle.openapi_tables.specs.Prelude.{any_of_sort, not_sort, kind_names, sort_rows, any_rows, members_list}
 use Rattle.openapi_fields.specs.Forms.{list_form}
 use Rattle.openapi_schema.specs.RawSlots.{optional_rows, sort_slots}
 use Rattle.openapi_schema.specs.Reading.{ref_form}

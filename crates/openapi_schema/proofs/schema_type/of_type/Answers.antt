@@ -1,10 +1,7 @@
 use Rattle.std.proofs.Common.{◌∷◌, ap, subst, sym, ◌∙◌}
 use Rattle.openapi_node.specs.Tree.{members_of}
-use Rattle.openapi_tables.specs.ByRow.{AreRows}
-use Rattle.openapi_tables.specs.Form.{absent}
+use Rattle.openapi_tables.specs.Prelude.{AreRows, absent, object_sort, final_tables}
 use Rattle.openapi_tables.specs.Kind.{object_type}
-use Rattle.openapi_tables.specs.Members.{object_sort}
-use Rattle.openapi_tables.specs.Tables.{final_tables}
 use Rattle.openapi_schema.specs.SchemaForms.{Sorted}
 use Rattle.openapi_schema.specs.TypeForms.{behind_tag}
 use Rattle.openapi_schema.proofs.OpenedForms.{object_rows-out, object_rows-type}

@@ -1,4 +1,4 @@
-use Rattle.openapi_tables.proofs.Cleaned.{cleaned_thrice, cleaned_same}
+use Rattle.openapi_tables.proofs.again.Cleaned.{cleaned_thrice, cleaned_same}
 use Rattle.openapi_tables.proofs.laws.canonical.Goals as goal
 
 pub returns : goal.returns

@@ -1,5 +1,5 @@
-use Rattle.openapi_tables.proofs.ReadAgain.{read_again}
-use Rattle.openapi_tables.proofs.FirstValue.{first_stays}
+use Rattle.openapi_tables.proofs.again.ReadAgain.{read_again}
+use Rattle.openapi_tables.proofs.again.FirstValue.{first_stays}
 use Rattle.openapi_tables.proofs.laws.first_value.Goals as goal
 
 pub returns : goal.returns

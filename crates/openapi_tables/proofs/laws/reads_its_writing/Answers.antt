@@ -1,4 +1,4 @@
-use Rattle.openapi_tables.proofs.Cleaned.{proper_again}
+use Rattle.openapi_tables.proofs.again.Cleaned.{proper_again}
 use Rattle.openapi_tables.proofs.Size.{small}
 use Rattle.openapi_tables.proofs.Writes.{writes_all}
 use Rattle.openapi_tables.proofs.AllReadProper.{read_proper}

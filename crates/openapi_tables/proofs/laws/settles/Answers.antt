@@ -1,4 +1,4 @@
-use Rattle.openapi_tables.proofs.Cleaned.{settled}
+use Rattle.openapi_tables.proofs.again.Cleaned.{settled}
 use Rattle.openapi_tables.proofs.laws.settles.Goals as goal
 
 pub returns : goal.returns

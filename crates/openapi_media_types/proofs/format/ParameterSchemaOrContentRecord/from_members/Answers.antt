@@ -1,7 +1,6 @@
 use Rattle.std.proofs.Common.{refl}
 use Rattle.openapi_node.specs.Tree.{members_of}
-use Rattle.openapi_tables.specs.Kind.{by, schema_or_content}
-use Rattle.openapi_tables.specs.Tables.{final_tables, tables_with}
+use Rattle.openapi_tables.specs.Prelude.{by, schema_or_content, final_tables, tables_with}
 use Rattle.openapi_media_types.proofs.Opened.{only_format}
 use Rattle.openapi_media_types.proofs.format.ParameterSchemaOrContentRecord.from_members.Goals as goal
 

@@ -1,6 +1,5 @@
 use Rattle.std.proofs.Common.{refl}
-use Rattle.openapi_tables.specs.Kind.{schema_or_content}
-use Rattle.openapi_tables.specs.Tables.{final_tables, tables_with}
+use Rattle.openapi_tables.specs.Prelude.{schema_or_content, final_tables, tables_with}
 use Rattle.openapi_fields.specs.Forms.{record_slots}
 use Rattle.openapi_media_types.specs.Fields.{format_fields}
 use Rattle.openapi_media_types.proofs.Opened.{format_held}

@@ -1,9 +1,6 @@
 use Rattle.std.proofs.Common.{◌≡◌, ◌++◌, true, Ok, Err, ap, refl, subst, sym, ◌∙◌}
-use Rattle.openapi_tables.specs.Form.{leaf}
+use Rattle.openapi_tables.specs.Prelude.{leaf, every, IsWritten, slots_lost, final_tables}
 use Rattle.openapi_tables.specs.Kind as kinds
-use Rattle.openapi_tables.specs.Lists.{every}
-use Rattle.openapi_tables.specs.Slots.{IsWritten, slots_lost}
-use Rattle.openapi_tables.specs.Tables.{final_tables}
 use Rattle.openapi_tables.proofs.SlotWriting.{final_apart, none_written}
 use Rattle.openapi_fields.specs.Entries.{EntriesNotWritable}
 use Rattle.openapi_fields.specs.Forms.{record_slots}

@@ -2,12 +2,11 @@ use Rattle.std.proofs.Common.{◌∙◌, ap, refl, arith, codes}
 use Rattle.openapi_node.specs.Tree.{text, members_of}
 use Rattle.openapi_node.specs.View.{shown}
 use Rattle.openapi_node.specs.declared.fault.Expected.TheVariants as words
-use Rattle.openapi_tables.specs.Kind.{one_of}
-use Rattle.openapi_tables.specs.Tables.{parameter}
+use Rattle.openapi_tables.specs.Prelude.{one_of, parameter}
 use Rattle.openapi_fields.proofs.Below.{wrong_here, size-positive}
 use Rattle.openapi_fields.proofs.Tagging.{not_tagged, parameter_sound, tag_weight, tagged_read}
-use Rattle.openapi_parameters.specs.Parameters.{parameter_cases, parameter_location_word}
-use Rattle.openapi_parameters.specs.Parameters.{parameter_locations, parameter_rows, parameter_word}
+use Rattle.openapi_parameters.specs.Parameters.{parameter_cases, parameter_location_word, parameter_locations}
+use Rattle.openapi_parameters.specs.Parameters.{parameter_rows, parameter_word}
 use Rattle.openapi_parameters.specs.declared.location.ParameterLocation.TheVariants as locations
 use Rattle.openapi_parameters.proofs.parameter.ParameterFromNode.from_view.Goals as goal
 

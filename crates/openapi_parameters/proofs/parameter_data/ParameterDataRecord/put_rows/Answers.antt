@@ -1,6 +1,5 @@
 use Rattle.std.proofs.Common.{refl}
-use Rattle.openapi_tables.specs.Kind.{parameter_data}
-use Rattle.openapi_tables.specs.Tables.{final_tables, tables_with}
+use Rattle.openapi_tables.specs.Prelude.{parameter_data, final_tables, tables_with}
 use Rattle.openapi_fields.specs.Forms.{record_slots}
 use Rattle.openapi_media_types.proofs.Opened.{format_held}
 use Rattle.openapi_parameters.specs.Parameters.{parameter_data_rows}

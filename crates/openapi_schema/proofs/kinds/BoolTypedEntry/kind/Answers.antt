@@ -1,7 +1,5 @@
 use Rattle.std.proofs.Common.{[], ◌∷◌, ap, ◌∙◌}
-use Rattle.openapi_tables.specs.Form.{absent}
-use Rattle.openapi_tables.specs.Members.{boolean_sort, kind_names, sort_rows}
-use Rattle.openapi_tables.specs.Tables.{any_rows, boolean_rows}
+use Rattle.openapi_tables.specs.Prelude.{absent, boolean_sort, kind_names, sort_rows, any_rows, boolean_rows}
 use Rattle.openapi_schema.specs.RawSlots.{sort_slots}
 use Rattle.openapi_schema.proofs.KindForms.{boolean_rows-kind}
 use Rattle.openapi_schema.proofs.kinds.BoolTypedEntry.kind.Goals as goal

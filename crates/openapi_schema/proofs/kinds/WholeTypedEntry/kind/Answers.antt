@@ -1,7 +1,6 @@
 use Rattle.std.proofs.Common.{[], ◌∷◌, ap, ◌∙◌}
-use Rattle.openapi_tables.specs.Form.{absent}
-use Rattle.openapi_tables.specs.Members.{number_sort, kind_names, sort_rows}
-use Rattle.openapi_tables.specs.Tables.{any_rows, number_formats}
+use Rattle.openapi_tables.specs.Prelude.{absent, number_sort, kind_names, sort_rows, any_rows}
+use Rattle.openapi_tables.specs.Tables.{number_formats}
 use Rattle.openapi_fields.specs.Forms.{optional_form}
 use Rattle.openapi_values.specs.Words.{number_format_word}
 use Rattle.openapi_schema.specs.RawSlots.{sort_slots}

@@ -10,18 +10,13 @@ use Rattle.openapi_fields.proofs.Tagging.{tagged_read, tag_weight, not_tagged}
 use Rattle.openapi_schema_types.specs.TypeNames.{type_words, type_name_word}
 use Rattle.openapi_schema_types.specs.declared.type_name.TypeName.{TypeName}
 use Rattle.openapi_schema_types.specs.declared.type_name.TypeName.TheVariants as names
-use Rattle.openapi_schema.specs.TypeForms.{type_cases}
-use Rattle.openapi_schema.specs.TypeForms.{schema_type_fields, schema_type_sound, schema_type_word}
+use Rattle.openapi_schema.specs.TypeForms.{type_cases, schema_type_fields, schema_type_sound, schema_type_word}
 use Rattle.openapi_schema.proofs.schema_type.SchemaTypeFromNode.from_view.Goals as goal
 
 -- the word of a type is one of the cases
 known : (n : TypeName) → is_case type_cases (type_name_word n) ≡ true
 known names.String = refl
-known names.Number = refl
-known names.Integer = refl
-known names.Object = refl
-known names.Array = refl
-known names.Boolean = refl
+known n = refl
 
 pub returns-in_default-clause-reads : goal.returns-in_default-clause-reads
 returns-in_default-clause-reads c =

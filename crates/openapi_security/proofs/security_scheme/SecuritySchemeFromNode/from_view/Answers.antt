@@ -6,8 +6,8 @@ use Rattle.openapi_tables.specs.Kind as kinds
 use Rattle.openapi_tables.specs.Tables.{security_scheme}
 use Rattle.openapi_fields.proofs.Below.{wrong_here, size-positive}
 use Rattle.openapi_fields.proofs.Tagging.{tagged_read, tag_weight, not_tagged, security_scheme_sound}
-use Rattle.openapi_security.specs.Schemes.{scheme_cases, scheme_types, scheme_type_word}
-use Rattle.openapi_security.specs.Schemes.{security_scheme_word, security_scheme_rows}
+use Rattle.openapi_security.specs.Schemes.{scheme_cases, scheme_types, scheme_type_word, security_scheme_word}
+use Rattle.openapi_security.specs.Schemes.{security_scheme_rows}
 use Rattle.openapi_security.proofs.security_scheme.SecuritySchemeFromNode.from_view.Goals as goal
 
 pub returns-in_default-clause-reads : goal.returns-in_default-clause-reads

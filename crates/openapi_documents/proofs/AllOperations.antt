@@ -1,7 +1,5 @@
--- The operations of a document: what an iterator takes of them, and their forms.
-use Rattle.std.proofs.Common.{◌≡◌, ℕ, List, [], ◌∷◌, length, refl, ap, ◌∙◌}
-use Rattle.std.proofs.iter.runs.Sources.{from_front}
-use Rattle.std.specs.Map.Iter.{TakesFirst, ShowsInOrder}
+-- The operations of a document, and their forms.
+use Rattle.std.proofs.Common.{◌≡◌, ℕ, List, [], ◌∷◌, refl, ap, ◌∙◌}
 use Rattle.openapi_map.specs.Entries.{Entries}
 use Rattle.openapi_tables.specs.Prelude.{name, named_of, join, pairs_of}
 use Rattle.openapi_tables.specs.Operations.{at_path, ops, ops_of_item, ops_of_paths}
@@ -17,11 +15,6 @@ use Rattle.openapi_documents.specs.AllOperations.{Placed, document_operations, o
 use Rattle.openapi_documents.specs.AllOperations.{placed_forms, under_path}
 use Rattle.openapi_documents.specs.Documents.{document_form}
 use Rattle.openapi_documents.specs.declared.open_api.OpenAPI.{OpenAPI}
-
--- an iterator that is seen as the list of what it has left gives that list
-pub shows_in_order : {A X : Type 0} (shows : A → X) → ShowsInOrder shows
-shows_in_order shows =
-    from_front (TakesFirst shows) shows (λ s. s) (λ s t h. ap length h.0) (λ s x t h. h)
 
 placed_join : (xs ys : List Placed) → placed_forms (join xs ys) ≡ join (placed_forms xs) (placed_forms ys)
 placed_join [] ys = refl

@@ -3,7 +3,7 @@ use Rattle.std.proofs.Common.{◌≡◌, ◌↔◌, true, refl, sym, ap, ◌∙�
 use Rattle.openapi_node.specs.Tree.{Tree}
 use Rattle.openapi_tables.specs.Prelude.{again, print, clean, form, sound, stays, final_tables, tables_with, unwritable}
 use Rattle.openapi_tables.proofs.AllReadProper.{read_proper}
-use Rattle.openapi_tables.proofs.Cleaned as cleaned
+use Rattle.openapi_tables.proofs.again.Cleaned as cleaned
 use Rattle.openapi_tables.proofs.again.FirstValue.{first_stays}
 use Rattle.openapi_tables.proofs.again.ReadAgain.{read_again}
 use Rattle.openapi_tables.proofs.WellMade.{final_sound}

@@ -13,7 +13,7 @@ ghost use Rattle.openapi_documents.specs.Parts.{first_forms, first_rows, last_fo
 use openapi_fields::{Object, Record, extensions, or_implied, put_extensions, put_implied};
 use openapi_media_types::Header;
 use openapi_metadata::{Example, Link};
-use openapi_node::{Fault, Members, Node, OrderedMap, Steps};
+use openapi_node::{Members, Node, OrderedMap, Result, Steps};
 use openapi_operations::Callback;
 use openapi_parameters::Parameter;
 use openapi_responses::{RequestBody, Response};
@@ -98,7 +98,7 @@ struct LastComponents {
 }
 
 /// Reads the components whose rows stand first.
-fn read_first(alloc: Global, members: &Members, steps: &mut Steps) -> Result<FirstComponents, Fault>
+fn read_first(alloc: Global, members: &Members, steps: &mut Steps) -> Result<FirstComponents>
     ensures reads { PartReadAs first_forms result (by kinds.components) first_rows (members_of members.now) }
     ensures count { RisesBy steps.old steps.new (3 * rows_weight first_rows (members_of members.now)) }
 {
@@ -112,7 +112,7 @@ fn read_first(alloc: Global, members: &Members, steps: &mut Steps) -> Result<Fir
 }
 
 /// Reads the components whose rows stand last, and the extensions.
-fn read_last(alloc: Global, members: &Members, steps: &mut Steps) -> Result<LastComponents, Fault>
+fn read_last(alloc: Global, members: &Members, steps: &mut Steps) -> Result<LastComponents>
     ensures reads { PartReadAs last_forms result (by kinds.components) last_rows (members_of members.now) }
     ensures count { RisesBy steps.old steps.new (3 * rows_weight last_rows (members_of members.now)) }
 {
@@ -132,7 +132,7 @@ impl Object for Components {
 }
 
 impl Record for Components {
-    fn from_members(alloc: Global, members: &Members, steps: &mut Steps) -> Result<Self, Fault> {
+    fn from_members(alloc: Global, members: &Members, steps: &mut Steps) -> Result<Self> {
         let first = read_first(alloc, members, steps)?;
         let last = read_last(alloc, members, steps)?;
         Ok(Components {
@@ -149,7 +149,7 @@ impl Record for Components {
         })
     }
 
-    fn put_rows(&self, alloc: Global, out: &mut Members) -> Result<(), Fault> {
+    fn put_rows(&self, alloc: Global, out: &mut Members) -> Result<()> {
         put_implied(alloc, self, out, "schemas", &self.schemas)?;
         put_implied(alloc, self, out, "responses", &self.responses)?;
         put_implied(alloc, self, out, "parameters", &self.parameters)?;

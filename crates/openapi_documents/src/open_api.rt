@@ -15,7 +15,7 @@ use openapi_fields::{
     put_optional, put_required, required,
 };
 use openapi_metadata::{Info, Server, Tag};
-use openapi_node::{Fault, Members, Node, OrderedMap, Steps};
+use openapi_node::{Members, Node, OrderedMap, Result, Steps};
 use openapi_operations::Paths;
 use openapi_schema_annotations::ExternalDocumentation;
 use openapi_security::SecurityRequirement;
@@ -91,7 +91,7 @@ struct Facts {
 
 /// Reads what a document says of itself and of its servers and tags.
 #[tactic(auto, unfolding(openapi_tables::specs::Tables::final_tables, openapi_tables::specs::Tables::tables_with))]
-fn read_facts(alloc: Global, members: &Members, steps: &mut Steps) -> Result<Facts, Fault>
+fn read_facts(alloc: Global, members: &Members, steps: &mut Steps) -> Result<Facts>
     ensures reads { PartReadAs facts_forms result (by kinds.open_api) facts_rows (members_of members.now) }
     ensures count { RisesBy steps.old steps.new (3 * rows_weight facts_rows (members_of members.now)) }
 {
@@ -112,7 +112,7 @@ impl Object for OpenAPI {
 
 #[tactic(auto, unfolding(openapi_tables::specs::Tables::final_tables, openapi_tables::specs::Tables::tables_with))]
 impl Record for OpenAPI {
-    fn from_members(alloc: Global, members: &Members, steps: &mut Steps) -> Result<Self, Fault> {
+    fn from_members(alloc: Global, members: &Members, steps: &mut Steps) -> Result<Self> {
         let facts = read_facts(alloc, members, steps)?;
         let security = optional::<Self, _>(alloc, members, "security", steps)?;
         let extensions = extensions::<Self>(alloc, members, steps)?;
@@ -131,7 +131,7 @@ impl Record for OpenAPI {
         })
     }
 
-    fn put_rows(&self, alloc: Global, out: &mut Members) -> Result<(), Fault> {
+    fn put_rows(&self, alloc: Global, out: &mut Members) -> Result<()> {
         put_required(alloc, self, out, "openapi", &self.openapi)?;
         put_required(alloc, self, out, "info", &self.info)?;
         put_implied(alloc, self, out, "servers", &self.servers)?;

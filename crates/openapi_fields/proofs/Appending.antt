@@ -21,18 +21,22 @@ not_first n e es h = go (bytes_eq n e.0) h
 -- the next entry is put last
 module _ (out : Entries Tree) (e : List ℕ × Tree) (rest more new : Entries Tree) (is : more ≡ e ∷ rest)
     (put : new ≡ out ++ e ∷ []) where
+  -- what is there and what is left make the same members together as before
   pub moved_on : new ++ rest ≡ out ++ more
   moved_on = (λ i. put i ++ rest) ∙ append_assoc out (e ∷ []) rest ∙ ap (λ l. out ++ l) (sym is)
 
+  -- no name that is left is there yet: none was, and none is the one that was just put
   pub still_new : HasDistinctNames more → AreNew more out → AreNew rest new
   still_new d h j x at =
       let later : slice_get (e ∷ rest) (suc j) ≡ Some x = at in
       let other = not_first x.0 e _ (absent-next (e ∷ rest) (suc j) x (subst HasDistinctNames is d) later) in
       ap (get x.0) put ∙ get_none-append out (e ∷ []) x.0 (h (suc j) x ((λ i. slice_get (is i) (suc j)) ∙ later)) other
 
+  -- the name of the next entry is not there yet, where no name that is left is
   pub first_new : AreNew more out → get e.0 out ≡ None
   first_new h = h zero e (ap (λ l. slice_get l zero) is)
 
+  -- no name stands twice among those that are left
   pub still_distinct : HasDistinctNames more → HasDistinctNames rest
   still_distinct d = IsDistinct-tail bytes_eq e.0 (keys_of rest) (subst HasDistinctNames is d)
 

@@ -1,5 +1,5 @@
 -- What was read one step below, as it is seen from here; and refusals at the root.
-use Rattle.std.proofs.Common.{◌≡◌, ℕ, Bool, true, ◌≤◌, List, [], ◌∷◌, Result, Ok, Err, IfOk, IfErr, map, refl, sym, ap}
+use Rattle.std.proofs.Common.{◌≡◌, ℕ, ◌+◌, ◌*◌, Bool, true, ◌≤◌, List, [], ◌∷◌, Result, Ok, Err, IfOk, IfErr, map, refl, sym, ap}
 use Rattle.std.proofs.Common.{◌∙◌, subst, inl, inr, arith}
 use Rattle.std.specs.Borrow.{Bor}
 use Rattle.openapi_map.specs.declared.OrderedMap.{OrderedMap}
@@ -22,6 +22,7 @@ use Rattle.openapi_tables.specs.Faults as faults
 use Rattle.openapi_tables.proofs.ByRowLaws.{broken_root, broken_below, broken_refuses, any_conforms, any_form}
 use Rattle.openapi_tables.proofs.WellMade.{final_sound}
 use Rattle.openapi_fields.specs.Returned.{FailsBy, Fails, FailsBelow, Reads, ReadAs, RefusesBy, Refuses, AtStep}
+use Rattle.openapi_fields.specs.Returned.{RisesBelow, looks}
 
 -- want of memory is a refusal of any tree under any kind
 pub memory_fails : (f : Fault) (k : Kind) (t : Tree) → IsMemory f → Fails f k t
@@ -64,10 +65,12 @@ pub fails_above : (s : Step) (f : Fault) (k l : Kind) (t u : Tree) → StepsTo f
 fails_above s f k l t u leads h = goes_up s h.0 f k l t u h.1 leads h.2
 
 module _ {X : Type 0} (view : X → Form) (s : Step) (l : Kind) (u : Tree) where
+  -- where a value is returned here, it is what was read of the tree one step below
   pub step_ok : (r : Result X Fault) (y : X) → AtStep s r (Ok y) → ReadAs view r l u → Reads view y l u
   step_ok (Ok x) y e h = (h.0, h.1 ∙ ap view e)
   step_ok (Err d) y e h = absurd e
 
+  -- where a refusal is returned here, it is one of the tree one step below
   pub step_err : (r : Result X Fault) (f : Fault) → AtStep s r (Err f) → ReadAs view r l u → FailsBelow s f l u
   step_err (Ok x) f e h = absurd e
   step_err (Err d) f e h = (d, e, h)
@@ -85,6 +88,7 @@ module _ (k : Kind) (t : Tree) (well : sound final_tables k ≡ true) where
   refuses_by NotWhole p h = absurd h
   refuses_by Memory p h = tt
 
+  -- a tree that a reader refuses for another cause than memory does not conform
   pub refuses : {X : Type 0} (view : X → Form) (r : Result X Fault) → ReadAs view r k t → Refuses r k t
   refuses view (Ok x) h = tt
   refuses view (Err f) h = refuses_by f.cause (place_of f) h
@@ -134,6 +138,13 @@ not_object i w h = inl refl
 pub size-positive : (t : Tree) → 1 ≤ size_of t
 size-positive null = omega arith
 size-positive t = omega arith
+
+-- where a view shows another kind of value than the one that is expected, no look is taken for it
+pub wrong_view : (f : Fault) (w : _) (k : Kind) (t : Tree) (steps : ℕ) → f.place.items ≡ [] → f.cause ≡ WrongKind w
+    → Among (wrong_kind w) (causes final_tables k t)
+    → record { reads : Fails f k t; count : RisesBelow steps steps (looks k + 3 * size_of t) }
+wrong_view f w k t steps p e h =
+    record { reads = wrong_here f w k t p e h; count = (omega arith, omega (arith, size-positive t)) }
 
 -- a copy is the tree as any tree
 pub copied : (w : View) (r : Result Node Fault) → IfOk r (λ n. n ≡ shown w) → IfErr r IsMemory

@@ -1,28 +1,29 @@
 -- The row of a class of names, by what is read and written of its entries.
-use Rattle.std.proofs.Common.{◌≡◌, ℕ, suc, ◌+◌, Bool, true, false, cond, ◌&&◌, List, [], ◌∷◌, ◌++◌, slice_get, Some}
+use Rattle.std.proofs.Common.{◌≡◌, ℕ, suc, ◌+◌, ◌*◌, arith, Bool, true, false, cond, ◌&&◌, List, [], ◌∷◌, ◌++◌, slice_get, Some}
 use Rattle.std.proofs.Common.{None, Result, Ok, Err, OnOk, IfErr, refl, sym, ap, ◌∙◌, subst, inl, inr, ⊎_elim}
 use Rattle.std.proofs.lemmas.Bool.{and_parts, and_from}
 use Rattle.openapi_map.specs.Entries.{Entries, get}
 use Rattle.openapi_node.specs.Fault.{place_of}
-use Rattle.openapi_node.specs.Place.{Place, named}
+use Rattle.openapi_node.specs.Place.{named}
 use Rattle.openapi_node.specs.Tree.{Tree, object, members_of, size_of}
 use Rattle.openapi_node.specs.declared.fault.Fault.{Fault}
 use Rattle.openapi_tables.specs.Prelude.{Kind, Class, status_names, class, in_class, every, is_empty, final_tables}
-use Rattle.openapi_tables.specs.Prelude.{Entry, of_tree, of_members, members_list, own, conforms, root_conforms, Form}
+use Rattle.openapi_tables.specs.Prelude.{Entry, Seen, Shape, of_tree, of_members, members_list, own, conforms, root_conforms, Form}
 use Rattle.openapi_tables.specs.Prelude.{name, Pair, named as named_form, named_of, form, root_form, key_in, pairs_as}
-use Rattle.openapi_tables.specs.Prelude.{gather, same_key, Asks, root_asks, asked, asks_row, asks_members, below, Among}
+use Rattle.openapi_tables.specs.Prelude.{gather, same_key, root_asks, asks_row, asks_members, Among}
 use Rattle.openapi_tables.specs.Prelude.{print, unwritable, is_written, is_class, row_where, rows_asked, row_conforms}
 use Rattle.openapi_tables.specs.Prelude.{row_form, row_weight, weight, asking, StepsTo, Slot, slot_where, before}
 use Rattle.openapi_tables.specs.Prelude.{through, slots_apart, slots_lost, IsWritten, pairs_of}
-use Rattle.openapi_tables.proofs.ByRowLaws.{among_left, among_right, among_below, among_flat, rows_ask}
+use Rattle.openapi_tables.proofs.ByRowLaws.{among_flat, rows_ask}
 use Rattle.openapi_tables.proofs.ListLaws.{same_text-refl}
 use Rattle.openapi_tables.proofs.SlotWriting.{prints, is_kept, is_new, class_put, class_key_loses, class_value_loses}
 use Rattle.openapi_fields.specs.Entries.{chosen, entries_size, EntriesReadAs, written_entries, all_whole}
 use Rattle.openapi_fields.specs.Entries.{EntryNotWritable, EntriesNotWritable}
 use Rattle.openapi_fields.specs.Forms.{map_form}
-use Rattle.openapi_fields.specs.Returned.{FailsBelow, RowReadAs, NotWritableBy, NotWritable}
+use Rattle.openapi_fields.specs.Returned.{FailsBelow, RisesBy, RowReadAs, NotWritableBy, NotWritable}
 use Rattle.openapi_fields.proofs.Below.{memory_fails, fails_above}
 use Rattle.openapi_fields.proofs.Losing.{memory_loses, loses_above}
+use Rattle.openapi_fields.proofs.Mapped.{entry_asked, map_conforms, named_forms}
 
 chosen_same : {X : Type 0} (p q : List ℕ → Bool) → ((n : List ℕ) → p n ≡ q n) → (es : Entries X) → chosen p es
     ≡ chosen q es
@@ -31,51 +32,37 @@ chosen_same p q h (e ∷ es) = λ j. cond (h e.0 j) (e ∷ chosen_same p q h es 
 
 -- the members that a class takes, as the definitions see them
 module _ (c : Class) (k : Kind) where
-  class_conforms : (ms : Entries Tree) → row_conforms final_tables (class c k) (members_of ms)
+  -- they are the members of the entries whose names are in the class
+  pub class_members : {X : Type 0} (f : Shape (Seen X) → X) (ms : Entries Tree)
+      → own (class c k) (of_members f (members_of ms)) ≡ of_members f (members_of (chosen (in_class c) ms))
+  class_members f [] = refl
+  class_members {X} f (m ∷ ms) = go (in_class c m.0) (class_members f ms)
+    where
+      first : Entry (Seen X)
+      first = record { name = m.0; value = record { tree = m.1; answer = of_tree f m.1 } }
+
+      rest : List (Entry (Seen X))
+      rest = own (class c k) (of_members f (members_of ms))
+
+      go : (b : Bool) → rest ≡ of_members f (members_of (chosen (in_class c) ms)) → cond b (first ∷ rest) rest
+          ≡ of_members f (members_of (cond b (m ∷ chosen (in_class c) ms) (chosen (in_class c) ms)))
+      go true h = ap (λ l. first ∷ l) h
+      go false h = h
+
+  -- the class conforms where each of their values conforms
+  pub class_conforms : (ms : Entries Tree) → row_conforms final_tables (class c k) (members_of ms)
       ≡ every (λ (e : List ℕ × Tree). conforms final_tables k e.1) (chosen (in_class c) ms)
   unfolding row_conforms
-  class_conforms [] = refl
-  class_conforms (m ∷ ms) = go (in_class c m.0) (class_conforms ms)
-    where
-      go : (b : Bool) → every (λ e. e.value.answer k) (own (class c k) (of_members (root_conforms final_tables)
-          (members_of ms)))
-          ≡ every (λ (e : List ℕ × Tree). conforms final_tables k e.1) (chosen (in_class c) ms)
-          → every (λ e. e.value.answer k) (cond b (record {
-            name = m.0;
-            value = record {
-              tree = m.1;
-              answer = of_tree
-                  (root_conforms final_tables) m.1;
-            };
-          }
-          ∷ own (class c k) (of_members (root_conforms final_tables) (members_of ms))) (own (class c k) (of_members
-          (root_conforms final_tables) (members_of ms))))
-          ≡ every (λ (e : List ℕ × Tree). conforms final_tables k e.1) (cond b (m ∷ chosen (in_class c) ms) (chosen
-          (in_class c) ms))
-      go true h = ap (λ b. conforms final_tables k m.1 && b) h
-      go false h = h
+  class_conforms ms =
+      ap (every (λ (e : Entry (Seen (Kind → Bool))). e.value.answer k)) (class_members (root_conforms final_tables) ms)
+      ∙ map_conforms k (chosen (in_class c) ms)
 
   class_pairs : ((n : List ℕ) → key_in c n ≡ name n) → (ms : Entries Tree)
       → pairs_as (key_in c) k (own (class c k) (of_members (root_form final_tables) (members_of ms)))
       ≡ pairs_of (form final_tables k) (chosen (in_class c) ms)
-  class_pairs keys [] = refl
-  class_pairs keys (m ∷ ms) = go (in_class c m.0) (class_pairs keys ms)
-    where
-      go : (b : Bool) → pairs_as (key_in c) k (own (class c k) (of_members (root_form final_tables) (members_of ms)))
-          ≡ pairs_of (form final_tables k) (chosen (in_class c) ms)
-          → pairs_as (key_in c) k (cond b (record {
-            name = m.0;
-            value = record {
-              tree = m.1;
-              answer = of_tree
-                  (root_form final_tables) m.1;
-            };
-          }
-          ∷ own (class c k) (of_members (root_form final_tables) (members_of ms))) (own (class c k) (of_members
-          (root_form final_tables) (members_of ms))))
-          ≡ pairs_of (form final_tables k) (cond b (m ∷ chosen (in_class c) ms) (chosen (in_class c) ms))
-      go true h = λ j. record { key = keys m.0 j; value = form final_tables k m.1 } ∷ h j
-      go false h = h
+  class_pairs keys ms =
+      ap (pairs_as (key_in c) k) (class_members (root_form final_tables) ms)
+      ∙ named_forms (key_in c) keys k (chosen (in_class c) ms)
 
   gathered : ((n : List ℕ) → key_in c n ≡ name n) → (es : List (Pair Form)) → gather c es ≡ es
   gathered keys es = go c keys
@@ -84,6 +71,7 @@ module _ (c : Class) (k : Kind) where
       go status_names h = let no = h (50 ∷ 48 ∷ 48 ∷ []) in cc
       go c h = refl
 
+  -- the members that the row takes hold as many values as the entries with a name of the class
   pub class_size : (ms : Entries Tree) → row_weight (class c k) (members_of ms) ≡ entries_size (chosen (in_class c) ms)
   unfolding row_weight
   class_size [] = refl
@@ -96,41 +84,16 @@ module _ (c : Class) (k : Kind) where
       go true h = ap (λ s. size_of m.1 + s) h
       go false h = h
 
-  -- what an entry is asked
-  entry_asked : (ms : Entries Tree) (e : List ℕ × Tree) (p : Place) (j : Kind) (v : Tree)
-      → Among e (chosen (in_class c) ms)
-      → Among (asking p j v) (asked final_tables k e.1)
-      → Among (asking (named e.0 ∷ p) j v) (asks_row (of_members (root_asks final_tables) (members_of ms)) (class c k))
-  entry_asked [] e p j v h a = absurd h
-  entry_asked (m ∷ ms) e p j v h a = go (in_class c m.0) h (λ g. entry_asked ms e p j v g a)
-    where
-      rest : List (Entry Asks)
-      rest = own (class c k) (of_members (root_asks final_tables) (members_of ms))
-
-      go : (b : Bool) → Among e (cond b (m ∷ chosen (in_class c) ms) (chosen (in_class c) ms))
-          → (Among e (chosen (in_class c) ms) → Among (asking (named e.0 ∷ p) j v) (asks_members k rest))
-          → Among (asking (named e.0 ∷ p) j v) (asks_members k (cond b (record {
-            name = m.0;
-            value = record { tree = m.1; answer = of_tree (root_asks final_tables) m.1 };
-          } ∷ rest) rest))
-      go true (inl s) more =
-          among_left (asking (named e.0 ∷ p) j v) (below (named m.0) (asked final_tables k m.1)) (asks_members k rest)
-          (subst (λ (x : List ℕ × Tree). Among (asking (named e.0 ∷ p) j v) (below (named x.0) (asked final_tables k
-          x.1))) s
-          (among_below (named e.0) p j v (asked final_tables k e.1) a))
-      go true (inr s) more =
-          among_right (asking (named e.0 ∷ p) j v) (below (named m.0) (asked final_tables k m.1)) (asks_members k
-          rest) (more s)
-      go false s more = more s
-
-  class_asks : (o : Kind) (ms : Entries Tree) (e : List ℕ × Tree)
+  -- what the value of such an entry is asked, an object with a row of the class is asked below its name
+  pub class_asks : (o : Kind) (ms : Entries Tree) (e : List ℕ × Tree)
       → row_where (is_class c) (rows_asked final_tables o) ≡ Some (class c k) → Among e (chosen (in_class c) ms)
       → StepsTo final_tables o (object (members_of ms)) (named e.0) k e.1
   class_asks o ms e at h p j v a =
       rows_ask final_tables o (members_of ms) (asking (named e.0 ∷ p) j v)
       (among_flat (asking (named e.0 ∷ p) j v) (asks_row (of_members (root_asks final_tables) (members_of ms)))
-      (is_class c)
-      (class c k) (rows_asked final_tables o) at (entry_asked ms e p j v h a))
+      (is_class c) (class c k) (rows_asked final_tables o) at
+      (subst (λ l. Among (asking (named e.0 ∷ p) j v) (asks_members k l)) (sym (class_members (root_asks final_tables) ms))
+      (entry_asked k (chosen (in_class c) ms) e p j v h a)))
 
   module _ (test : List ℕ → Bool) (tests : (n : List ℕ) → test n ≡ in_class c n) (keys : (n : List ℕ) → key_in c n
       ≡ name n)
@@ -153,8 +116,23 @@ module _ (c : Class) (k : Kind) where
         fails_above (named (x.0).0) f o k (object (members_of ms)) (x.0).1
         (class_asks o ms x.0 at (subst (λ l. Among x.0 l) (chosen_same test (in_class c) tests ms) x.1)) x.2) h
 
+    -- the members that the row takes hold as many values as the entries whose names pass the test
     pub class_count : (ms : Entries Tree) → row_weight (class c k) (members_of ms) ≡ entries_size (chosen test ms)
     class_count ms = class_size ms ∙ sym (ap entries_size (chosen_same test (in_class c) tests ms))
+
+    -- both at once: what the class gives, and how many looks that took
+    pub class_read : {before after : ℕ} (r : Result (Entries X) Fault) (o : Kind) (ms : Entries Tree)
+        → row_where (is_class c) (rows_asked final_tables o) ≡ Some (class c k)
+        → record {
+          reads : EntriesReadAs view r k (chosen test ms);
+          count : RisesBy before after (3 * entries_size (chosen test ms));
+        }
+        → record {
+          reads : RowReadAs (map_form view) r o (class c k) (members_of ms);
+          count : RisesBy before after (3 * row_weight (class c k) (members_of ms));
+        }
+    class_read r o ms at h =
+        record { reads = class_gives r o ms at h.reads; count = (h.count.0, omega (arith, h.count.1, class_count ms)) }
 
     -- what the class is written as
     pairs_print : (vs : Entries X) → prints final_tables c k (pairs_of view vs) ≡ written_entries view k vs
@@ -184,10 +162,12 @@ module _ (c : Class) (k : Kind) where
 
     module _ (ss : List Slot) (vs : Entries X) (at : slot_where (is_class c) ss ≡ Some (class c k, map_form view vs))
         (out : Entries Tree) (done : IsWritten final_tables (before (is_class c) ss) out) where
+      -- a name of the class is not there yet, where no two of the slots take the same name
       pub class_new : slots_apart ss ≡ true → (n : List ℕ) → test n ≡ true → get n out ≡ None
       class_new a n h = is_new final_tables ss (is_class c) (class c k, map_form view vs) at out done a n (sym (tests
           n) ∙ h)
 
+      -- where its entries are put last and none is lost, the slots as far as this one are written
       pub class_written : {A : Type 0} (r : Result A Fault) (new : Entries Tree)
           → OnOk r (new ≡ out ++ written_entries view k vs) → OnOk r (every (λ (e : List ℕ × X). test e.0) vs ≡ true)
           → OnOk r (all_whole view k vs ≡ true) → OnOk r (IsWritten final_tables (through (is_class c) ss) new)
@@ -214,6 +194,7 @@ module _ (c : Class) (k : Kind) where
           (λ q g. class_value_loses final_tables c k ss (pairs_of view vs) at out done i.0
           (record { key = name e.0; value = view e.1 }) q i.1 g) h
 
+      -- a refusal of its entries is a refusal of the object
       pub class_loses : {A : Type 0} (r : Result A Fault) → IfErr r (λ f. EntriesNotWritable test view k f vs)
           → IfErr r (λ f. NotWritable f (slots_lost final_tables ss))
       class_loses (Ok x) h = tt

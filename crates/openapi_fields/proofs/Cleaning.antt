@@ -23,12 +23,13 @@ nothing_lost : (k : Kind) (t : Tree) → sound final_tables k ≡ true → confo
 nothing_lost k t s h =
     ((writable.0 final_tables k (form final_tables k t)).0 (read_proper final_tables final_sound t k s h)).1
 
--- so it is cleaned to a tree that conforms, which is at most twice as large
+-- so it is cleaned to a tree that conforms
 pub clean_conforms : (k : Kind) (t : Tree) → sound final_tables k ≡ true → conforms final_tables k t ≡ true
     → conforms final_tables k (clean final_tables k t) ≡ true
 clean_conforms k t s h =
     writes_all final_tables final_sound (form final_tables k t) k s (read_proper final_tables final_sound t k s h)
 
+-- which is at most twice as large
 pub clean_small : (k : Kind) (t : Tree) → sound final_tables k ≡ true → conforms final_tables k t ≡ true
     → size_of (clean final_tables k t) ≤ 2 * size_of t
 clean_small k t s h = small final_tables final_sound final_small t k s h
@@ -60,10 +61,12 @@ module _ {X : Type 0} (view : X → Form) (x : X) (k : Kind) (t : Tree) (s : sou
   kept : unwritable final_tables k (view x) ≡ []
   kept = subst (λ f. unwritable final_tables k f ≡ []) read.1 (nothing_lost k t s read.0)
 
+  -- it is written as the cleaned tree, or memory runs out
   pub cleans : (r : Result Node Fault) → WrittenAs k (view x) r → CleanedAs r k t
   cleans (Ok n) w = (read.0, w.0 ∙ ap (print final_tables k) (sym read.1))
   cleans (Err f) w = only_memory f.cause (place_of f) k t (subst (NotWritable f) kept w)
 
+  -- where writing it is refused, the cause is want of memory alone
   pub cleans_refuses : (r : Result Node Fault) → WrittenAs k (view x) r → Refuses r k t
   cleans_refuses (Ok n) w = tt
   cleans_refuses (Err f) w = memory_refuses f.cause (place_of f) k t (subst (NotWritable f) kept w)
@@ -102,10 +105,12 @@ module _ (k : Kind) (t : Tree) (once : Node) (s : sound final_tables k ≡ true)
   again_conforms : conforms final_tables k once ≡ true
   again_conforms = subst (λ u. conforms final_tables k u ≡ true) (sym first.1) (clean_conforms k t s first.0)
 
+  -- cleaning it once more gives the tree that the first one settles to, or memory runs out
   pub settles : (r : Result Node Fault) → CleanedAs r k once → Refuses r k once → SettledAs r k t
   settles (Ok n) g h = (first.0, g.1 ∙ ap (clean final_tables k) first.1)
   settles (Err f) g h = moved k t once again_conforms f.cause (place_of f) h g
 
+  -- where cleaning it once more is refused, the cause is want of memory alone
   pub settles_refuses : (r : Result Node Fault) → Refuses r k once → Refuses r k t
   settles_refuses (Ok n) h = tt
   settles_refuses (Err f) h = moved_refuses k t once again_conforms f.cause h
@@ -113,6 +118,7 @@ module _ (k : Kind) (t : Tree) (once : Node) (s : sound final_tables k ≡ true)
   size_once : size_of once ≤ 2 * size_of t
   size_once = subst (λ u. size_of u ≤ 2 * size_of t) (sym first.1) (clean_small k t s first.0)
 
+  -- two cleanings, each of three looks at most for each value, keep to the bound on looks
   pub counted : (a b c : ℕ) → b ≤ a + 3 * size_of t → c ≤ b + 3 * size_of once → IsCounted k t a c
   counted a b c f g = (
     omega (arith, f, g, ap size_of first.1),

@@ -59,12 +59,14 @@ variant-clone word v (o.Unknown t) h = absurd h
 variant-clone word v w h = absurd h
 
 module _ {X : Type 0} (C : X → X → Type 0) (view : X → Form) (same : (x y : X) → C x y → view y ≡ view x) where
+  -- a clone of a value that may be missing has its form
   pub optional-clone : (o p : Option X) → IsOptionClone C o p → optional_form view p ≡ optional_form view o
   optional-clone None None h = refl
   optional-clone None (Some y) h = absurd h
   optional-clone (Some x) None h = absurd h
   optional-clone (Some x) (Some y) h = same x y h
 
+  -- a clone of a value in whose place null may stand has its form
   pub nullable-clone : (o p : Option X) → IsOptionClone C o p → nullable_form view p ≡ nullable_form view o
   nullable-clone None None h = refl
   nullable-clone None (Some y) h = absurd h
@@ -77,6 +79,7 @@ module _ {X : Type 0} (C : X → X → Type 0) (view : X → Form) (same : (x y 
   each-clone (x ∷ xs) [] h = absurd h
   each-clone (x ∷ xs) (y ∷ ys) h = λ i. same x y h.0 i ∷ each-clone xs ys h.1 i
 
+  -- a list of clones of the elements, in their order, has the form of the list
   pub list-clone : (v w : Vec X) → IsListClone C v w → list_form view w ≡ list_form view v
   list-clone v w h = ap (λ fs. sequence (forms_of fs)) (each-clone v.items w.items h.0)
 
@@ -87,6 +90,7 @@ module _ {X : Type 0} (C : X → X → Type 0) (view : X → Form) (same : (x y 
   pairs-clone (e ∷ es) (f ∷ fs) h =
       λ i. record { key = name (h.0.0 i); value = same e.1 f.1 h.0.1 i } ∷ pairs-clone es fs h.1 i
 
+  -- a map with the same names and clones of the values has the form of the map
   pub map-clone : (es fs : Entries X) → IsCloneOf C es fs → map_form view fs ≡ map_form view es
   map-clone es fs h = ap (λ ps. named (named_of ps)) (pairs-clone es fs h)
 

@@ -80,6 +80,7 @@ module _ (a : List ℕ) (j : Kind) (b : List ℕ) (k : Kind) where
     unfolding row_form
     row_reads = ap (either_slot a j k) (seen (root_form final_tables))
 
+    -- the tree that decides holds no more values than the members that the row takes
     pub decided_weight : size_of u ≤ row_weight (either a j b k) (members_of es)
     unfolding row_weight
     decided_weight = subst (λ l. size_of u ≤ weight l) (sym (first_is n u es at).is) (omega arith)
@@ -161,11 +162,14 @@ module _ (o : Kind) (a : List ℕ) (j : Kind) (b : List ℕ) (k : Kind) (es : En
     decided_read r (Err f) up h =
         decided_fails a j b k n u es at l is o in_table f (step_err view (named n) l u r f up h)
 
+  -- where the first name decides, what was read of its tree is what the row reads, and a refusal
+  -- of it is one of the object
   pub first_read : (u : Tree) → Decides a b a es u → {X : Type 0} (view : X → Form) (r s : Result X Fault)
       → AtStep (named a) r s → ReadAs view r j u
       → RowReadAs (λ x. deciding a (view x)) s o (either a j b k) (members_of es)
   first_read u at view r s up h = decided_read a u at j (is_first a j b k a (same_text-refl a)) view r s up h
 
+  -- the same where the second name decides, which is another than the first
   pub second_read : (u : Tree) → Decides a b b es u → same_text a b ≡ false → {X : Type 0} (view : X → Form)
       (r s : Result X Fault) → AtStep (named b) r s → ReadAs view r k u
       → RowReadAs (λ x. deciding b (view x)) s o (either a j b k) (members_of es)
@@ -178,10 +182,12 @@ module _ (ss : List Slot) (a : List ℕ) (j : Kind) (b : List ℕ) (k : Kind) (n
   abbrev the_slot : Slot
   the_slot = (either a j b k, deciding n f)
 
+  -- its name is not there yet, where no two of the slots take the same name
   pub decided_new : slots_apart ss ≡ true → get n out ≡ None
   decided_new apart = is_new final_tables ss (is_named a) the_slot at out done apart n of_two
 
   module _ (l : Kind) (is : cond (same_text a n) j k ≡ l) where
+    -- where it is put last and nothing of it is lost, the slots as far as the row are written
     pub decided_put : {A : Type 0} (r : Result A Fault) (new : Entries Tree)
         → OnOk r (new ≡ out ++ (n, print final_tables l f) ∷ []) → OnOk r (unwritable final_tables l f ≡ [])
         → OnOk r (IsWritten final_tables (through (is_named a) ss) new)
@@ -191,6 +197,7 @@ module _ (ss : List Slot) (a : List ℕ) (j : Kind) (b : List ℕ) (k : Kind) (n
         (ap (λ i. each_below (named n) (unwritable final_tables i f)) is ∙ ap (each_below (named n)) w) e
     decided_put (Err g) new e w = tt
 
+    -- a refusal of it is a refusal of the object
     pub decided_loses : {A : Type 0} (r : Result A Fault)
         → IfErr r (λ g. NotWritableBelow (named n) g (unwritable final_tables l f))
         → IfErr r (λ g. NotWritable g (slots_lost final_tables ss))

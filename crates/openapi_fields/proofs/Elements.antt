@@ -110,6 +110,7 @@ module _ {X : Type 0} (view : X → Form) (k : Kind) where
       ≡ lost_items k 0 (each (show (face_lost final_tables)) (each view xs))
   lost_of xs = ap (lost_items k 0) (of_forms-of (face_lost final_tables) (each view xs))
 
+  -- where nothing of its elements is lost, a list is written as the list of their trees
   pub list_written : (xs : List X) (ts : List Tree) (node : Tree) → ts ≡ each written xs → every is_whole xs ≡ true
       → node ≡ list (items_of ts)
       → (node ≡ print final_tables (list_of k) (sequence (forms_of (each view xs))))
@@ -140,6 +141,7 @@ module _ {X : Type 0} (view : X → Form) (k : Kind) where
       xs)))) same
       (lost_at (suc j) xs i x q (omega arith) e a))
 
+  -- a refusal of the element at an index is a refusal of the list
   pub item_loses : (xs : List X) (i : ℕ) (x : X) (f : Fault) → i < length xs → x ≡ get_or xs i x
       → NotWritableBelow (indexed i) f (unwritable final_tables k (view x))
       → NotWritable f (unwritable final_tables (list_of k) (sequence (forms_of (each view xs))))

@@ -1,5 +1,5 @@
 -- Maps that are read entry by entry, and objects, by what was read of their members.
-use Rattle.std.proofs.Common.{◌≡◌, ℕ, ◌+◌, true, List, [], ◌∷◌, ◌++◌, take, slice_get, Some, None, Result, Ok, Err, OnOk, IfErr, refl, sym, ap, ◌∙◌, subst, inl, inr, ⊎_elim}
+use Rattle.std.proofs.Common.{◌≡◌, ℕ, ◌+◌, true, List, [], ◌∷◌, ◌++◌, take, slice_get, Some, None, Result, Ok, Err, OnOk, IfErr, refl, sym, ap, ◌∙◌, subst, inl}
 use Rattle.std.specs.Borrow.{Bor}
 use Rattle.openapi_map.specs.Entries.{Entries, get, HasDistinctNames}
 use Rattle.openapi_map.specs.declared.OrderedMap.{OrderedMap}
@@ -13,16 +13,15 @@ use Rattle.openapi_node.specs.declared.fault.Fault.{Fault}
 use Rattle.openapi_node.specs.declared.node.Node.{Node}
 use Rattle.openapi_node.specs.declared.node.View.{View}
 use Rattle.openapi_node.specs.declared.node.View.TheVariants as v
-use Rattle.openapi_tables.specs.Prelude.{Kind, map_of, by, TableName, listed, row, every, final_tables, conforms, Form}
-use Rattle.openapi_tables.specs.Prelude.{form, is_named, row_where, rows_asked, pairs_of}
-use Rattle.openapi_fields.specs.Entries.{chosen}
+use Rattle.openapi_tables.specs.Prelude.{Kind, map_of, by, TableName, listed, row, Form}
+use Rattle.openapi_tables.specs.Prelude.{final_tables, is_named, row_where, rows_asked}
 use Rattle.openapi_fields.specs.Forms.{map_form, record_form}
 use Rattle.openapi_fields.specs.Returned.{AtStep, Fails, FailsBelow, ReadAs, MemberReadAs, RowReadAs, RowsReadAs, Reads}
 use Rattle.openapi_fields.proofs.Below.{not_map, not_object, step_err, step_ok, wrong_here}
-use Rattle.openapi_fields.proofs.Chosen.{entry_fails, next_holds, next_new, next_same}
 use Rattle.openapi_fields.proofs.Mapped.{map_gives}
 use Rattle.openapi_fields.proofs.Records.{record_gives}
 use Rattle.openapi_fields.proofs.RowReading.{member_fails, member_row, row_default}
+use Rattle.openapi_fields.proofs.Taking.{AreTaken, all_taken, name_untaken, none_taken, one_refused, one_taken}
 use Rattle.openapi_fields.specs.Reading.{MembersShown, PutRead, any_name, is_object}
 
 -- a look that shows no object
@@ -52,48 +51,47 @@ value_put view k u n x (Ok d) old new h e m = (x, e, h)
 value_put view k u n x (Err f) old new h e m = inl m
 
 -- some of the entries of a map were read
-pub record AreRead {X : Type 0} (view : X → Form) (k : Kind) (es : Entries Tree) (vs : Entries X) : Type 0 where
-  pub holds : every (λ (e : List ℕ × Tree). conforms final_tables k e.1) (chosen any_name es) ≡ true
-  pub same : pairs_of (form final_tables k) (chosen any_name es) ≡ pairs_of view vs
+abbrev pub AreRead : {X : Type 0} → (X → Form) → Kind → Entries Tree → Entries X → Type 0
+AreRead view k es vs = AreTaken any_name view k es vs
 
 module _ {X : Type 0} (view : X → Form) (k : Kind) where
   -- none at first
   pub none_read : (vs : Entries X) → vs ≡ [] → AreRead view k [] vs
-  none_read vs e = record { holds = refl; same = sym (ap (pairs_of view) e) }
+  none_read vs e = none_taken any_name view k vs e
 
   -- the next of them
   module _ (es : Entries Tree) (i : ℕ) (n : List ℕ) (u : Tree) (at : slice_get es i ≡ Some (n, u)) (old : Entries X) where
+    -- its name is not among those read so far, where no name stands twice
     pub name_unread : HasDistinctNames es → AreRead view k (take i es) old → get n old ≡ None
-    name_unread d h = next_new any_name es i n u at refl view k old d h.same
+    name_unread d h = name_untaken any_name view k es i n u at old refl d h
 
+    -- where what was read of it is put last, the entries are read as far as it
     pub one_read : (new : Entries X) → AreRead view k (take i es) old → PutRead view k u n (Ok tt) old new
         → AreRead view k (take (i + 1) es) new
-    one_read new h p =
-        record {
-          holds = next_holds any_name es i n u at refl k h.holds p.2.0;
-          same = next_same any_name es i n u at refl view k old new p.0 h.same p.2.1 p.1;
-        }
+    one_read new h q = one_taken any_name view k es i n u at old refl new h q
 
+    -- where reading it or putting it fails, that is a refusal of the map
     pub entry_refused : (f : Fault) (new : Entries X) → PutRead view k u n (Err f) old new
         → ReadAs (map_form view) (Err f) (map_of k) (object (members_of es))
-    entry_refused f new p =
-        map_gives view k (Err f) es
-        (⊎_elim (λ m. inl m) (λ h. inr (entry_fails any_name es i n u k f at refl h)) p)
+    entry_refused f new q = map_gives view k (Err f) es (one_refused any_name view k es i n u at old refl f new q)
 
   -- all of them
   pub all_read : (es : Entries Tree) (vs : Entries X) → AreRead view k es vs
       → ReadAs (map_form view) (Ok vs) (map_of k) (object (members_of es))
-  all_read es vs h = map_gives view k (Ok vs) es (h.holds, h.same)
+  all_read es vs h = map_gives view k (Ok vs) es (all_taken any_name view k es vs h)
 
 -- a row of a map that is empty where its member is missing
 module _ {X : Type 0} (view : X → Form) (o : Kind) (n : List ℕ) (k : Kind) (ms : Members)
     (at : row_where (is_named n) (rows_asked final_tables o) ≡ Some (row n listed (map_of k))) where
+  -- where the member is missing, the row reads an empty map
   pub none_listed : (vs : Entries X) → find n ms ≡ None → vs ≡ []
       → RowReadAs (map_form view) (Ok vs) o (row n listed (map_of k)) ms
   none_listed vs none e =
       let r = row_default o n listed (map_of k) ms at none refl in
       (r.0, r.1 ∙ ap (map_form view) (sym e))
 
+  -- where the member is there, what was read of its tree is what the row reads, and a refusal of it
+  -- is one of the object
   pub listed_read : (u : Tree) → find n ms ≡ Some u → (r s : Result (Entries X) Fault) → AtStep (named n) r s
       → ReadAs (map_form view) r (map_of k) u → RowReadAs (map_form view) s o (row n listed (map_of k)) ms
   listed_read u there r (Ok y) up h =

@@ -6,6 +6,7 @@ use Rattle.openapi_tables.specs.Prelude.{sequence, named, deciding, fields, Form
 use Rattle.openapi_tables.specs.Prelude.{forms_of, named_of, pairs_of}
 
 abbrev mutual
+  -- how many of the forms in a form, itself counted, are of a sort that holds other forms
   pub form_size : Form → ℕ
   form_size absent = 0
   form_size (leaf t) = 0

@@ -3,6 +3,7 @@ pub mod RowReading
 pub mod Records
 pub mod Losing
 pub mod Chosen
+pub mod Taking
 pub mod Written
 pub mod Classed
 pub mod Elements

@@ -63,12 +63,14 @@ not_silent f h = refl
 module _ (ss : List Slot) (n : List ℕ) (m : Mode) (k : Kind) (f : Form)
     (at : slot_where (is_named n) ss ≡ Some (row n m k, f)) (out : Entries Tree)
     (done : IsWritten final_tables (before (is_named n) ss) out) where
+  -- where it is put last and nothing of it is lost, the slots as far as the row are written
   pub value_put : {A : Type 0} (r : Result A Fault) (new : Entries Tree) → is_silent m f ≡ false
       → OnOk r (new ≡ out ++ (n, print final_tables k f) ∷ []) → OnOk r (unwritable final_tables k f ≡ [])
       → OnOk r (IsWritten final_tables (through (is_named n) ss) new)
   value_put (Ok x) new loud e l = row_put final_tables ss n m k f at out done new loud l e
   value_put (Err g) new loud e l = tt
 
+  -- a refusal of it is a refusal of the object
   pub value_loses : {A : Type 0} (r : Result A Fault) → IfErr r (λ g. NotWritableBelow (named n) g (unwritable final_tables
       k f))
       → IfErr r (λ g. NotWritable g (slots_lost final_tables ss))

@@ -7,7 +7,7 @@ use Rattle.openapi_node.specs.Place.{Place, named}
 use Rattle.openapi_node.specs.Tree.{Tree, object, members_of, members_size, size_of, member}
 use Rattle.openapi_node.specs.declared.fault.Fault.{Fault}
 use Rattle.openapi_tables.specs.Prelude.{Kind, map_of, each, every, join, is_empty, final_tables, of_members}
-use Rattle.openapi_tables.specs.Prelude.{members_of as table_members, conforms, root_conforms, Form, name}
+use Rattle.openapi_tables.specs.Prelude.{members_of as table_members, conforms, root_conforms, Form, Key, name}
 use Rattle.openapi_tables.specs.Prelude.{named as named_form, named_of, form, root_form, pairs_as, print, unwritable}
 use Rattle.openapi_tables.specs.Prelude.{each_below, lost_pairs, face_lost, root_asks, asked, asks_members, below}
 use Rattle.openapi_tables.specs.Prelude.{Among, StepsTo, asking, pairs_of}
@@ -36,7 +36,14 @@ pub all_size : (es : Entries Tree) → entries_size es ≡ members_size (members
 all_size [] = refl
 all_size (e ∷ es) = ap (λ n. size_of e.1 + n) (all_size es)
 
-map_conforms : (k : Kind) (es : Entries Tree) → conforms final_tables (map_of k) (object (members_of es))
+-- what is read of entries, where the key of a name is that name
+pub named_forms : (g : List ℕ → Key) → ((n : List ℕ) → g n ≡ name n) → (k : Kind) (es : Entries Tree)
+    → pairs_as g k (of_members (root_form final_tables) (members_of es)) ≡ pairs_of (form final_tables k) es
+named_forms g h k [] = refl
+named_forms g h k (e ∷ es) = λ j. record { key = h e.0 j; value = form final_tables k e.1 } ∷ named_forms g h k es j
+
+-- entries conform as a map where each value conforms
+pub map_conforms : (k : Kind) (es : Entries Tree) → conforms final_tables (map_of k) (object (members_of es))
     ≡ every (λ (e : List ℕ × Tree). conforms final_tables k e.1) es
 map_conforms k es = go es
   where
@@ -47,14 +54,10 @@ map_conforms k es = go es
 
 map_forms : (k : Kind) (es : Entries Tree) → form final_tables (map_of k) (object (members_of es))
     ≡ named_form (named_of (pairs_of (form final_tables k) es))
-map_forms k es = ap (λ l. named_form (named_of l)) (go es)
-  where
-    go : (es : Entries Tree) → pairs_as name k (of_members (root_form final_tables) (members_of es))
-        ≡ pairs_of (form final_tables k) es
-    go [] = refl
-    go (e ∷ es) = ap (λ l. record { key = name e.0; value = form final_tables k e.1 } ∷ l) (go es)
+map_forms k es = ap (λ l. named_form (named_of l)) (named_forms name (λ n. refl) k es)
 
-entry_asked : (k : Kind) (es : Entries Tree) (e : List ℕ × Tree) (p : Place) (j : Kind) (v : Tree) → Among e es
+-- what the value of an entry is asked, the entries are asked below its name
+pub entry_asked : (k : Kind) (es : Entries Tree) (e : List ℕ × Tree) (p : Place) (j : Kind) (v : Tree) → Among e es
     → Among (asking p j v) (asked final_tables k e.1)
     → Among (asking (named e.0 ∷ p) j v) (asks_members k (of_members (root_asks final_tables) (members_of es)))
 entry_asked k [] e p j v h a = absurd h
@@ -110,6 +113,7 @@ module _ {X : Type 0} (view : X → Form) (k : Kind) where
       (empty_is (unwritable final_tables k (view e.1)) p.0)
       ∙ nothing_lost vs p.1
 
+  -- where nothing of its values is lost, a map is written as the object of their trees
   pub map_written : (vs : Entries X) (out : Entries Tree) (node : Tree) → out ≡ written_entries view k vs
       → all_whole view k vs ≡ true → node ≡ object (members_of out)
       → (node ≡ print final_tables (map_of k) (map_form view vs)) × (unwritable final_tables (map_of k) (map_form
@@ -133,6 +137,7 @@ module _ {X : Type 0} (view : X → Form) (k : Kind) where
       among_right (named e.0 ∷ q) (each_below (named d.0) (unwritable final_tables k (view d.1)))
       (lost_pairs k (each (on_pair (show (face_lost final_tables))) (pairs_of view vs))) (lost_at vs e q s a)
 
+  -- a refusal of its entries is a refusal of the map
   pub map_loses : (vs : Entries X) (f : Fault) → EntriesNotWritable all view k f vs
       → NotWritable f (unwritable final_tables (map_of k) (map_form view vs))
   map_loses vs f h =

@@ -113,6 +113,7 @@ module _ (k : Kind) (t : Tree) (may : may_be_null k ≡ true) where
   by_cause NotWhole p h b = b
   by_cause Memory p h b = b
 
+  -- a refusal that is not about the kind of value is one where null may stand too
   pub fails_or_null : (f : Fault) → ((w : Expected) → f.cause ≡ WrongKind w → ⊥) → Fails f k t
       → Fails f (null_or k) t
   fails_or_null f n h = by_cause f.cause (place_of f) n h

@@ -72,6 +72,7 @@ module _ {X : Type 0} (view : X → Form) (o : Kind) (n : List ℕ) (k : Kind) (
     count : RisesBy before after (3 * row_weight (row n optional k) ms);
   }
 
+  -- where nothing but null stands under its name, the row reads that there is no value
   pub none_present : (before after : ℕ) → IsGone n ms before after → ReadPresent (Ok None) before after
   none_present before after h =
       record {
@@ -79,6 +80,8 @@ module _ {X : Type 0} (view : X → Form) (o : Kind) (n : List ℕ) (k : Kind) (
         count = (h.rises, omega (arith, h.counted, weight_of_name n optional optional k any_tree ms));
       }
 
+  -- where a tree other than null stands there, what was read of it is what the row reads, and a
+  -- refusal of it is one of the object
   pub read_present : {t : Tree} {before looked after : ℕ} (r : Result X Fault) (s : Result (Option X) Fault)
       → IsThere n ms before looked t → AtMember n r s → ReadAs view r k t → RisesBelow looked after (3 * size_of t + 1)
       → ReadPresent s before after
@@ -101,6 +104,7 @@ module _ {X : Type 0} (view : X → Form) (o : Kind) (n : List ℕ) (k : Kind) (
     count : RisesBy before after (3 * row_weight (row n listed (map_of k)) ms);
   }
 
+  -- where the member is missing, the row reads an empty map, and nothing is looked at
   pub no_map : (vs : Entries X) (before after : ℕ) → vs ≡ [] → (find n ms ≡ None) × (after ≡ before)
       → ReadRow (Ok vs) before after
   no_map vs before after e h =
@@ -109,6 +113,7 @@ module _ {X : Type 0} (view : X → Form) (o : Kind) (n : List ℕ) (k : Kind) (
         count = (omega (arith, h.1), omega (arith, h.1));
       }
 
+  -- where something other than an object stands there, its refusal is one of the object around it
   pub no_map_at : (f : Fault) (before after : ℕ) → NoMapAt n ms before after f → ReadRow (Err f) before after
   no_map_at f before after h =
       record {
@@ -125,6 +130,8 @@ module _ {X : Type 0} (view : X → Form) (o : Kind) (n : List ℕ) (k : Kind) (
         );
       }
 
+  -- where an object stands there, what was read of its entries is what the row reads, and a
+  -- refusal of it is one of the object around it
   pub map_at : {es : Members} (r s : Result (Entries X) Fault) {before looked after : ℕ}
       → IsMapAt n ms before looked es → AtStep (named n) r s → ReadMap (map_form view) r (map_of k) es looked after
       → ReadRow s before after
@@ -151,9 +158,11 @@ module _ {X : Type 0} (view : X → Form) (k : Kind) (es : Entries Tree) (before
     count : RisesBy before after (3 * members_size (members_of (take i es)));
   }
 
+  -- none at first, and no look was taken yet
   pub none_so_far : (vs : Entries X) → vs ≡ [] → SoFar 0 vs before
   none_so_far vs e = record { read = none_read view k vs e; count = (omega arith, omega arith) }
 
+  -- at the end, the values that were read are what is read of the map
   pub all_so_far : (i : ℕ) (vs : Entries X) (after : ℕ) → length es ≤ i → SoFar i vs after
       → ReadMap (map_form view) (Ok vs) (map_of k) (members_of es) before after
   all_so_far i vs after end h =
@@ -172,6 +181,7 @@ module _ {X : Type 0} (view : X → Form) (k : Kind) (es : Entries Tree) (before
     was_put : PutRead view k u n q old new
     was_put = put view k u (subst (λ v. ReadAs view r k v) look.shown reads)
 
+    -- where what was read of it is put last, the entries are read as far as it
     pub next_so_far : q ≡ Ok tt → SoFar (i + 1) new after
     next_so_far is =
         let entry = next_member es i (n, u) at in
@@ -183,6 +193,7 @@ module _ {X : Type 0} (view : X → Form) (k : Kind) (es : Entries Tree) (before
           );
         }
 
+    -- where reading it or putting it fails, that is a refusal of the map
     pub next_refused : (f : Fault) → q ≡ Err f
         → ReadMap (map_form view) (Err f) (map_of k) (members_of es) before after
     next_refused f is =

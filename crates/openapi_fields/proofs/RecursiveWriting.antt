@@ -24,11 +24,13 @@ module _ {X : Type 0} (view : X → Form) (k : Kind) (vs : Entries X) where
 
   -- the next of them
   module _ (i : ℕ) {n : List ℕ} {x : X} (out : Entries Tree) (at : slice_get vs i ≡ Some (n, x)) (h : WrittenSoFar i out) where
+    -- its name is not among those written so far, where no name stands twice
     pub unwritten : HasDistinctNames vs → get n out ≡ None
     unwritten d = next_absent view k vs i n x at [] out refl d h.written
 
     module _ (new : Entries Tree) (r : Result Node Fault) (q : Result (Unit {0}) Fault) (w : WrittenAs k (view x) r)
         (put : (l : Kind) (f : Form) → WrittenAs l f r → PutAs l f n q out new) where
+      -- where it is put last as it is written, the entries are written as far as it
       pub next_put : q ≡ Ok tt → WrittenSoFar (i + 1) new
       next_put is =
           let p = subst (λ s. PutAs k (view x) n s out new) is (put k (view x) w) in
@@ -37,6 +39,7 @@ module _ {X : Type 0} (view : X → Form) (k : Kind) (vs : Entries X) where
             whole = next_whole view k vs i n x at h.whole p.1;
           }
 
+      -- where writing it or putting it fails, that is a refusal of the map
       pub next_lost : (f : Fault) → q ≡ Err f → WrittenAs (map_of k) (map_form view vs) (Err f)
       next_lost f is =
           map_loses view k vs f

@@ -19,7 +19,7 @@ use Rattle.openapi_tables.specs.Prelude.{reference_or_item, root_form, Asking, a
 use Rattle.openapi_tables.specs.Prelude.{Among, Broken, asking}
 use Rattle.openapi_tables.specs.Faults as faults
 use Rattle.openapi_tables.proofs.ByRowLaws.{own-found, own-missing}
-use Rattle.openapi_tables.proofs.AskedLaws.{reference_of}
+use Rattle.openapi_tables.proofs.Taken.{reference_of}
 use Rattle.openapi_values.specs.Reference.{reference_form}
 use Rattle.openapi_values.specs.declared.reference.ReferenceOr.TheVariants as v
 use Rattle.openapi_fields.specs.Returned.{FailsBy, Fails, Reads}
@@ -92,6 +92,7 @@ module _ (k : Kind) where
       form_or t ∙ (λ i. reference_or_item (e i) (h.1 i)),
     )
 
+    -- a refusal of an item: where the tree is no reference, what the item's kind refuses is refused
     pub fails_item : (f : Fault) → reference_in t ≡ None → Fails f k t → Fails f (ref_to k) t
     fails_item f e h = fails_wider f k (ref_to k) t (asked_or t e) h
 

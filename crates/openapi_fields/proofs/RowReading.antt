@@ -68,6 +68,7 @@ module _ (o : Kind) (n : List ℕ) (m : Mode) (k : Kind) (ms : Members)
   module _ {X : Type 0} (view : X → Form) where
     -- where null is given to the kind
     module _ (gives : skips_null m ≡ false) where
+      -- what was read of the member is what the row reads
       pub member_row : (x : X) → MemberReadAs view (Ok (Some x)) k n (find n ms)
           → RowGives final_tables (row n m k) ms (view x)
       member_row x h = go (find n ms) refl h
@@ -78,6 +79,7 @@ module _ (o : Kind) (n : List ℕ) (m : Mode) (k : Kind) (ms : Members)
           go (Some u) e r =
               row_found view x u e (ap (λ b. b && is_null u) gives) (slot_kept m k u fits gives r.0) r
 
+      -- a refusal of the member is a refusal of the object
       pub member_fails : (f : Fault) → MemberReadAs view (Err f) k n (find n ms) → Fails f o (object ms)
       member_fails f h = go (find n ms) refl h
         where
@@ -87,6 +89,7 @@ module _ (o : Kind) (n : List ℕ) (m : Mode) (k : Kind) (ms : Members)
               fails_above (named n) f o k (object ms) u
               (row_asks final_tables o n m k ms u at e (ap (λ b. b && is_null u) gives)) r
 
+    -- where no value was read and nothing was refused, the member is missing
     pub member_missing : MemberReadAs view (Ok None) k n (find n ms) → find n ms ≡ None
     member_missing h = go (find n ms) h
       where
@@ -128,6 +131,8 @@ module _ (o : Kind) (n : List ℕ) (m : Mode) (k : Kind) (ms : Members)
       gone a (Ok (Some x)) r = absurd r
       gone a (Err f) r = absurd r
 
+      -- what was read of the member, or that there is none but null, is what the row reads, and a
+      -- refusal of it is one of the object
       pub present_row : (r : Result (Option X) Fault) → MemberReadAs view r k n (unless_null (find n ms))
           → RowReadAs (optional_form view) r o (row n m k) ms
       present_row r h = go (find n ms) refl h

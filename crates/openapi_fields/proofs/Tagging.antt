@@ -200,6 +200,7 @@ module _ (n : List ℕ) (cs : List Case) {X : Type 0} (word : X → List ℕ) (r
       ap (λ b. tag_choice cs (first_tree (cond b (one n (text (word x))) []))) (same_text-refl n)
       ∙ ap (λ b. cond b (Some (tag (word x))) None) one_of_them
 
+  -- the members of its slots make the object that it is written as, and nothing is lost
   pub tagged_writes : (node : Tree) (out : Entries Tree) → IsWritten final_tables (tagged_slots n cs word rows x) out
       → node ≡ object (members_of out)
       → (node ≡ print final_tables (tagged n cs) (tagged_form word rows x))
@@ -213,12 +214,14 @@ module _ (n : List ℕ) (cs : List Case) {X : Type 0} (word : X → List ℕ) (r
         ∙ g.nothing_lost,
   )
 
+  -- what its slots lose is what it loses
   pub tagged_loses : slots_lost final_tables (tagged_slots n cs word rows x)
       ≡ unwritable final_tables (tagged n cs) (tagged_form word rows x)
   unfolding rows_of
   tagged_loses =
       sym (fields_lost final_tables (tagged n cs) (tag (word x)) (one n (text (word x))) (absent ∷ rows x) chosen_by)
 
+  -- no two of its slots take the same name
   pub tagged_apart : sound final_tables (tagged n cs) ≡ true
       → slots_apart (tagged_slots n cs word rows x) ≡ true
   tagged_apart w =
@@ -229,9 +232,11 @@ module _ (n : List ℕ) (cs : List Case) {X : Type 0} (word : X → List ℕ) (r
 -- the tag, written behind the members that are there
 module _ (ss : List Slot) (n v : List ℕ) (at : slot_where (is_named n) ss ≡ Some (constant n v, absent))
     (out : Entries Tree) (done : IsWritten final_tables (before (is_named n) ss) out) where
+  -- its name is not there yet, where no two of the slots take the same name
   pub tag_new : slots_apart ss ≡ true → get n out ≡ None
   tag_new a = is_new final_tables ss (is_named n) (constant n v, absent) at out done a n (same_text-refl n)
 
+  -- where its word is put last under its name, the slots as far as the tag are written
   pub tag_put : {A : Type 0} (r : Result A Fault) (new : Entries Tree) (t : Tree) → t ≡ text v
       → OnOk r (new ≡ out ++ (n, t) ∷ []) → OnOk r (IsWritten final_tables (through (is_named n) ss) new)
   tag_put (Ok x) new t q e =

@@ -17,7 +17,7 @@ use Rattle.openapi_node.specs.declared.fault.Cause.TheVariants.{
 use Rattle.openapi_node.specs.declared.fault.Fault.{Fault}
 use Rattle.openapi_node.specs.declared.node.Node.{Node}
 use Rattle.openapi_tables.specs.Tree.{members_list}
-use Rattle.openapi_tables.specs.Kind.{Kind, null_or, by, tagged, ref_to, flag_or_schema, Case, Row}
+use Rattle.openapi_tables.specs.Kind.{Kind, null_or, tagged, ref_to, flag_or_schema, Case, Row}
 use Rattle.openapi_tables.specs.Tables.{final_tables}
 use Rattle.openapi_tables.specs.Members.{is_null, held}
 use Rattle.openapi_tables.specs.Conforms.{conforms}

@@ -3,7 +3,7 @@ use crate::from_node::FromNode;
 use crate::memory::boxed;
 use crate::references::Referable;
 use crate::to_node::ToNode;
-use openapi_node::{Fault, Node, Steps, View};
+use openapi_node::{Node, Result, Steps, View};
 use std::alloc::Global;
 
 /// A value in a box is read as the value is; or memory runs out for the box.
@@ -12,7 +12,7 @@ impl<T: FromNode + Drop> FromNode for Box<T> {
 
     ghost form_of = { λ b. T.form_of b.value };
 
-    fn from_view(alloc: Global, view: &View<'_>, steps: &mut Steps) -> Result<Box<T>, Fault> {
+    fn from_view(alloc: Global, view: &View<'_>, steps: &mut Steps) -> Result<Box<T>> {
         match T::from_view(alloc, view, steps) {
             Ok(value) => boxed(alloc, value),
             Err(fault) => Err(fault),
@@ -24,7 +24,7 @@ impl<T: FromNode + Drop> FromNode for Box<T> {
 
 /// A value in a box is written as the value is.
 impl<T: ToNode + Drop> ToNode for Box<T> {
-    fn to_node(&self, alloc: Global) -> Result<Node, Fault> {
+    fn to_node(&self, alloc: Global) -> Result<Node> {
         (**self).to_node(alloc)
     }
 

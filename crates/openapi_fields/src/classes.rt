@@ -13,7 +13,7 @@ use crate::from_node::FromNode;
 use crate::names::{ClassNames, Extensions};
 use crate::object::HasSlots;
 use crate::to_node::ToNode;
-use openapi_node::{Fault, Members, Node, OrderedMap, Steps};
+use openapi_node::{Members, Node, OrderedMap, Result, Steps};
 use std::alloc::Global;
 
 /// Reads the members whose names are of a class, in order.
@@ -21,7 +21,7 @@ pub fn class_entries<R: HasSlots, N: ClassNames, T: FromNode + Drop>(
     alloc: Global,
     members: &Members,
     steps: &mut Steps,
-) -> Result<OrderedMap<T>, Fault>
+) -> Result<OrderedMap<T>>
     requires row { row_where (is_class N.class) (rows_asked final_tables R.object) ≡ Some (kinds.class N.class T.kind) }
     ensures reads { RowReadAs (map_form T.form_of) result R.object (kinds.class N.class T.kind)
         (members_of members.now) }
@@ -36,7 +36,7 @@ pub fn extensions<R: HasSlots>(
     alloc: Global,
     members: &Members,
     steps: &mut Steps,
-) -> Result<Members, Fault>
+) -> Result<Members>
     requires row { row_where (is_class kinds.extensions) (rows_asked final_tables R.object) ≡ Some
         (kinds.class kinds.extensions kinds.any_tree) }
     ensures reads { RowReadAs extensions_form result R.object (kinds.class kinds.extensions kinds.any_tree)
@@ -54,7 +54,7 @@ pub fn put_class<R: HasSlots, N: ClassNames, T: ToNode>(
     owner: &R,
     out: &mut Members,
     values: &OrderedMap<T>,
-) -> Result<(), Fault>
+) -> Result<()>
     requires slot { slot_where (is_class N.class) (R.slots_of owner.now) ≡ Some
         (kinds.class N.class T.kind, map_form T.form_of values.now) }
     requires before { IsWritten final_tables (before (is_class N.class) (R.slots_of owner.now)) out.old }
@@ -70,7 +70,7 @@ pub fn put_extensions<R: HasSlots>(
     owner: &R,
     out: &mut Members,
     values: &Members,
-) -> Result<(), Fault>
+) -> Result<()>
     requires slot { slot_where (is_class kinds.extensions) (R.slots_of owner.now) ≡ Some
         (kinds.class kinds.extensions kinds.any_tree, extensions_form values.now) }
     requires before { IsWritten final_tables (before (is_class kinds.extensions) (R.slots_of owner.now)) out.old }

@@ -20,7 +20,7 @@ use crate::object::{HasSlots, Object};
 use crate::place::at_name;
 use crate::put_rows::put_value;
 use crate::to_node::ToNode;
-use openapi_node::{Cause, Fault, Members, Node, Steps};
+use openapi_node::{Cause, Fault, Members, Node, Result, Steps};
 use std::alloc::Global;
 
 /// What stands under the one of two names that decides.
@@ -66,7 +66,7 @@ pub fn decider<'a>(
     members: &'a Members,
     first: &'static str,
     second: &'static str,
-) -> Result<Either<&'a Node, &'a Node>, Fault>
+) -> Result<Either<&'a Node, &'a Node>>
     ensures { DeciderFound first.entry.now second.entry.now result members.now }
 {
     let Some((name, node)) = first_of_two(members, first, second) else {
@@ -87,7 +87,7 @@ pub fn decided<R: Object, A: FromNode, B: FromNode>(
     first: &'static str,
     second: &'static str,
     steps: &mut Steps,
-) -> Result<Either<A, B>, Fault>
+) -> Result<Either<A, B>>
     requires row { row_where (is_named first.now) (final_tables R.table) ≡ Some
         (kinds.either first.now A.kind second.now B.kind) }
     ensures reads { RowReadAs (either_form first.entry.now A.form_of second.entry.now B.form_of) result (kinds.by R.table)
@@ -117,7 +117,7 @@ pub fn put_first<R: HasSlots, A: ToNode, B: FromNode>(
     first: &'static str,
     second: &'static str,
     value: &A,
-) -> Result<(), Fault>
+) -> Result<()>
     requires slot { slot_where (is_named first.now) (R.slots_of owner.now) ≡ Some
         (kinds.either first.now A.kind second.now B.kind, deciding first.now (A.form_of value.now)) }
     requires before { IsWritten final_tables (before (is_named first.now) (R.slots_of owner.now)) out.old }
@@ -136,7 +136,7 @@ pub fn put_second<R: HasSlots, A: FromNode, B: ToNode>(
     first: &'static str,
     second: &'static str,
     value: &B,
-) -> Result<(), Fault>
+) -> Result<()>
     requires slot { slot_where (is_named first.now) (R.slots_of owner.now) ≡ Some
         (kinds.either first.now A.kind second.now B.kind, deciding second.now (B.form_of value.now)) }
     requires apart { same_text first.now second.now ≡ false }

@@ -8,10 +8,10 @@ ghost use Rattle.openapi_fields.specs.Returned.{RisesBy};
 
 use crate::from_node::FromNode;
 use crate::names::Names;
-use crate::place::at_name;
-use crate::put_rows::{put, put_value};
+use crate::put_rows::put_value;
+use crate::reading::put_read;
 use crate::to_node::ToNode;
-use openapi_node::{Cause, Fault, Members, Node, OrderedMap, Steps};
+use openapi_node::{Cause, Fault, Members, Node, OrderedMap, Result, Steps};
 use std::alloc::Global;
 
 /// Reads the members whose names are in a set, in order.
@@ -19,7 +19,7 @@ pub fn read_entries<N: Names, T: FromNode + Drop>(
     alloc: Global,
     members: &Members,
     steps: &mut Steps,
-) -> Result<OrderedMap<T>, Fault>
+) -> Result<OrderedMap<T>>
     ensures reads { EntriesReadAs T.form_of result T.kind (chosen N.test members.now) }
     ensures count { RisesBy steps.old steps.new (3 * entries_size (chosen N.test members.now)) }
 {
@@ -29,8 +29,8 @@ pub fn read_entries<N: Names, T: FromNode + Drop>(
         if !N::contains(name) {
             continue;
         }
-        match at_name(alloc, name, T::from_node(alloc, node, steps)) {
-            Ok(value) => put(alloc, &mut values, name, value)?,
+        match put_read(alloc, &mut values, name, T::from_node(alloc, node, steps)) {
+            Ok(()) => {}
             Err(fault) => return Err(fault),
         }
     }
@@ -42,7 +42,7 @@ pub fn put_entries<N: Names, T: ToNode>(
     alloc: Global,
     out: &mut Members,
     values: &OrderedMap<T>,
-) -> Result<(), Fault>
+) -> Result<()>
     requires { (n : List ℕ) → N.test n ≡ true → get n out.old ≡ None }
     ensures ok { OnOk result (out.new ≡ out.old ++ written_entries T.form_of T.kind values.now) }
     ensures names { OnOk result (every (λ e. N.test e.0) values.now ≡ true) }

@@ -7,7 +7,7 @@ ghost use Rattle.openapi_values.specs.VariantOr.{variant_form, variant_or_empty_
 use crate::from_node::FromNode;
 use crate::to_node::ToNode;
 use crate::words::write_text;
-use openapi_node::{Cause, Expected, Fault, Node, Steps, View};
+use openapi_node::{Cause, Expected, Fault, Node, Result, Steps, View};
 use openapi_values::{VariantOrUnknown, VariantOrUnknownOrEmpty, Word};
 use std::alloc::Global;
 
@@ -20,7 +20,7 @@ impl<T: Word + 'static> FromNode for VariantOrUnknown<T> {
         alloc: Global,
         view: &View<'_>,
         _steps: &mut Steps,
-    ) -> Result<VariantOrUnknown<T>, Fault> {
+    ) -> Result<VariantOrUnknown<T>> {
         match view {
             View::Text(text) => match VariantOrUnknown::from_text(alloc, text) {
                 Ok(value) => Ok(value),
@@ -36,7 +36,7 @@ impl<T: Word + 'static> FromNode for VariantOrUnknown<T> {
 impl<T: Word + 'static> ToNode for VariantOrUnknown<T> {
     ghost use Rattle.openapi_values.specs.declared.variant_or.VariantOrUnknown.TheVariants.{Item, Unknown};
 
-    fn to_node(&self, alloc: Global) -> Result<Node, Fault> {
+    fn to_node(&self, alloc: Global) -> Result<Node> {
         write_text(alloc, self.as_str())
     }
 
@@ -52,7 +52,7 @@ impl<T: Word + 'static> FromNode for VariantOrUnknownOrEmpty<T> {
         alloc: Global,
         view: &View<'_>,
         _steps: &mut Steps,
-    ) -> Result<VariantOrUnknownOrEmpty<T>, Fault> {
+    ) -> Result<VariantOrUnknownOrEmpty<T>> {
         match view {
             View::Null => Ok(VariantOrUnknownOrEmpty::Empty),
             View::Text(text) => match VariantOrUnknownOrEmpty::from_text(alloc, text) {
@@ -70,7 +70,7 @@ impl<T: Word + 'static> FromNode for VariantOrUnknownOrEmpty<T> {
 impl<T: Word + 'static> ToNode for VariantOrUnknownOrEmpty<T> {
     ghost use Rattle.openapi_values.specs.declared.variant_or.VariantOrUnknownOrEmpty.TheVariants as variant;
 
-    fn to_node(&self, alloc: Global) -> Result<Node, Fault> {
+    fn to_node(&self, alloc: Global) -> Result<Node> {
         match self.as_str() {
             Some(text) => write_text(alloc, text),
             None => Ok(Node::null()),

@@ -1,5 +1,5 @@
 //! Types that are read from trees.
-use openapi_node::{Fault, Node, Steps, View};
+use openapi_node::{Node, Result, Steps, View};
 use std::alloc::Global;
 
 /// A type of which a value is read from a tree, as the kind of the tables that it stands for.
@@ -20,13 +20,13 @@ pub trait FromNode: Sized {
     ghost form_of: { Self → Form };
 
     /// Reads a value of which a look was taken already.
-    fn from_view(alloc: Global, view: &View<'_>, steps: &mut Steps) -> Result<Self, Fault>
+    fn from_view(alloc: Global, view: &View<'_>, steps: &mut Steps) -> Result<Self>
         ensures reads { ReadAs form_of result kind (shown view.now) }
         ensures count { RisesBelow steps.old steps.new (looks kind + 3 * size_of (shown view.now)) };
 
     /// Reads a value. A refusal names a rule that is broken, at its place, and comes only where the tree does not
     /// conform; or memory ran out, with the empty place. At most three looks are taken for each value of the tree.
-    fn from_node(alloc: Global, node: &Node, steps: &mut Steps) -> Result<Self, Fault>
+    fn from_node(alloc: Global, node: &Node, steps: &mut Steps) -> Result<Self>
         ensures reads { ReadAs form_of result kind node.now }
         ensures refuses { Refuses result kind node.now }
         ensures rises { steps.old + 1 ≤ steps.new }

@@ -13,7 +13,7 @@ use crate::object::HasSlots;
 use crate::put_rows::put_value;
 use crate::rows::found;
 use crate::to_node::ToNode;
-use openapi_node::{Fault, Members, Node, OrderedMap, Steps};
+use openapi_node::{Members, Node, OrderedMap, Result, Steps};
 use openapi_values::{
     CookieStyle, HeaderStyle, PathStyle, QueryStyle, VariantOrUnknownOrEmpty, Word,
 };
@@ -187,7 +187,7 @@ pub fn or_implied<R: HasSlots, T: Implied>(
     members: &Members,
     name: &'static str,
     steps: &mut Steps,
-) -> Result<T, Fault>
+) -> Result<T>
     requires row { row_where (is_named name.now) (rows_asked final_tables R.object) ≡ Some
         (kinds.row name.now T.mode T.kind) }
     ensures reads { RowReadAs T.form_of result R.object (kinds.row name.entry.now T.mode T.kind)
@@ -212,7 +212,7 @@ pub fn put_implied<R: HasSlots, T: Implied + ToNode>(
     out: &mut Members,
     name: &'static str,
     value: &T,
-) -> Result<(), Fault>
+) -> Result<()>
     requires slot { slot_where (is_named name.now) (R.slots_of owner.now) ≡ Some
         (kinds.row name.now T.mode T.kind, T.form_of value.now) }
     requires before { IsWritten final_tables (before (is_named name.now) (R.slots_of owner.now)) out.old }

@@ -10,15 +10,11 @@ use crate::from_node::FromNode;
 use crate::memory::push;
 use crate::place::at_index;
 use crate::to_node::ToNode;
-use openapi_node::{Cause, Expected, Fault, Node, Steps, View};
+use openapi_node::{Cause, Expected, Fault, Node, Result, Steps, View};
 use std::alloc::Global;
 
 /// Reads the elements of a list, in order.
-pub fn items<T: FromNode + Drop>(
-    alloc: Global,
-    nodes: &[Node],
-    steps: &mut Steps,
-) -> Result<Vec<T>, Fault>
+pub fn items<T: FromNode + Drop>(alloc: Global, nodes: &[Node], steps: &mut Steps) -> Result<Vec<T>>
     ensures reads { ReadAs (list_form T.form_of) result (list_of T.kind) (list (items_of nodes.now)) }
     ensures count { RisesBy steps.old steps.new (3 * items_size (items_of nodes.now)) }
 {
@@ -35,7 +31,7 @@ pub fn items<T: FromNode + Drop>(
 }
 
 /// Writes the elements of a list, in order.
-pub fn write_items<T: ToNode>(alloc: Global, values: &Vec<T>) -> Result<Node, Fault>
+pub fn write_items<T: ToNode>(alloc: Global, values: &Vec<T>) -> Result<Node>
     ensures { WrittenAs (list_of T.kind) (list_form T.form_of values.now) result }
 {
     let Ok(mut nodes) = Vec::with_capacity(alloc, values.len()) else {
@@ -55,7 +51,7 @@ impl<T: FromNode + Drop> FromNode for Vec<T> {
 
     ghost form_of = { list_form T.form_of };
 
-    fn from_view(alloc: Global, view: &View<'_>, steps: &mut Steps) -> Result<Vec<T>, Fault> {
+    fn from_view(alloc: Global, view: &View<'_>, steps: &mut Steps) -> Result<Vec<T>> {
         match view {
             View::List(nodes) => items(alloc, nodes, steps),
             _ => Err(Fault::new(alloc, Cause::WrongKind(Expected::List))),
@@ -66,7 +62,7 @@ impl<T: FromNode + Drop> FromNode for Vec<T> {
 }
 
 impl<T: ToNode + Drop> ToNode for Vec<T> {
-    fn to_node(&self, alloc: Global) -> Result<Node, Fault> {
+    fn to_node(&self, alloc: Global) -> Result<Node> {
         write_items(alloc, self)
     }
 

@@ -9,11 +9,11 @@ use crate::entries::{put_entries, read_entries};
 use crate::from_node::FromNode;
 use crate::names::AllNames;
 use crate::to_node::ToNode;
-use openapi_node::{Cause, Expected, Fault, Node, OrderedMap, Steps, View};
+use openapi_node::{Cause, Expected, Fault, Node, OrderedMap, Result, Steps, View};
 use std::alloc::Global;
 
 /// Writes the entries of a map, in order.
-pub fn write_map<T: ToNode>(alloc: Global, values: &OrderedMap<T>) -> Result<Node, Fault>
+pub fn write_map<T: ToNode>(alloc: Global, values: &OrderedMap<T>) -> Result<Node>
     ensures { WrittenAs (map_of T.kind) (map_form T.form_of values.now) result }
 {
     let Ok(mut out) = OrderedMap::with_capacity(alloc, values.len()) else {
@@ -30,11 +30,7 @@ impl<T: FromNode + Drop> FromNode for OrderedMap<T> {
 
     ghost form_of = { map_form T.form_of };
 
-    fn from_view(
-        alloc: Global,
-        view: &View<'_>,
-        steps: &mut Steps,
-    ) -> Result<OrderedMap<T>, Fault> {
+    fn from_view(alloc: Global, view: &View<'_>, steps: &mut Steps) -> Result<OrderedMap<T>> {
         match view {
             View::Object(members) => read_entries::<AllNames, T>(alloc, members, steps),
             _ => Err(Fault::new(alloc, Cause::WrongKind(Expected::Object))),
@@ -45,7 +41,7 @@ impl<T: FromNode + Drop> FromNode for OrderedMap<T> {
 }
 
 impl<T: ToNode + Drop> ToNode for OrderedMap<T> {
-    fn to_node(&self, alloc: Global) -> Result<Node, Fault> {
+    fn to_node(&self, alloc: Global) -> Result<Node> {
         write_map(alloc, self)
     }
 

@@ -7,7 +7,7 @@ ghost use Rattle.openapi_fields.specs.Forms.{nullable_form};
 
 use crate::from_node::FromNode;
 use crate::to_node::ToNode;
-use openapi_node::{Cause, Expected, Fault, Node, Steps, View, Whole};
+use openapi_node::{Cause, Expected, Fault, Node, Result, Steps, View, Whole};
 use std::alloc::Global;
 
 /// A type of which null can stand in the place of a value: a text, a flag or a whole number.
@@ -70,7 +70,7 @@ impl<T: Nullable> FromNode for Option<T> {
 
     ghost form_of = { nullable_form T.form_of };
 
-    fn from_view(alloc: Global, view: &View<'_>, steps: &mut Steps) -> Result<Option<T>, Fault> {
+    fn from_view(alloc: Global, view: &View<'_>, steps: &mut Steps) -> Result<Option<T>> {
         if let View::Null = view {
             return Ok(None);
         }
@@ -88,7 +88,7 @@ impl<T: Nullable> FromNode for Option<T> {
 
 /// None is written as null.
 impl<T: Nullable + ToNode> ToNode for Option<T> {
-    fn to_node(&self, alloc: Global) -> Result<Node, Fault> {
+    fn to_node(&self, alloc: Global) -> Result<Node> {
         match self {
             None => Ok(Node::null()),
             Some(value) => value.to_node(alloc),

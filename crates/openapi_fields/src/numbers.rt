@@ -6,7 +6,7 @@ ghost use Rattle.openapi_fields.specs.Forms.{number_form, size_form};
 
 use crate::from_node::FromNode;
 use crate::to_node::ToNode;
-use openapi_node::{Cause, Expected, Fault, Node, Steps, View, Whole};
+use openapi_node::{Cause, Expected, Fault, Node, Result, Steps, View, Whole};
 use std::alloc::Global;
 
 impl FromNode for Whole {
@@ -14,7 +14,7 @@ impl FromNode for Whole {
 
     ghost form_of = { number_form };
 
-    fn from_view(alloc: Global, view: &View<'_>, _steps: &mut Steps) -> Result<Whole, Fault> {
+    fn from_view(alloc: Global, view: &View<'_>, _steps: &mut Steps) -> Result<Whole> {
         match view {
             View::Whole(number) => Ok(*number),
             _ => Err(Fault::new(alloc, Cause::WrongKind(Expected::Whole))),
@@ -25,7 +25,7 @@ impl FromNode for Whole {
 }
 
 impl ToNode for Whole {
-    fn to_node(&self, _alloc: Global) -> Result<Node, Fault> {
+    fn to_node(&self, _alloc: Global) -> Result<Node> {
         Ok(Node::whole(*self))
     }
 
@@ -37,7 +37,7 @@ impl FromNode for usize {
 
     ghost form_of = { size_form };
 
-    fn from_view(alloc: Global, view: &View<'_>, _steps: &mut Steps) -> Result<usize, Fault> {
+    fn from_view(alloc: Global, view: &View<'_>, _steps: &mut Steps) -> Result<usize> {
         match view {
             View::Whole(number) => match number.as_u64() {
                 Some(number) => Ok(number as usize),
@@ -51,7 +51,7 @@ impl FromNode for usize {
 }
 
 impl ToNode for usize {
-    fn to_node(&self, _alloc: Global) -> Result<Node, Fault> {
+    fn to_node(&self, _alloc: Global) -> Result<Node> {
         Ok(Node::whole(Whole::from(*self as u64)))
     }
 
@@ -63,7 +63,7 @@ impl FromNode for i64 {
 
     ghost form_of = { number_form };
 
-    fn from_view(alloc: Global, view: &View<'_>, _steps: &mut Steps) -> Result<i64, Fault> {
+    fn from_view(alloc: Global, view: &View<'_>, _steps: &mut Steps) -> Result<i64> {
         match view {
             View::Whole(number) => match number.as_i64() {
                 Some(number) => Ok(number),
@@ -77,7 +77,7 @@ impl FromNode for i64 {
 }
 
 impl ToNode for i64 {
-    fn to_node(&self, _alloc: Global) -> Result<Node, Fault> {
+    fn to_node(&self, _alloc: Global) -> Result<Node> {
         Ok(Node::whole(Whole::from(*self)))
     }
 

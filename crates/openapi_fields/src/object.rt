@@ -7,7 +7,7 @@ ghost use Rattle.openapi_fields.specs.Forms.{record_form, record_slots};
 
 use crate::from_node::FromNode;
 use crate::to_node::ToNode;
-use openapi_node::{Cause, Expected, Fault, Members, Node, OrderedMap, Steps, View};
+use openapi_node::{Cause, Expected, Fault, Members, Node, OrderedMap, Result, Steps, View};
 use std::alloc::Global;
 
 /// What the helpers of rows ask of a type that is an object. It has no function, so that they can be called in a cycle.
@@ -59,13 +59,13 @@ pub trait Record: Object + Sized {
     ghost use Rattle.openapi_fields.specs.Returned.{RowsReadAs, NotWritable};
 
     /// Reads the rows among the members of an object.
-    fn from_members(alloc: Global, members: &Members, steps: &mut Steps) -> Result<Self, Fault>
+    fn from_members(alloc: Global, members: &Members, steps: &mut Steps) -> Result<Self>
         ensures reads { RowsReadAs Self.rows_of result (by Self.table) (members_of members.now) }
         ensures rises { steps.old ≤ steps.new }
         ensures count { steps.new ≤ steps.old + 3 * rows_weight (final_tables Self.table) (members_of members.now) };
 
     /// Writes the rows into an object that has no members yet.
-    fn put_rows(&self, alloc: Global, out: &mut Members) -> Result<(), Fault>
+    fn put_rows(&self, alloc: Global, out: &mut Members) -> Result<()>
         requires { IsWritten final_tables [] out.old }
         ensures ok { OnOk result (IsWritten final_tables (record_slots Self.table Self.rows_of self.now) out.new) }
         ensures err { IfErr result (λ f. NotWritable f (slots_lost final_tables
@@ -77,7 +77,7 @@ impl<T: Record> FromNode for T {
 
     ghost form_of = { record_form T.rows_of };
 
-    fn from_view(alloc: Global, view: &View<'_>, steps: &mut Steps) -> Result<T, Fault> {
+    fn from_view(alloc: Global, view: &View<'_>, steps: &mut Steps) -> Result<T> {
         match view {
             View::Object(members) => T::from_members(alloc, members, steps),
             _ => Err(Fault::new(alloc, Cause::WrongKind(Expected::Object))),
@@ -88,7 +88,7 @@ impl<T: Record> FromNode for T {
 }
 
 impl<T: Record> ToNode for T {
-    fn to_node(&self, alloc: Global) -> Result<Node, Fault> {
+    fn to_node(&self, alloc: Global) -> Result<Node> {
         let mut out = OrderedMap::new(alloc);
         match self.put_rows(alloc, &mut out) {
             Ok(()) => Ok(Node::object(out)),

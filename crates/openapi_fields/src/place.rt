@@ -2,11 +2,11 @@
 ghost use Rattle.openapi_node.specs.Place.{named, indexed};
 ghost use Rattle.openapi_fields.specs.Returned.{AtStep};
 
-use openapi_node::Fault;
+use openapi_node::Result;
 use std::alloc::Global;
 
 /// What was read at the member of a name, seen from the object.
-pub fn at_name<T>(alloc: Global, name: &str, read: Result<T, Fault>) -> Result<T, Fault>
+pub fn at_name<T>(alloc: Global, name: &str, read: Result<T>) -> Result<T>
     ensures { AtStep (named name.now) read result }
 {
     match read {
@@ -16,7 +16,7 @@ pub fn at_name<T>(alloc: Global, name: &str, read: Result<T, Fault>) -> Result<T
 }
 
 /// What was read at the element of an index, seen from the list.
-pub(crate) fn at_index<T>(alloc: Global, index: usize, read: Result<T, Fault>) -> Result<T, Fault>
+pub(crate) fn at_index<T>(alloc: Global, index: usize, read: Result<T>) -> Result<T>
     ensures { AtStep (indexed index) read result }
 {
     match read {

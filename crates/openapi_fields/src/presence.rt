@@ -3,7 +3,7 @@ ghost use Rattle.openapi_node.specs.Tree.{members_of};
 ghost use Rattle.openapi_fields.specs.Presence.{AtMember, ViewFound};
 
 use crate::place::at_name;
-use openapi_node::{Fault, Members, Node, Steps, View, find_member};
+use openapi_node::{Members, Node, Result, Steps, View, find_member};
 use std::alloc::Global;
 
 /// A look at the member of a name, where it is there and not null.
@@ -21,7 +21,7 @@ pub fn present_view<'a>(members: &'a Members, name: &str, steps: &mut Steps) -> 
 }
 
 /// What was read of the member of a name, seen from the object.
-pub fn as_member<T>(alloc: Global, name: &str, read: Result<T, Fault>) -> Result<Option<T>, Fault>
+pub fn as_member<T>(alloc: Global, name: &str, read: Result<T>) -> Result<Option<T>>
     ensures { AtMember name.now read result }
 {
     match at_name(alloc, name, read) {

@@ -14,16 +14,11 @@ ghost use Rattle.openapi_fields.specs.Returned.{NotWritable, NotWritableBelow};
 
 use crate::object::HasSlots;
 use crate::to_node::ToNode;
-use openapi_node::{Fault, Members, Node, OrderedMap};
+use openapi_node::{Fault, Members, Node, OrderedMap, Result};
 use std::alloc::Global;
 
 /// Puts a value last, under a name that is not there yet.
-pub fn put<V: Drop>(
-    alloc: Global,
-    out: &mut OrderedMap<V>,
-    name: &str,
-    value: V,
-) -> Result<(), Fault>
+pub fn put<V: Drop>(alloc: Global, out: &mut OrderedMap<V>, name: &str, value: V) -> Result<()>
     requires { get name.now out.old ≡ None }
     ensures ok { OnOk result (out.new ≡ out.old ++ (name.now, value) ∷ []) }
     ensures err { IfErr result IsMemory }
@@ -38,12 +33,7 @@ pub fn put<V: Drop>(
 }
 
 /// Puts what a value is written as last, under a name that is not there yet.
-pub fn put_value<T: ToNode>(
-    alloc: Global,
-    out: &mut Members,
-    name: &str,
-    value: &T,
-) -> Result<(), Fault>
+pub fn put_value<T: ToNode>(alloc: Global, out: &mut Members, name: &str, value: &T) -> Result<()>
     requires { get name.now out.old ≡ None }
     ensures ok { OnOk result (out.new ≡ out.old ++ (name.now, print final_tables T.kind (T.form_of value.now)) ∷ []) }
     ensures whole { OnOk result (unwritable final_tables T.kind (T.form_of value.now) ≡ []) }
@@ -63,7 +53,7 @@ pub fn put_required<R: HasSlots, T: ToNode>(
     out: &mut Members,
     name: &'static str,
     value: &T,
-) -> Result<(), Fault>
+) -> Result<()>
     requires slot { slot_where (is_named name.now) (R.slots_of owner.now) ≡ Some
         (kinds.row name.now kinds.required T.kind, T.form_of value.now) }
     requires before { IsWritten final_tables (before (is_named name.now) (R.slots_of owner.now)) out.old }
@@ -81,7 +71,7 @@ pub fn put_optional<R: HasSlots, T: ToNode>(
     out: &mut Members,
     name: &'static str,
     value: &Option<T>,
-) -> Result<(), Fault>
+) -> Result<()>
     requires slot { slot_where (is_named name.now) (R.slots_of owner.now) ≡ Some
         (kinds.row name.now kinds.optional T.kind, optional_form T.form_of value.now) }
     requires before { IsWritten final_tables (before (is_named name.now) (R.slots_of owner.now)) out.old }
@@ -102,7 +92,7 @@ pub fn put_nullable<R: HasSlots, T: ToNode>(
     out: &mut Members,
     name: &'static str,
     value: &Option<T>,
-) -> Result<(), Fault>
+) -> Result<()>
     requires slot { slot_where (is_named name.now) (R.slots_of owner.now) ≡ Some
         (kinds.row name.now kinds.nullable T.kind, optional_form T.form_of value.now) }
     requires before { IsWritten final_tables (before (is_named name.now) (R.slots_of owner.now)) out.old }

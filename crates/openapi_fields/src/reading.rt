@@ -9,11 +9,13 @@ ghost use Rattle.openapi_fields.specs.Returned.{ReadAs};
 ghost use Rattle.openapi_fields.specs.Reading.{MembersShown, MembersShownAt, PutRead};
 
 use crate::{at_name, put};
-use openapi_node::{Cause, Expected, Fault, Members, Node, OrderedMap, Steps, View, find_member};
+use openapi_node::{
+    Cause, Expected, Fault, Members, Node, OrderedMap, Result, Steps, View, find_member,
+};
 use std::alloc::Global;
 
 /// The members of a value that is to be an object, of which a look was taken already.
-pub fn members_shown<'a>(alloc: Global, view: &View<'a>) -> Result<&'a Members, Fault>
+pub fn members_shown<'a>(alloc: Global, view: &View<'a>) -> Result<&'a Members>
     ensures { MembersShown result (shown view.now) }
 {
     match view {
@@ -28,7 +30,7 @@ pub fn members_at<'a>(
     members: &'a Members,
     name: &str,
     steps: &mut Steps,
-) -> Result<Option<&'a Members>, Fault>
+) -> Result<Option<&'a Members>>
     ensures { MembersShownAt result name.now (members_of members.now) steps.old steps.new }
 {
     let Some(node) = find_member(members, name) else {
@@ -48,8 +50,8 @@ pub fn put_read<T: Drop>(
     alloc: Global,
     values: &mut OrderedMap<T>,
     name: &str,
-    read: Result<T, Fault>,
-) -> Result<(), Fault>
+    read: Result<T>,
+) -> Result<()>
     requires { get name.now values.old ≡ None }
     ensures { (view : T → Form) (k : Kind) (u : Tree) → ReadAs view read k u
         → PutRead view k u name.now result values.old values.new }

@@ -13,7 +13,7 @@ use crate::from_node::FromNode;
 use crate::put_rows::put;
 use crate::to_node::ToNode;
 use crate::words::write_text;
-use openapi_node::{Fault, Node, OrderedMap, Steps, View, find_member};
+use openapi_node::{Fault, Node, OrderedMap, Result, Steps, View, find_member};
 use openapi_values::ReferenceOr;
 use std::alloc::Global;
 
@@ -48,7 +48,7 @@ fn reference_text<'a>(view: &View<'a>, steps: &mut Steps) -> Option<&'a str>
 }
 
 /// Writes a reference: an object with the text under `$ref` and nothing else. Err only for want of memory.
-pub fn write_reference(alloc: Global, reference: &str) -> Result<Node, Fault>
+pub fn write_reference(alloc: Global, reference: &str) -> Result<Node>
     ensures ok { IfOk result (λ node. node ≡ reference_tree reference.now) }
     ensures err { IfErr result IsMemory }
 {
@@ -59,11 +59,7 @@ pub fn write_reference(alloc: Global, reference: &str) -> Result<Node, Fault>
 }
 
 /// The text of a reference as a text of its own, where one is shown. Err only for want of memory.
-pub fn read_reference(
-    alloc: Global,
-    view: &View<'_>,
-    steps: &mut Steps,
-) -> Result<Option<String>, Fault>
+pub fn read_reference(alloc: Global, view: &View<'_>, steps: &mut Steps) -> Result<Option<String>>
     ensures reads { IfOk result (λ o. option_map string_bytes o ≡ reference_in (shown view.now)) }
     ensures err { IfErr result IsMemory }
     ensures count { RisesBy steps.old steps.new 1 }
@@ -82,11 +78,7 @@ impl<T: Referable> FromNode for ReferenceOr<T> {
 
     ghost form_of = { reference_form T.form_of };
 
-    fn from_view(
-        alloc: Global,
-        view: &View<'_>,
-        steps: &mut Steps,
-    ) -> Result<ReferenceOr<T>, Fault> {
+    fn from_view(alloc: Global, view: &View<'_>, steps: &mut Steps) -> Result<ReferenceOr<T>> {
         match read_reference(alloc, view, steps) {
             Ok(reference) => match reference {
                 Some(reference) => Ok(ReferenceOr::Reference { reference }),
@@ -105,7 +97,7 @@ impl<T: Referable> FromNode for ReferenceOr<T> {
 impl<T: ToNode + Referable> ToNode for ReferenceOr<T> {
     ghost use Rattle.openapi_values.specs.declared.reference.ReferenceOr.TheVariants.{Reference, Item};
 
-    fn to_node(&self, alloc: Global) -> Result<Node, Fault> {
+    fn to_node(&self, alloc: Global) -> Result<Node> {
         match self {
             ReferenceOr::Reference { reference } => write_reference(alloc, reference.as_str()),
             ReferenceOr::Item(item) => item.to_node(alloc),

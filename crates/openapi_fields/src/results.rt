@@ -8,14 +8,14 @@ ghost use Rattle.openapi_fields.specs.References.{reference_in};
 ghost use Rattle.openapi_values.specs.Reference.{reference_form};
 
 use crate::boxed;
-use openapi_node::Fault;
+use openapi_node::Result;
 use openapi_values::ReferenceOr;
 use std::alloc::Global;
 
 /// What was read of a tree that is no reference, where one might stand. It stands in a function of its own, as the boxes
 /// below do, so that no mutually recursive function makes room for a second copy of what may be large.
 #[inline(never)]
-pub fn as_item<T: Drop>(read: Result<T, Fault>) -> Result<ReferenceOr<T>, Fault>
+pub fn as_item<T: Drop>(read: Result<T>) -> Result<ReferenceOr<T>>
     ensures { (view : T → Form) (k : Kind) (t : Tree) → reference_in t ≡ None → ReadAs view read k t
         → ReadAs (reference_form view) result (ref_to k) t }
 {
@@ -29,8 +29,8 @@ pub fn as_item<T: Drop>(read: Result<T, Fault>) -> Result<ReferenceOr<T>, Fault>
 #[inline(never)]
 pub fn in_inner_box<T: Drop>(
     alloc: Global,
-    read: Result<ReferenceOr<T>, Fault>,
-) -> Result<ReferenceOr<Box<T>>, Fault>
+    read: Result<ReferenceOr<T>>,
+) -> Result<ReferenceOr<Box<T>>>
     ensures { (view : T → Form) (k : Kind) (t : Tree) → ReadAs (reference_form view) read k t
         → ReadAs (reference_form (λ b. view b.value)) result k t }
 {
@@ -50,8 +50,8 @@ pub fn in_inner_box<T: Drop>(
 #[inline(never)]
 pub fn in_outer_box<T: Drop>(
     alloc: Global,
-    read: Result<ReferenceOr<T>, Fault>,
-) -> Result<Box<ReferenceOr<T>>, Fault>
+    read: Result<ReferenceOr<T>>,
+) -> Result<Box<ReferenceOr<T>>>
     ensures { (view : T → Form) (k : Kind) (t : Tree) → ReadAs (reference_form view) read k t
         → ReadAs (λ b. reference_form view b.value) result k t }
 {

@@ -10,7 +10,7 @@ ghost use Rattle.openapi_fields.specs.Returned.{MemberReadAs, RowReadAs, RisesBy
 use crate::from_node::FromNode;
 use crate::object::HasSlots;
 use crate::presence::{as_member, present_view};
-use openapi_node::{Cause, Fault, Members, Node, Steps, find_member};
+use openapi_node::{Cause, Fault, Members, Node, Result, Steps, find_member};
 use std::alloc::Global;
 
 /// The member of a name, where it is there.
@@ -19,7 +19,7 @@ pub(crate) fn found<T: FromNode>(
     members: &Members,
     name: &str,
     steps: &mut Steps,
-) -> Result<Option<T>, Fault>
+) -> Result<Option<T>>
     ensures reads { MemberReadAs T.form_of result T.kind name.now (find name.now (members_of members.now)) }
     ensures count { RisesBy steps.old steps.new
         (3 * row_weight (kinds.row name.now kinds.required T.kind) (members_of members.now)) }
@@ -36,7 +36,7 @@ fn present<T: FromNode>(
     members: &Members,
     name: &str,
     steps: &mut Steps,
-) -> Result<Option<T>, Fault>
+) -> Result<Option<T>>
     ensures reads { MemberReadAs T.form_of result T.kind name.now (unless_null (find name.now
         (members_of members.now))) }
     ensures count { RisesBy steps.old steps.new
@@ -54,7 +54,7 @@ pub fn required<R: HasSlots, T: FromNode>(
     members: &Members,
     name: &'static str,
     steps: &mut Steps,
-) -> Result<T, Fault>
+) -> Result<T>
     requires row { row_where (is_named name.now) (rows_asked final_tables R.object) ≡ Some
         (kinds.row name.now kinds.required T.kind) }
     ensures reads { RowReadAs T.form_of result R.object (kinds.row name.entry.now kinds.required T.kind)
@@ -78,7 +78,7 @@ pub fn optional<R: HasSlots, T: FromNode>(
     members: &Members,
     name: &'static str,
     steps: &mut Steps,
-) -> Result<Option<T>, Fault>
+) -> Result<Option<T>>
     requires row { row_where (is_named name.now) (rows_asked final_tables R.object) ≡ Some
         (kinds.row name.now kinds.optional T.kind) }
     ensures reads { RowReadAs (optional_form T.form_of) result R.object
@@ -96,7 +96,7 @@ pub fn nullable<R: HasSlots, T: FromNode>(
     members: &Members,
     name: &'static str,
     steps: &mut Steps,
-) -> Result<Option<T>, Fault>
+) -> Result<Option<T>>
     requires row { row_where (is_named name.now) (rows_asked final_tables R.object) ≡ Some
         (kinds.row name.now kinds.nullable T.kind) }
     ensures reads { RowReadAs (optional_form T.form_of) result R.object

@@ -7,7 +7,7 @@ ghost use Rattle.openapi_fields.specs.Forms.{flag_form, text_form};
 
 use crate::from_node::FromNode;
 use crate::to_node::ToNode;
-use openapi_node::{Cause, Expected, Fault, Node, Steps, View, copy_shown};
+use openapi_node::{Cause, Expected, Fault, Node, Result, Steps, View, copy_shown};
 use std::alloc::Global;
 
 impl FromNode for String {
@@ -15,7 +15,7 @@ impl FromNode for String {
 
     ghost form_of = { text_form };
 
-    fn from_view(alloc: Global, view: &View<'_>, _steps: &mut Steps) -> Result<String, Fault> {
+    fn from_view(alloc: Global, view: &View<'_>, _steps: &mut Steps) -> Result<String> {
         match view {
             View::Text(text) => match String::from_str(alloc, text) {
                 Ok(text) => Ok(text),
@@ -29,7 +29,7 @@ impl FromNode for String {
 }
 
 impl ToNode for String {
-    fn to_node(&self, alloc: Global) -> Result<Node, Fault> {
+    fn to_node(&self, alloc: Global) -> Result<Node> {
         match self.clone() {
             Ok(text) => Ok(Node::text(text)),
             Err(_) => Err(Fault::memory(alloc)),
@@ -44,7 +44,7 @@ impl FromNode for bool {
 
     ghost form_of = { flag_form };
 
-    fn from_view(alloc: Global, view: &View<'_>, _steps: &mut Steps) -> Result<bool, Fault> {
+    fn from_view(alloc: Global, view: &View<'_>, _steps: &mut Steps) -> Result<bool> {
         match view {
             View::Flag(value) => Ok(*value),
             _ => Err(Fault::new(alloc, Cause::WrongKind(Expected::Flag))),
@@ -55,7 +55,7 @@ impl FromNode for bool {
 }
 
 impl ToNode for bool {
-    fn to_node(&self, _alloc: Global) -> Result<Node, Fault> {
+    fn to_node(&self, _alloc: Global) -> Result<Node> {
         Ok(Node::flag(*self))
     }
 
@@ -67,7 +67,7 @@ impl FromNode for Node {
 
     ghost form_of = { leaf };
 
-    fn from_view(alloc: Global, view: &View<'_>, steps: &mut Steps) -> Result<Node, Fault> {
+    fn from_view(alloc: Global, view: &View<'_>, steps: &mut Steps) -> Result<Node> {
         copy_shown(alloc, view, steps)
     }
 
@@ -75,7 +75,7 @@ impl FromNode for Node {
 }
 
 impl ToNode for Node {
-    fn to_node(&self, alloc: Global) -> Result<Node, Fault> {
+    fn to_node(&self, alloc: Global) -> Result<Node> {
         match self.clone() {
             Ok(node) => Ok(node),
             Err(_) => Err(Fault::memory(alloc)),

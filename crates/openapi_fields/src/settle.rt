@@ -5,11 +5,11 @@ ghost use Rattle.openapi_fields.specs.Returned.{Refuses};
 ghost use Rattle.openapi_fields.specs.Settled.{CleanedAs, SettledAs, IsCounted};
 
 use crate::{FromNode, ToNode};
-use openapi_node::{Fault, Node, Steps};
+use openapi_node::{Node, Result, Steps};
 use std::alloc::Global;
 
 /// Reads a tree, and writes what was read.
-fn cleaned<T: ToNode + Drop>(alloc: Global, node: &Node, steps: &mut Steps) -> Result<Node, Fault>
+fn cleaned<T: ToNode + Drop>(alloc: Global, node: &Node, steps: &mut Steps) -> Result<Node>
     ensures gives { CleanedAs result T.FromNode.kind node.now }
     ensures refuses { Refuses result T.FromNode.kind node.now }
     ensures rises { steps.old + 1 ≤ steps.new }
@@ -22,11 +22,7 @@ fn cleaned<T: ToNode + Drop>(alloc: Global, node: &Node, steps: &mut Steps) -> R
 }
 
 /// Reads a tree, writes what was read, and reads and writes that once more.
-fn cleaned_twice<T: ToNode + Drop>(
-    alloc: Global,
-    node: &Node,
-    steps: &mut Steps,
-) -> Result<Node, Fault>
+fn cleaned_twice<T: ToNode + Drop>(alloc: Global, node: &Node, steps: &mut Steps) -> Result<Node>
     ensures gives { SettledAs result T.FromNode.kind node.now }
     ensures refuses { Refuses result T.FromNode.kind node.now }
     ensures rises { steps.old + 1 ≤ steps.new }
@@ -44,7 +40,7 @@ pub trait Settle: ToNode + Drop {
     /// settled form of the tree: settling it again changes nothing, and two trees settle to the same one exactly where
     /// the same value is read of what each is first written as. Err names a rule that the tree breaks, at its place,
     /// or says that memory ran out.
-    fn settle(alloc: Global, node: &Node, steps: &mut Steps) -> Result<Node, Fault>
+    fn settle(alloc: Global, node: &Node, steps: &mut Steps) -> Result<Node>
         ensures gives { SettledAs result Self.FromNode.kind node.now }
         ensures refuses { Refuses result Self.FromNode.kind node.now }
         ensures rises { steps.old + 1 ≤ steps.new }

@@ -6,7 +6,7 @@ ghost use Rattle.openapi_values.specs.StatusCode.{status_code_form};
 
 use crate::from_node::FromNode;
 use crate::to_node::ToNode;
-use openapi_node::{Cause, Expected, Fault, Node, Steps, View};
+use openapi_node::{Cause, Expected, Fault, Node, Result, Steps, View};
 use openapi_values::StatusCode;
 use std::alloc::Global;
 use std::str::FromStr;
@@ -16,7 +16,7 @@ impl FromNode for StatusCode {
 
     ghost form_of = { status_code_form };
 
-    fn from_view(alloc: Global, view: &View<'_>, _steps: &mut Steps) -> Result<StatusCode, Fault> {
+    fn from_view(alloc: Global, view: &View<'_>, _steps: &mut Steps) -> Result<StatusCode> {
         match view {
             View::Text(text) => match StatusCode::from_str(text) {
                 Ok(code) => Ok(code),
@@ -34,7 +34,7 @@ impl FromNode for StatusCode {
 }
 
 impl ToNode for StatusCode {
-    fn to_node(&self, alloc: Global) -> Result<Node, Fault> {
+    fn to_node(&self, alloc: Global) -> Result<Node> {
         let Ok(text) = format!(in alloc; "{self}") else {
             return Err(Fault::memory(alloc));
         };

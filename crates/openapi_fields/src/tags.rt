@@ -12,7 +12,7 @@ use crate::object::HasSlots;
 use crate::place::at_name;
 use crate::put_rows::put;
 use crate::words::{read_word, write_text};
-use openapi_node::{Cause, Fault, Members, Node, Steps, find_member};
+use openapi_node::{Cause, Fault, Members, Node, Result, Steps, find_member};
 use openapi_values::Word;
 use std::alloc::Global;
 
@@ -22,7 +22,7 @@ pub fn tag<T: Word>(
     members: &Members,
     name: &'static str,
     steps: &mut Steps,
-) -> Result<T, Fault>
+) -> Result<T>
     ensures reads { TagReadAs T.word_of result name.entry.now T.words (members_of members.now) }
     ensures count { RisesBy steps.old steps.new
         (3 * row_weight (kinds.row name.entry.now kinds.required (kinds.one_of T.words)) (members_of members.now)) }
@@ -44,7 +44,7 @@ pub fn put_tag<R: HasSlots>(
     out: &mut Members,
     name: &'static str,
     word: &str,
-) -> Result<(), Fault>
+) -> Result<()>
     requires slot { slot_where (is_named name.now) (R.slots_of owner.now) ≡ Some
         (kinds.constant name.now word.now, absent) }
     requires before { IsWritten final_tables (before (is_named name.now) (R.slots_of owner.now)) out.old }

@@ -1,6 +1,6 @@
 //! Types that are written as trees.
 use crate::from_node::FromNode;
-use openapi_node::{Fault, Node};
+use openapi_node::{Node, Result};
 use std::alloc::Global;
 
 /// A type of which a value is written as a tree.
@@ -11,7 +11,7 @@ pub trait ToNode: FromNode {
 
     /// Writes the value. It is refused where it holds a name or a code that would not be read again, at the place of
     /// that name, or for want of memory, with the empty place.
-    fn to_node(&self, alloc: Global) -> Result<Node, Fault>
+    fn to_node(&self, alloc: Global) -> Result<Node>
         ensures written { WrittenAs Self.kind (Self.form_of self.now) result };
 
     /// A value is never written as nothing.

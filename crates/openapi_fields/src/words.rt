@@ -16,7 +16,7 @@ ghost use Rattle.openapi_fields.specs.Returned.{ReadAs, WrittenAs};
 
 use crate::from_node::FromNode;
 use crate::to_node::ToNode;
-use openapi_node::{Cause, Expected, Fault, Node, Steps, View};
+use openapi_node::{Cause, Expected, Fault, Node, Result, Steps, View};
 use openapi_values::{
     APIKeyLocation, CookieStyle, HeaderStyle, IntegerFormat, NumberFormat, PathStyle, QueryStyle,
     StringFormat, Word,
@@ -24,7 +24,7 @@ use openapi_values::{
 use std::alloc::Global;
 
 /// Reads a text that is to be a word of a set.
-pub fn read_word<T: Word>(alloc: Global, view: &View<'_>) -> Result<T, Fault>
+pub fn read_word<T: Word>(alloc: Global, view: &View<'_>) -> Result<T>
     ensures { ReadAs (word_form T.word_of) result (one_of T.words) (shown view.now) }
 {
     match view {
@@ -37,7 +37,7 @@ pub fn read_word<T: Word>(alloc: Global, view: &View<'_>) -> Result<T, Fault>
 }
 
 /// Writes a text.
-pub(crate) fn write_text(alloc: Global, text: &str) -> Result<Node, Fault>
+pub(crate) fn write_text(alloc: Global, text: &str) -> Result<Node>
     ensures ok { IfOk result (λ node. node ≡ tree.text text.now) }
     ensures err { IfErr result IsMemory }
 {
@@ -48,7 +48,7 @@ pub(crate) fn write_text(alloc: Global, text: &str) -> Result<Node, Fault>
 }
 
 /// Writes a word of a set.
-pub fn write_word<T: Word>(alloc: Global, word: &T) -> Result<Node, Fault>
+pub fn write_word<T: Word>(alloc: Global, word: &T) -> Result<Node>
     ensures { WrittenAs (one_of T.words) (word_form T.word_of word.now) result }
 {
     write_text(alloc, word.as_str())
@@ -59,7 +59,7 @@ impl FromNode for PathStyle {
 
     ghost form_of = { word_form path_style_word };
 
-    fn from_view(alloc: Global, view: &View<'_>, _steps: &mut Steps) -> Result<PathStyle, Fault> {
+    fn from_view(alloc: Global, view: &View<'_>, _steps: &mut Steps) -> Result<PathStyle> {
         read_word(alloc, view)
     }
 
@@ -67,7 +67,7 @@ impl FromNode for PathStyle {
 }
 
 impl ToNode for PathStyle {
-    fn to_node(&self, alloc: Global) -> Result<Node, Fault> {
+    fn to_node(&self, alloc: Global) -> Result<Node> {
         write_word(alloc, self)
     }
 
@@ -79,7 +79,7 @@ impl FromNode for QueryStyle {
 
     ghost form_of = { word_form query_style_word };
 
-    fn from_view(alloc: Global, view: &View<'_>, _steps: &mut Steps) -> Result<QueryStyle, Fault> {
+    fn from_view(alloc: Global, view: &View<'_>, _steps: &mut Steps) -> Result<QueryStyle> {
         read_word(alloc, view)
     }
 
@@ -87,7 +87,7 @@ impl FromNode for QueryStyle {
 }
 
 impl ToNode for QueryStyle {
-    fn to_node(&self, alloc: Global) -> Result<Node, Fault> {
+    fn to_node(&self, alloc: Global) -> Result<Node> {
         write_word(alloc, self)
     }
 
@@ -99,7 +99,7 @@ impl FromNode for CookieStyle {
 
     ghost form_of = { word_form cookie_style_word };
 
-    fn from_view(alloc: Global, view: &View<'_>, _steps: &mut Steps) -> Result<CookieStyle, Fault> {
+    fn from_view(alloc: Global, view: &View<'_>, _steps: &mut Steps) -> Result<CookieStyle> {
         read_word(alloc, view)
     }
 
@@ -107,7 +107,7 @@ impl FromNode for CookieStyle {
 }
 
 impl ToNode for CookieStyle {
-    fn to_node(&self, alloc: Global) -> Result<Node, Fault> {
+    fn to_node(&self, alloc: Global) -> Result<Node> {
         write_word(alloc, self)
     }
 
@@ -119,7 +119,7 @@ impl FromNode for HeaderStyle {
 
     ghost form_of = { word_form header_style_word };
 
-    fn from_view(alloc: Global, view: &View<'_>, _steps: &mut Steps) -> Result<HeaderStyle, Fault> {
+    fn from_view(alloc: Global, view: &View<'_>, _steps: &mut Steps) -> Result<HeaderStyle> {
         read_word(alloc, view)
     }
 
@@ -127,7 +127,7 @@ impl FromNode for HeaderStyle {
 }
 
 impl ToNode for HeaderStyle {
-    fn to_node(&self, alloc: Global) -> Result<Node, Fault> {
+    fn to_node(&self, alloc: Global) -> Result<Node> {
         write_word(alloc, self)
     }
 
@@ -139,11 +139,7 @@ impl FromNode for APIKeyLocation {
 
     ghost form_of = { word_form api_key_location_word };
 
-    fn from_view(
-        alloc: Global,
-        view: &View<'_>,
-        _steps: &mut Steps,
-    ) -> Result<APIKeyLocation, Fault> {
+    fn from_view(alloc: Global, view: &View<'_>, _steps: &mut Steps) -> Result<APIKeyLocation> {
         read_word(alloc, view)
     }
 
@@ -151,7 +147,7 @@ impl FromNode for APIKeyLocation {
 }
 
 impl ToNode for APIKeyLocation {
-    fn to_node(&self, alloc: Global) -> Result<Node, Fault> {
+    fn to_node(&self, alloc: Global) -> Result<Node> {
         write_word(alloc, self)
     }
 
@@ -164,11 +160,7 @@ impl FromNode for NumberFormat {
 
     ghost form_of = { word_form number_format_word };
 
-    fn from_view(
-        alloc: Global,
-        view: &View<'_>,
-        _steps: &mut Steps,
-    ) -> Result<NumberFormat, Fault> {
+    fn from_view(alloc: Global, view: &View<'_>, _steps: &mut Steps) -> Result<NumberFormat> {
         read_word(alloc, view)
     }
 
@@ -176,7 +168,7 @@ impl FromNode for NumberFormat {
 }
 
 impl ToNode for NumberFormat {
-    fn to_node(&self, alloc: Global) -> Result<Node, Fault> {
+    fn to_node(&self, alloc: Global) -> Result<Node> {
         write_word(alloc, self)
     }
 
@@ -189,11 +181,7 @@ impl FromNode for IntegerFormat {
 
     ghost form_of = { word_form integer_format_word };
 
-    fn from_view(
-        alloc: Global,
-        view: &View<'_>,
-        _steps: &mut Steps,
-    ) -> Result<IntegerFormat, Fault> {
+    fn from_view(alloc: Global, view: &View<'_>, _steps: &mut Steps) -> Result<IntegerFormat> {
         read_word(alloc, view)
     }
 
@@ -201,7 +189,7 @@ impl FromNode for IntegerFormat {
 }
 
 impl ToNode for IntegerFormat {
-    fn to_node(&self, alloc: Global) -> Result<Node, Fault> {
+    fn to_node(&self, alloc: Global) -> Result<Node> {
         write_word(alloc, self)
     }
 
@@ -214,11 +202,7 @@ impl FromNode for StringFormat {
 
     ghost form_of = { word_form string_format_word };
 
-    fn from_view(
-        alloc: Global,
-        view: &View<'_>,
-        _steps: &mut Steps,
-    ) -> Result<StringFormat, Fault> {
+    fn from_view(alloc: Global, view: &View<'_>, _steps: &mut Steps) -> Result<StringFormat> {
         read_word(alloc, view)
     }
 
@@ -226,7 +210,7 @@ impl FromNode for StringFormat {
 }
 
 impl ToNode for StringFormat {
-    fn to_node(&self, alloc: Global) -> Result<Node, Fault> {
+    fn to_node(&self, alloc: Global) -> Result<Node> {
         write_word(alloc, self)
     }
 

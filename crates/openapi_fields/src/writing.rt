@@ -15,7 +15,7 @@ ghost use Rattle.openapi_fields.specs.Returned.{NotWritable, WrittenAs};
 ghost use Rattle.openapi_fields.specs.Writing.{AreNew, MemberWrittenAs, HoldsDecided, HoldsWritten, PutAs, RowsWritten};
 
 use crate::{HasSlots, Record, put};
-use openapi_node::{Fault, Members, Node, OrderedMap};
+use openapi_node::{Fault, Members, Node, OrderedMap, Result};
 use std::alloc::Global;
 
 /// Puts what was written of a value last, under a name that is not there yet; or leads its refusal on.
@@ -23,8 +23,8 @@ pub fn put_written(
     alloc: Global,
     out: &mut Members,
     name: &str,
-    written: Result<Node, Fault>,
-) -> Result<(), Fault>
+    written: Result<Node>,
+) -> Result<()>
     requires { get name.now out.old ≡ None }
     ensures { (k : Kind) (f : Form) → WrittenAs k f written → PutAs k f name.now result out.old out.new }
 {
@@ -35,7 +35,7 @@ pub fn put_written(
 }
 
 /// What was written of a value that is there.
-pub fn as_some(written: Result<Node, Fault>) -> Result<Option<Node>, Fault>
+pub fn as_some(written: Result<Node>) -> Result<Option<Node>>
     ensures { (m : Mode) (k : Kind) (f : Form) → is_silent m f ≡ false → WrittenAs k f written
         → MemberWrittenAs m k f result }
 {
@@ -51,8 +51,8 @@ pub fn put_row<R: HasSlots>(
     owner: &R,
     out: &mut Members,
     name: &'static str,
-    written: Result<Option<Node>, Fault>,
-) -> Result<(), Fault>
+    written: Result<Option<Node>>,
+) -> Result<()>
     requires slot { HoldsWritten name.now (R.slots_of owner.now) written }
     requires before { IsWritten final_tables (before (is_named name.now) (R.slots_of owner.now)) out.old }
     ensures ok { OnOk result (IsWritten final_tables (through (is_named name.entry.now)
@@ -75,8 +75,8 @@ pub fn put_decided<R: HasSlots>(
     out: &mut Members,
     first: &'static str,
     name: &'static str,
-    written: Result<Node, Fault>,
-) -> Result<(), Fault>
+    written: Result<Node>,
+) -> Result<()>
     requires slot { HoldsDecided first.now name.now (R.slots_of owner.now) written }
     requires before { IsWritten final_tables (before (is_named first.now) (R.slots_of owner.now)) out.old }
     ensures ok { OnOk result (IsWritten final_tables (through (is_named first.entry.now)
@@ -87,7 +87,7 @@ pub fn put_decided<R: HasSlots>(
 }
 
 /// The object that the members of the rows of a table make, by what was written of them.
-pub fn whole_object(written: Result<Members, Fault>) -> Result<Node, Fault>
+pub fn whole_object(written: Result<Members>) -> Result<Node>
     ensures { (i : TableName) (fs : List Form) → RowsWritten (slots (final_tables i) fs) written
         → WrittenAs (kinds.by i) (fields plain (forms_of fs)) result }
 {
@@ -98,7 +98,7 @@ pub fn whole_object(written: Result<Members, Fault>) -> Result<Node, Fault>
 }
 
 /// The only member of an object, by what was written of its value.
-pub fn only_row(alloc: Global, name: &str, written: Result<Node, Fault>) -> Result<Members, Fault>
+pub fn only_row(alloc: Global, name: &str, written: Result<Node>) -> Result<Members>
     ensures { (k : Kind) (f : Form) → WrittenAs k f written
         → RowsWritten ((kinds.row name.now kinds.required k, f) ∷ []) result }
 {
@@ -112,7 +112,7 @@ pub fn only_row(alloc: Global, name: &str, written: Result<Node, Fault>) -> Resu
 }
 
 /// The members that an object by a table is written as.
-pub fn record_rows<T: Record>(alloc: Global, value: &T) -> Result<Members, Fault>
+pub fn record_rows<T: Record>(alloc: Global, value: &T) -> Result<Members>
     ensures { RowsWritten (record_slots T.table T.rows_of value.now) result }
 {
     let mut out = OrderedMap::new(alloc);
@@ -123,7 +123,7 @@ pub fn record_rows<T: Record>(alloc: Global, value: &T) -> Result<Members, Fault
 }
 
 /// Puts members behind those that are there, none of which has a name of theirs. Err only for want of memory.
-pub fn append(alloc: Global, out: &mut Members, more: Members) -> Result<(), Fault>
+pub fn append(alloc: Global, out: &mut Members, more: Members) -> Result<()>
     requires { AreNew more out.old }
     ensures ok { OnOk result (out.new ≡ out.old ++ more) }
     ensures err { IfErr result IsMemory }

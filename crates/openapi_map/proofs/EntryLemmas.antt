@@ -17,24 +17,29 @@ use Rattle.openapi_map.specs.declared.Member.{Member}
 
 -- ---- what the code keeps
 module _ {V : Type 0} where
+  -- there is an entry for each element that the code keeps
   pub length-entries_of : (es : List (Member V)) → length (entries_of es) ≡ length es
   length-entries_of [] = refl
   length-entries_of (e ∷ es) = ap suc (length-entries_of es)
 
+  -- and a name for each
   pub length-names_of : (es : List (Member V)) → length (names_of es) ≡ length es
   length-names_of [] = refl
   length-names_of (e ∷ es) = ap suc (length-names_of es)
 
+  -- a place among the entries of a map is one among the elements that the code keeps for it
   pub within-entries : (es : List (Member V)) (m : Entries V) (i : ℕ) → entries_of es ≡ m → i < length m
       → i < length es
   within-entries es m i e h = omega (arith, ap length e, length-entries_of es)
 
+  -- the entry at a place has the name, by its bytes, and the value of the element there
   pub entry-entries_of : (es : List (Member V)) (i : ℕ) (d : Member V) → i < length es
       → slice_get (entries_of es) i ≡ Some (string_bytes (get_or es i d).name, (get_or es i d).value)
   entry-entries_of [] i d h = absurd (omega arith)
   entry-entries_of (e ∷ es) zero d h = refl
   entry-entries_of (e ∷ es) (suc i) d h = entry-entries_of es i d (omega arith)
 
+  -- the name at a place is that of the element there, by its bytes
   pub name-get_or : (es : List (Member V)) (i : ℕ) (d : Member V) → i < length es
       → get_or (names_of es) i [] ≡ string_bytes (get_or es i d).name
   name-get_or [] i d h = absurd (omega arith)
@@ -49,30 +54,34 @@ module _ {V : Type 0} where
       ap (λ x. take i names ++ x ∷ []) (sym (name-get_or es i d h))
       ∙ sym (take_more names i [] (omega (arith, h, length-names_of es)))
 
+  -- the value at a place is that of the element there
   pub value-entries_of : (es : List (Member V)) (i : ℕ) (d : Member V) → i < length es
       → slice_get (values_of (entries_of es)) i ≡ Some (get_or es i d).value
   value-entries_of [] i d h = absurd (omega arith)
   value-entries_of (e ∷ es) zero d h = refl
   value-entries_of (e ∷ es) (suc i) d h = value-entries_of es i d (omega arith)
 
+  -- an element that goes last makes an entry that goes last
   pub entries_of-push : (es : List (Member V)) (e : Member V)
       → entries_of (es ++ e ∷ []) ≡ entries_of es ++ (string_bytes e.name, e.value) ∷ []
   entries_of-push [] e = refl
   entries_of-push (x ∷ es) e = ap (λ r. (string_bytes x.name, x.value) ∷ r) (entries_of-push es e)
 
+  -- and its name goes last among the names
   pub names_of-push : (es : List (Member V)) (e : Member V)
       → names_of (es ++ e ∷ []) ≡ names_of es ++ string_bytes e.name ∷ []
   names_of-push es e =
       ap keys_of (entries_of-push es e)
       ∙ map-append (λ x. x.0) (entries_of es) ((string_bytes e.name, e.value) ∷ [])
 
-  -- a value that is put at a place changes no name
+  -- a value that is put at a place is set there among the entries
   pub entries_of-set : (es : List (Member V)) (i : ℕ) (d : Member V) (v : V)
       → entries_of (set es i (record { name = (get_or es i d).name; value = v })) ≡ set_value_at (entries_of es) i v
   entries_of-set [] i d v = refl
   entries_of-set (e ∷ es) zero d v = refl
   entries_of-set (e ∷ es) (suc i) d v = ap (λ r. (string_bytes e.name, e.value) ∷ r) (entries_of-set es i d v)
 
+  -- the names are the same once a value is put at a place
   pub names_of-set : (es : List (Member V)) (i : ℕ) (d : Member V) (v : V)
       → names_of (set es i (record { name = (get_or es i d).name; value = v })) ≡ names_of es
   names_of-set [] i d v = refl
@@ -111,6 +120,7 @@ module _ {V : Type 0} (name : List ℕ) where
       let found = Found-position (bytes_eq name) (entries_of es) i (sym p) in
       sym (found.value ∙ value-entries_of es i d (omega (arith, found.within, length-entries_of es)))
 
+  -- the place of a name is one among the elements that the code keeps
   pub found-within : (es : List (Member V)) (i : ℕ) → Some i ≡ position (bytes_eq name) (names_of es)
       → i < length es
   found-within es i p =
@@ -128,11 +138,13 @@ module _ {V : Type 0} (name : List ℕ) where
   pub none-among : (es : Entries V) → get name es ≡ None → list_any (bytes_eq name) (keys_of es) ≡ false
   none-among es e = sym (is_some-lookup (bytes_eq name) es) ∙ ap is_some e
 
+  -- to put a value at the place of the name is to insert it under the name
   pub insert-found : (es : Entries V) (i : ℕ) (v : V) → Some i ≡ position (bytes_eq name) (keys_of es)
       → set_value_at es i v ≡ insert_entry es name v
   insert-found es i v p =
       sym (insert_entry-first bytes_eq name v es i (Found-position (bytes_eq name) es i (sym p)).first)
 
+  -- to put an entry of the name last, where the name is new, is to insert it
   pub insert-missing : (es : Entries V) (v : V) → get name es ≡ None → es ++ (name, v) ∷ [] ≡ insert_entry es name v
   insert-missing es v e = sym (insert_entry-absent bytes_eq name v es (absent_from_lookup (bytes_eq name) es e))
 

@@ -92,6 +92,8 @@ module _ (names : List (List ℕ)) (name : List ℕ) (index : NameIndex) (is : I
           ∙ ap (λ x. link_at n (bucket n x) longer p) (sym (get_or-append names (name ∷ []) [] p low))
     ]
 
+    -- the index of the longer list: the new place is the last of its bucket, and its link leads
+    -- to the place that was the last before
     pub IsIndex-push : (link : ℕ) (next : Vec ℕ Global) → link ≡ slice_index index.heads.items b
         → next.items ≡ index.next.items ++ link ∷ [] → vec_len next ≡ vec_len index.next + 1
         → IsIndex longer (record { heads = with_item index.heads b last; next = next })
@@ -149,6 +151,7 @@ module _ (names : List (List ℕ)) (index : NameIndex) (is : IsIndex names index
       down : (p : ℕ) → p + 1 - 1 ≡ p
       down p = omega arith
 
+  -- where all links that are left are moved, the index is one of the names that are left
   pub IsIndex-remove : (heads next : Vec ℕ Global) → vec_len heads ≡ buckets → vec_len next + 1 ≡ vec_len index.next
       → ((b : ℕ) → b < length heads.items
       → slice_index heads.items b ≡ moved_link i before (slice_index index.heads.items b))

@@ -3,7 +3,7 @@ pub mod EntryLemmas
 mod EqualityLemmas
 mod HeldLemmas
 mod IndexLemmas
-mod IterLemmas
+pub mod IterLemmas
 pub mod LinkLemmas
 mod PlaceLemmas
 mod RemoveLemmas

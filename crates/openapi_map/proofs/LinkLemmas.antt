@@ -56,6 +56,7 @@ module _ (n b : ℕ) where
     ];
   }
 
+  -- the link below k leads to the last name below k that is in the bucket, if there is one
   pub link_at-Leads : (ns : List (List ℕ)) (k : ℕ) → Leads ns k (link_at n b ns k)
   unfolding link_at
   link_at-Leads ns zero = record {
@@ -101,6 +102,7 @@ module _ (n b : ℕ) where
     step k link true low = sym (moved-high i before (suc (suc k)) (omega (arith, low)) ∙ omega arith)
     step k link false low = refl
 
+    -- for each k from place i on, the link below k is then the one that was below k + 1, moved
     pub link_at-moved : (k : ℕ) → i ≤ k
         → link_at n b (remove ns i) k ≡ moved_link i before (link_at n b ns (suc k))
     unfolding link_at

@@ -23,6 +23,7 @@ module _ {V : Type 0} where
   value-set (e ∷ es) zero v h = refl
   value-set (e ∷ es) (suc i) v h = value-set es i v (omega arith)
 
+  -- the value at a place is that of the entry there
   pub value-there : (es : Entries V) (i : ℕ) (e : List ℕ × V) → slice_get es i ≡ Some e → slice_get (values_of es) i ≡ Some e.1
   value-there [] i e h = cc
   value-there (x ∷ es) zero e h = ap (λ y. Some y.1) (same_Some x e h)
@@ -33,6 +34,7 @@ module _ {V : Type 0} where
   value-last [] name v = refl
   value-last (e ∷ es) name v = value-last es name v
 
+  -- to write over the value of a new entry that went last is to insert what is written
   pub write-last : (es : Entries V) (name : List ℕ) (v w : V) → get name es ≡ None
       → set_value_at (es ++ (name, v) ∷ []) (length es) w ≡ insert_entry es name w
   write-last es name v w absent = set_middle es [] name v w ∙ insert-missing name es w absent
@@ -44,9 +46,11 @@ module _ {V : Type 0} where
     pub occupied_within : o.place < length o.map.now
     occupied_within = at.within
 
+    -- the value of an entry that is there is the one at its place
     pub occupied_value : entry_value (Occupied o) ≡ slice_get (values_of o.map.now) o.place
     occupied_value = at.value
 
+    -- a value that is put at its place is inserted under its name
     pub occupied_writes : (v : V) → set_value_at o.map.now o.place v ≡ map_with_value (Occupied o) v
     occupied_writes v = insert-found (string_bytes o.name) o.map.now o.place v (sym o.found)
 
@@ -54,11 +58,14 @@ module _ {V : Type 0} where
     abbrev d : OccupiedEntry V
     d = with_entry_value o v
 
+    -- an insert ends in the same map, whether or not another value was put at its place before
     pub written_writes : (w : V) → map_with_value (Occupied d) w ≡ map_with_value (Occupied o) w
     written_writes w = sym (occupied_writes d w) ∙ set-twice o.map.now o.place v w ∙ occupied_writes o w
 
+    -- once a value was put at its place, it is the value of the entry
     pub written_value : entry_value (Occupied d) ≡ Some v
     written_value = occupied_value d ∙ value-set o.map.now o.place v (occupied_within o)
 
+    -- so with a value put at its place it is the entry that it was, once that is its value
     pub occupied_written : IsWritten (Occupied o) v (Occupied d)
     occupied_written = (refl, occupied_writes o v, refl, written_value, written_writes)

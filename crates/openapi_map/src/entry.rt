@@ -11,7 +11,9 @@ use crate::OrderedMap;
 /// A name that a map has or lacks, to read, insert or change its value.
 #[derive(Drop)]
 pub enum Entry<'a, V> {
+    /// The map has the name.
     Occupied(OccupiedEntry<'a, V>),
+    /// The map lacks the name.
     Vacant(VacantEntry<'a, V>),
 }
 

@@ -9,7 +9,7 @@ use crate::header::Header;
 use crate::read::read_encoding;
 use crate::write::write_encoding;
 use openapi_fields::{FromNode, Object, ToNode};
-use openapi_node::{Fault, Node, OrderedMap, Steps, View};
+use openapi_node::{Node, OrderedMap, Result, Steps, View};
 use openapi_values::{QueryStyle, ReferenceOr};
 use std::alloc::Global;
 
@@ -66,7 +66,7 @@ impl FromNode for Encoding {
 
     ghost form_of = { encoding_form };
 
-    fn from_view(alloc: Global, view: &View<'_>, steps: &mut Steps) -> Result<Encoding, Fault> {
+    fn from_view(alloc: Global, view: &View<'_>, steps: &mut Steps) -> Result<Encoding> {
         read_encoding(alloc, view, steps)
     }
 
@@ -74,7 +74,7 @@ impl FromNode for Encoding {
 }
 
 impl ToNode for Encoding {
-    fn to_node(&self, alloc: Global) -> Result<Node, Fault> {
+    fn to_node(&self, alloc: Global) -> Result<Node> {
         write_encoding(alloc, self)
     }
 

@@ -8,7 +8,7 @@ use crate::media_type::Content;
 use crate::read::read_format;
 use crate::write::write_format;
 use openapi_fields::{Object, Record, put_decided};
-use openapi_node::{Fault, Members, Node, Steps};
+use openapi_node::{Members, Node, Result, Steps};
 use openapi_schema::Schema;
 use openapi_values::ReferenceOr;
 use std::alloc::Global;
@@ -42,11 +42,11 @@ impl Object for ParameterSchemaOrContent {
 
 #[tactic(auto, unfolding(openapi_tables::specs::Tables::final_tables, openapi_tables::specs::Tables::tables_with))]
 impl Record for ParameterSchemaOrContent {
-    fn from_members(alloc: Global, members: &Members, steps: &mut Steps) -> Result<Self, Fault> {
+    fn from_members(alloc: Global, members: &Members, steps: &mut Steps) -> Result<Self> {
         read_format(alloc, members, steps)
     }
 
-    fn put_rows(&self, alloc: Global, out: &mut Members) -> Result<(), Fault> {
+    fn put_rows(&self, alloc: Global, out: &mut Members) -> Result<()> {
         put_decided(
             alloc,
             self,

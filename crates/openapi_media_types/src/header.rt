@@ -14,7 +14,7 @@ use crate::read::read_header;
 use crate::write::write_header;
 use openapi_fields::{FromNode, Object, Referable, ToNode};
 use openapi_metadata::Example;
-use openapi_node::{Fault, Node, OrderedMap, Steps, View};
+use openapi_node::{Node, OrderedMap, Result, Steps, View};
 use openapi_values::{HeaderStyle, ReferenceOr};
 use std::alloc::Global;
 
@@ -52,7 +52,7 @@ impl FromNode for Header {
 
     ghost form_of = { header_form };
 
-    fn from_view(alloc: Global, view: &View<'_>, steps: &mut Steps) -> Result<Header, Fault> {
+    fn from_view(alloc: Global, view: &View<'_>, steps: &mut Steps) -> Result<Header> {
         read_header(alloc, view, steps)
     }
 
@@ -60,7 +60,7 @@ impl FromNode for Header {
 }
 
 impl ToNode for Header {
-    fn to_node(&self, alloc: Global) -> Result<Node, Fault> {
+    fn to_node(&self, alloc: Global) -> Result<Node> {
         write_header(alloc, self)
     }
 
@@ -77,7 +77,7 @@ pub fn header_ref_from_node(
     alloc: Global,
     node: &Node,
     steps: &mut Steps,
-) -> Result<ReferenceOr<Header>, Fault>
+) -> Result<ReferenceOr<Header>>
     ensures reads { ReadAs (reference_form header_form) result (ref_to (by header)) node.now }
     ensures refuses { Refuses result (ref_to (by header)) node.now }
     ensures rises { steps.old + 1 ≤ steps.new }
@@ -88,7 +88,7 @@ pub fn header_ref_from_node(
 
 /// Writes a header or a reference to one. Err at a name of an extension that does not begin with `x-`, or for want of
 /// memory.
-pub fn header_ref_to_node(alloc: Global, value: &ReferenceOr<Header>) -> Result<Node, Fault>
+pub fn header_ref_to_node(alloc: Global, value: &ReferenceOr<Header>) -> Result<Node>
     ensures { WrittenAs (ref_to (by header)) (reference_form header_form value.now) result }
 {
     value.to_node(alloc)

@@ -14,7 +14,7 @@ use crate::read::read_media_type;
 use crate::write::write_media_type;
 use openapi_fields::{FromNode, Object, ToNode};
 use openapi_metadata::Example;
-use openapi_node::{Fault, Node, OrderedMap, Steps, View};
+use openapi_node::{Node, OrderedMap, Result, Steps, View};
 use openapi_schema::Schema;
 use openapi_values::ReferenceOr;
 use std::alloc::Global;
@@ -70,7 +70,7 @@ impl FromNode for MediaType {
 
     ghost form_of = { media_type_form };
 
-    fn from_view(alloc: Global, view: &View<'_>, steps: &mut Steps) -> Result<MediaType, Fault> {
+    fn from_view(alloc: Global, view: &View<'_>, steps: &mut Steps) -> Result<MediaType> {
         read_media_type(alloc, view, steps)
     }
 
@@ -78,7 +78,7 @@ impl FromNode for MediaType {
 }
 
 impl ToNode for MediaType {
-    fn to_node(&self, alloc: Global) -> Result<Node, Fault> {
+    fn to_node(&self, alloc: Global) -> Result<Node> {
         write_media_type(alloc, self)
     }
 
@@ -87,7 +87,7 @@ impl ToNode for MediaType {
 
 /// Reads a content: an object whose members are all Media Type Objects. Err names a rule that the tree breaks, at its
 /// place, or says that memory ran out.
-pub fn content_from_node(alloc: Global, node: &Node, steps: &mut Steps) -> Result<Content, Fault>
+pub fn content_from_node(alloc: Global, node: &Node, steps: &mut Steps) -> Result<Content>
     ensures reads { ReadAs (map_form media_type_form) result content node.now }
     ensures refuses { Refuses result content node.now }
     ensures rises { steps.old + 1 ≤ steps.new }
@@ -97,7 +97,7 @@ pub fn content_from_node(alloc: Global, node: &Node, steps: &mut Steps) -> Resul
 }
 
 /// Writes a content. Err at a name of an extension that does not begin with `x-`, or for want of memory.
-pub fn content_to_node(alloc: Global, value: &Content) -> Result<Node, Fault>
+pub fn content_to_node(alloc: Global, value: &Content) -> Result<Node>
     ensures { WrittenAs content (map_form media_type_form value.now) result }
 {
     value.to_node(alloc)

@@ -5,6 +5,7 @@
 ghost use Rattle.std.specs.Prelude.{◌≡◌, ◌+◌, ◌*◌, ◌≤◌, Some, codes};
 ghost use Rattle.openapi_node.specs.Tree.{members_of, members_size, object, size_of};
 ghost use Rattle.openapi_node.specs.View.{shown};
+ghost use Rattle.openapi_tables.specs.Kind.{TableName};
 ghost use Rattle.openapi_tables.specs.Kind as kinds;
 ghost use Rattle.openapi_tables.specs.ByRow.{is_named, row_where, row_weight, rows_asked, rows_weight};
 ghost use Rattle.openapi_tables.specs.Tables.{content, final_tables};
@@ -22,17 +23,13 @@ use openapi_fields::{
     Either, FromNode, as_item, at_name, decider, extensions, members_at, members_shown, nullable,
     optional, or_implied, put_read, read_reference,
 };
-use openapi_node::{Fault, Members, Node, OrderedMap, Steps, View};
+use openapi_node::{Members, Node, OrderedMap, Result, Steps, View};
 use openapi_values::ReferenceOr;
 use std::alloc::Global;
 
 /// Reads a header or a reference to one. An object with a text under `$ref` is a reference, whatever else it has.
 #[cycle(read)]
-fn read_header_ref(
-    alloc: Global,
-    view: &View<'_>,
-    steps: &mut Steps,
-) -> Result<ReferenceOr<Header>, Fault>
+fn read_header_ref(alloc: Global, view: &View<'_>, steps: &mut Steps) -> Result<ReferenceOr<Header>>
     ensures reads { ReadAs (reference_form header_form) result (kinds.ref_to (kinds.by kinds.header)) (shown view.now) }
     ensures count { RisesBelow steps.old steps.new (3 * size_of (shown view.now) + 1) }
 {
@@ -45,11 +42,7 @@ fn read_header_ref(
 
 /// Reads a header.
 #[cycle(read)]
-pub(crate) fn read_header(
-    alloc: Global,
-    view: &View<'_>,
-    steps: &mut Steps,
-) -> Result<Header, Fault>
+pub(crate) fn read_header(alloc: Global, view: &View<'_>, steps: &mut Steps) -> Result<Header>
     ensures reads { ReadAs header_form result (kinds.by kinds.header) (shown view.now) }
     ensures count { RisesBelow steps.old steps.new (3 * size_of (shown view.now)) }
 {
@@ -61,7 +54,7 @@ pub(crate) fn read_header(
 
 /// Reads a header among the members of an object, what is plain first and what is large last.
 #[cycle(read)]
-fn header_of(alloc: Global, members: &Members, steps: &mut Steps) -> Result<Header, Fault>
+fn header_of(alloc: Global, members: &Members, steps: &mut Steps) -> Result<Header>
     ensures reads { RowsReadAs header_fields result (kinds.by kinds.header) (members_of members.now) }
     ensures rises { steps.old ≤ steps.new }
     ensures count { steps.new ≤ steps.old + 3 * rows_weight (rows_asked final_tables (kinds.by kinds.header))
@@ -94,7 +87,7 @@ pub fn read_format(
     alloc: Global,
     members: &Members,
     steps: &mut Steps,
-) -> Result<ParameterSchemaOrContent, Fault>
+) -> Result<ParameterSchemaOrContent>
     ensures reads { (i : TableName) → row_where (is_named (codes "schema")) (final_tables i) ≡ Some format_row
         → RowReadAs format_form result (kinds.by i) format_row (members_of members.now) }
     ensures count { RisesBy steps.old steps.new (3 * row_weight format_row (members_of members.now)) }
@@ -119,7 +112,7 @@ pub fn read_format(
 
 /// Reads a content.
 #[cycle(read)]
-fn read_content(alloc: Global, view: &View<'_>, steps: &mut Steps) -> Result<Content, Fault>
+fn read_content(alloc: Global, view: &View<'_>, steps: &mut Steps) -> Result<Content>
     ensures reads { ReadAs (map_form media_type_form) result content (shown view.now) }
     ensures count { RisesBelow steps.old steps.new (3 * size_of (shown view.now)) }
 {
@@ -131,7 +124,7 @@ fn read_content(alloc: Global, view: &View<'_>, steps: &mut Steps) -> Result<Con
 
 /// The media types among the members of an object, in order.
 #[cycle(read)]
-fn media_types_of(alloc: Global, members: &Members, steps: &mut Steps) -> Result<Content, Fault>
+fn media_types_of(alloc: Global, members: &Members, steps: &mut Steps) -> Result<Content>
     ensures reads { ReadAs (map_form media_type_form) result content
         (object (members_of members.now)) }
     ensures count { RisesBy steps.old steps.new (3 * members_size (members_of members.now)) }
@@ -159,7 +152,7 @@ pub(crate) fn read_media_type(
     alloc: Global,
     view: &View<'_>,
     steps: &mut Steps,
-) -> Result<MediaType, Fault>
+) -> Result<MediaType>
     ensures reads { ReadAs media_type_form result (kinds.by kinds.media_type) (shown view.now) }
     ensures count { RisesBelow steps.old steps.new (3 * size_of (shown view.now)) }
 {
@@ -171,7 +164,7 @@ pub(crate) fn read_media_type(
 
 /// Reads a media type among the members of an object, what is large last.
 #[cycle(read)]
-fn media_type_of(alloc: Global, members: &Members, steps: &mut Steps) -> Result<MediaType, Fault>
+fn media_type_of(alloc: Global, members: &Members, steps: &mut Steps) -> Result<MediaType>
     ensures reads { RowsReadAs media_type_fields result (kinds.by kinds.media_type) (members_of members.now) }
     ensures count { RisesBy steps.old steps.new
         (3 * rows_weight (rows_asked final_tables (kinds.by kinds.media_type)) (members_of members.now)) }
@@ -196,7 +189,7 @@ fn read_encodings(
     alloc: Global,
     members: &Members,
     steps: &mut Steps,
-) -> Result<OrderedMap<Encoding>, Fault>
+) -> Result<OrderedMap<Encoding>>
     ensures reads { RowReadAs (map_form encoding_form) result (kinds.by kinds.media_type)
         (kinds.row (codes "encoding") kinds.listed (kinds.map_of (kinds.by kinds.encoding))) (members_of members.now) }
     ensures count { RisesBy steps.old steps.new
@@ -211,11 +204,7 @@ fn read_encodings(
 
 /// The encodings among the members of an object, in order.
 #[cycle(read)]
-fn encodings_of(
-    alloc: Global,
-    members: &Members,
-    steps: &mut Steps,
-) -> Result<OrderedMap<Encoding>, Fault>
+fn encodings_of(alloc: Global, members: &Members, steps: &mut Steps) -> Result<OrderedMap<Encoding>>
     ensures reads { ReadAs (map_form encoding_form) result (kinds.map_of (kinds.by kinds.encoding))
         (object (members_of members.now)) }
     ensures count { RisesBy steps.old steps.new (3 * members_size (members_of members.now)) }
@@ -239,11 +228,7 @@ fn encodings_of(
 
 /// Reads an encoding.
 #[cycle(read)]
-pub(crate) fn read_encoding(
-    alloc: Global,
-    view: &View<'_>,
-    steps: &mut Steps,
-) -> Result<Encoding, Fault>
+pub(crate) fn read_encoding(alloc: Global, view: &View<'_>, steps: &mut Steps) -> Result<Encoding>
     ensures reads { ReadAs encoding_form result (kinds.by kinds.encoding) (shown view.now) }
     ensures count { RisesBelow steps.old steps.new (3 * size_of (shown view.now)) }
 {
@@ -255,7 +240,7 @@ pub(crate) fn read_encoding(
 
 /// Reads an encoding among the members of an object, what is plain first.
 #[cycle(read)]
-fn encoding_of(alloc: Global, members: &Members, steps: &mut Steps) -> Result<Encoding, Fault>
+fn encoding_of(alloc: Global, members: &Members, steps: &mut Steps) -> Result<Encoding>
     ensures reads { RowsReadAs encoding_fields result (kinds.by kinds.encoding) (members_of members.now) }
     ensures count { RisesBy steps.old steps.new
         (3 * rows_weight (rows_asked final_tables (kinds.by kinds.encoding)) (members_of members.now)) }
@@ -282,7 +267,7 @@ fn read_headers(
     alloc: Global,
     members: &Members,
     steps: &mut Steps,
-) -> Result<OrderedMap<ReferenceOr<Header>>, Fault>
+) -> Result<OrderedMap<ReferenceOr<Header>>>
     ensures reads { RowReadAs (map_form (reference_form header_form)) result (kinds.by kinds.encoding)
         (kinds.row (codes "headers") kinds.listed (kinds.map_of (kinds.ref_to (kinds.by kinds.header))))
         (members_of members.now) }
@@ -302,7 +287,7 @@ fn headers_of(
     alloc: Global,
     members: &Members,
     steps: &mut Steps,
-) -> Result<OrderedMap<ReferenceOr<Header>>, Fault>
+) -> Result<OrderedMap<ReferenceOr<Header>>>
     ensures reads { ReadAs (map_form (reference_form header_form)) result (kinds.map_of (kinds.ref_to (kinds.by kinds.header)))
         (object (members_of members.now)) }
     ensures count { RisesBy steps.old steps.new (3 * members_size (members_of members.now)) }

@@ -21,13 +21,13 @@ use openapi_fields::{
     ToNode, put_decided, put_extensions, put_implied, put_nullable, put_optional, put_row,
     put_written, whole_object, write_reference,
 };
-use openapi_node::{Fault, Members, Node, OrderedMap};
+use openapi_node::{Members, Node, OrderedMap, Result};
 use openapi_values::ReferenceOr;
 use std::alloc::Global;
 
 /// Writes a header or a reference to one.
 #[cycle(write)]
-fn write_header_ref(alloc: Global, value: &ReferenceOr<Header>) -> Result<Node, Fault>
+fn write_header_ref(alloc: Global, value: &ReferenceOr<Header>) -> Result<Node>
     ensures { WrittenAs (kinds.ref_to (kinds.by kinds.header)) (reference_form header_form value.now) result }
 {
     match value {
@@ -38,7 +38,7 @@ fn write_header_ref(alloc: Global, value: &ReferenceOr<Header>) -> Result<Node, 
 
 /// Writes a header.
 #[cycle(write)]
-pub(crate) fn write_header(alloc: Global, header: &Header) -> Result<Node, Fault>
+pub(crate) fn write_header(alloc: Global, header: &Header) -> Result<Node>
     ensures { WrittenAs (kinds.by kinds.header) (header_form header.now) result }
 {
     whole_object(header_members(alloc, header))
@@ -46,7 +46,7 @@ pub(crate) fn write_header(alloc: Global, header: &Header) -> Result<Node, Fault
 
 /// The members that a header is written as.
 #[cycle(write)]
-fn header_members(alloc: Global, header: &Header) -> Result<Members, Fault>
+fn header_members(alloc: Global, header: &Header) -> Result<Members>
     ensures { RowsWritten (header_slots header.now) result }
 {
     let mut out = OrderedMap::new(alloc);
@@ -70,7 +70,7 @@ fn header_members(alloc: Global, header: &Header) -> Result<Members, Fault>
 
 /// Writes what a parameter or a header is described by, to stand under its name ([`format_name`]).
 #[cycle(write)]
-pub fn write_format(alloc: Global, format: &ParameterSchemaOrContent) -> Result<Node, Fault>
+pub fn write_format(alloc: Global, format: &ParameterSchemaOrContent) -> Result<Node>
     ensures { WrittenAs (cond (same_text (codes "schema") (deciding_name (format_form format.now))) schema_ref content)
         (deciding_value (format_form format.now)) result }
 {
@@ -82,7 +82,7 @@ pub fn write_format(alloc: Global, format: &ParameterSchemaOrContent) -> Result<
 
 /// Writes a content.
 #[cycle(write)]
-fn write_content(alloc: Global, values: &Content) -> Result<Node, Fault>
+fn write_content(alloc: Global, values: &Content) -> Result<Node>
     ensures { WrittenAs content (map_form media_type_form values.now) result }
 {
     let mut out = OrderedMap::new(alloc);
@@ -98,7 +98,7 @@ fn write_content(alloc: Global, values: &Content) -> Result<Node, Fault>
 
 /// Writes a media type.
 #[cycle(write)]
-pub(crate) fn write_media_type(alloc: Global, media_type: &MediaType) -> Result<Node, Fault>
+pub(crate) fn write_media_type(alloc: Global, media_type: &MediaType) -> Result<Node>
     ensures { WrittenAs (kinds.by kinds.media_type) (media_type_form media_type.now) result }
 {
     whole_object(media_type_members(alloc, media_type))
@@ -106,7 +106,7 @@ pub(crate) fn write_media_type(alloc: Global, media_type: &MediaType) -> Result<
 
 /// The members that a media type is written as.
 #[cycle(write)]
-fn media_type_members(alloc: Global, media_type: &MediaType) -> Result<Members, Fault>
+fn media_type_members(alloc: Global, media_type: &MediaType) -> Result<Members>
     ensures { RowsWritten (media_type_slots media_type.now) result }
 {
     let mut out = OrderedMap::new(alloc);
@@ -132,7 +132,7 @@ fn media_type_members(alloc: Global, media_type: &MediaType) -> Result<Members, 
 
 /// Writes encodings by the names of properties; nothing where there are none.
 #[cycle(write)]
-fn write_encodings(alloc: Global, values: &OrderedMap<Encoding>) -> Result<Option<Node>, Fault>
+fn write_encodings(alloc: Global, values: &OrderedMap<Encoding>) -> Result<Option<Node>>
     ensures { MemberWrittenAs kinds.listed (kinds.map_of (kinds.by kinds.encoding)) (map_form encoding_form values.now)
         result }
 {
@@ -152,7 +152,7 @@ fn write_encodings(alloc: Global, values: &OrderedMap<Encoding>) -> Result<Optio
 
 /// Writes an encoding.
 #[cycle(write)]
-pub(crate) fn write_encoding(alloc: Global, encoding: &Encoding) -> Result<Node, Fault>
+pub(crate) fn write_encoding(alloc: Global, encoding: &Encoding) -> Result<Node>
     ensures { WrittenAs (kinds.by kinds.encoding) (encoding_form encoding.now) result }
 {
     whole_object(encoding_members(alloc, encoding))
@@ -160,7 +160,7 @@ pub(crate) fn write_encoding(alloc: Global, encoding: &Encoding) -> Result<Node,
 
 /// The members that an encoding is written as.
 #[cycle(write)]
-fn encoding_members(alloc: Global, encoding: &Encoding) -> Result<Members, Fault>
+fn encoding_members(alloc: Global, encoding: &Encoding) -> Result<Members>
     ensures { RowsWritten (encoding_slots encoding.now) result }
 {
     let mut out = OrderedMap::new(alloc);
@@ -193,10 +193,7 @@ fn encoding_members(alloc: Global, encoding: &Encoding) -> Result<Members, Fault
 
 /// Writes headers and references by names; nothing where there are none.
 #[cycle(write)]
-fn write_headers(
-    alloc: Global,
-    values: &OrderedMap<ReferenceOr<Header>>,
-) -> Result<Option<Node>, Fault>
+fn write_headers(alloc: Global, values: &OrderedMap<ReferenceOr<Header>>) -> Result<Option<Node>>
     ensures { MemberWrittenAs kinds.listed (kinds.map_of (kinds.ref_to (kinds.by kinds.header)))
         (map_form (reference_form header_form) values.now) result }
 {

@@ -4,7 +4,7 @@ ghost use Rattle.openapi_tables.specs.Kind.{contact};
 ghost use Rattle.openapi_metadata.specs.Objects.{contact_rows};
 
 use openapi_fields::{Object, Record, extensions, optional, put_extensions, put_optional};
-use openapi_node::{Fault, Members, Node, OrderedMap, Steps};
+use openapi_node::{Members, Node, OrderedMap, Result, Steps};
 use std::alloc::Global;
 
 /// The Contact Object (OpenAPI 3.0.3, section 4.7.3): contact information of the API.
@@ -44,7 +44,7 @@ impl Object for Contact {
 }
 
 impl Record for Contact {
-    fn from_members(alloc: Global, members: &Members, steps: &mut Steps) -> Result<Self, Fault> {
+    fn from_members(alloc: Global, members: &Members, steps: &mut Steps) -> Result<Self> {
         Ok(Contact {
             name: optional::<Self, _>(alloc, members, "name", steps)?,
             url: optional::<Self, _>(alloc, members, "url", steps)?,
@@ -53,7 +53,7 @@ impl Record for Contact {
         })
     }
 
-    fn put_rows(&self, alloc: Global, out: &mut Members) -> Result<(), Fault> {
+    fn put_rows(&self, alloc: Global, out: &mut Members) -> Result<()> {
         put_optional(alloc, self, out, "name", &self.name)?;
         put_optional(alloc, self, out, "url", &self.url)?;
         put_optional(alloc, self, out, "email", &self.email)?;

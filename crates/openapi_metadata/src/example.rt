@@ -11,7 +11,7 @@ ghost use Rattle.openapi_metadata.specs.Objects.{example_rows};
 use openapi_fields::{
     FromNode, Object, Record, Referable, ToNode, extensions, optional, put_extensions, put_optional,
 };
-use openapi_node::{Fault, Members, Node, OrderedMap, Steps};
+use openapi_node::{Members, Node, OrderedMap, Result, Steps};
 use openapi_values::ReferenceOr;
 use std::alloc::Global;
 
@@ -57,7 +57,7 @@ impl Object for Example {
 }
 
 impl Record for Example {
-    fn from_members(alloc: Global, members: &Members, steps: &mut Steps) -> Result<Self, Fault> {
+    fn from_members(alloc: Global, members: &Members, steps: &mut Steps) -> Result<Self> {
         Ok(Example {
             summary: optional::<Self, _>(alloc, members, "summary", steps)?,
             description: optional::<Self, _>(alloc, members, "description", steps)?,
@@ -67,7 +67,7 @@ impl Record for Example {
         })
     }
 
-    fn put_rows(&self, alloc: Global, out: &mut Members) -> Result<(), Fault> {
+    fn put_rows(&self, alloc: Global, out: &mut Members) -> Result<()> {
         put_optional(alloc, self, out, "summary", &self.summary)?;
         put_optional(alloc, self, out, "description", &self.description)?;
         put_optional(alloc, self, out, "value", &self.value)?;
@@ -86,7 +86,7 @@ pub fn example_ref_from_node(
     alloc: Global,
     node: &Node,
     steps: &mut Steps,
-) -> Result<ReferenceOr<Example>, Fault>
+) -> Result<ReferenceOr<Example>>
     ensures reads { ReadAs (reference_form (record_form example_rows)) result (ref_to (by example)) node.now }
     ensures refuses { Refuses result (ref_to (by example)) node.now }
     ensures rises { steps.old + 1 ≤ steps.new }
@@ -97,7 +97,7 @@ pub fn example_ref_from_node(
 
 /// Writes an example or a reference to one. Err at a name of an extension that does not begin with `x-`, or for want of
 /// memory.
-pub fn example_ref_to_node(alloc: Global, value: &ReferenceOr<Example>) -> Result<Node, Fault>
+pub fn example_ref_to_node(alloc: Global, value: &ReferenceOr<Example>) -> Result<Node>
     ensures { WrittenAs (ref_to (by example)) (reference_form (record_form example_rows) value.now) result }
 {
     value.to_node(alloc)

@@ -8,7 +8,7 @@ use crate::license::License;
 use openapi_fields::{
     Object, Record, extensions, optional, put_extensions, put_optional, put_required, required,
 };
-use openapi_node::{Fault, Members, Node, OrderedMap, Steps};
+use openapi_node::{Members, Node, OrderedMap, Result, Steps};
 use std::alloc::Global;
 
 /// The Info Object (OpenAPI 3.0.3, section 4.7.2): metadata about the API.
@@ -60,7 +60,7 @@ impl Object for Info {
 }
 
 impl Record for Info {
-    fn from_members(alloc: Global, members: &Members, steps: &mut Steps) -> Result<Self, Fault> {
+    fn from_members(alloc: Global, members: &Members, steps: &mut Steps) -> Result<Self> {
         Ok(Info {
             title: required::<Self, _>(alloc, members, "title", steps)?,
             description: optional::<Self, _>(alloc, members, "description", steps)?,
@@ -72,7 +72,7 @@ impl Record for Info {
         })
     }
 
-    fn put_rows(&self, alloc: Global, out: &mut Members) -> Result<(), Fault> {
+    fn put_rows(&self, alloc: Global, out: &mut Members) -> Result<()> {
         put_required(alloc, self, out, "title", &self.title)?;
         put_optional(alloc, self, out, "description", &self.description)?;
         put_optional(alloc, self, out, "termsOfService", &self.terms_of_service)?;

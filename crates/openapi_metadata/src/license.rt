@@ -6,7 +6,7 @@ ghost use Rattle.openapi_metadata.specs.Objects.{license_rows};
 use openapi_fields::{
     Object, Record, extensions, optional, put_extensions, put_optional, put_required, required,
 };
-use openapi_node::{Fault, Members, Node, OrderedMap, Steps};
+use openapi_node::{Members, Node, OrderedMap, Result, Steps};
 use std::alloc::Global;
 
 /// The License Object (OpenAPI 3.0.3, section 4.7.4): license information of the API.
@@ -42,7 +42,7 @@ impl Object for License {
 }
 
 impl Record for License {
-    fn from_members(alloc: Global, members: &Members, steps: &mut Steps) -> Result<Self, Fault> {
+    fn from_members(alloc: Global, members: &Members, steps: &mut Steps) -> Result<Self> {
         Ok(License {
             name: required::<Self, _>(alloc, members, "name", steps)?,
             url: optional::<Self, _>(alloc, members, "url", steps)?,
@@ -50,7 +50,7 @@ impl Record for License {
         })
     }
 
-    fn put_rows(&self, alloc: Global, out: &mut Members) -> Result<(), Fault> {
+    fn put_rows(&self, alloc: Global, out: &mut Members) -> Result<()> {
         put_required(alloc, self, out, "name", &self.name)?;
         put_optional(alloc, self, out, "url", &self.url)?;
         put_extensions(alloc, self, out, &self.extensions)

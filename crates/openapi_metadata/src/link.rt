@@ -14,7 +14,7 @@ use openapi_fields::{
     FromNode, Object, Record, Referable, ToNode, extensions, optional, or_implied, put_extensions,
     put_implied, put_optional,
 };
-use openapi_node::{Fault, Members, Node, OrderedMap, Steps};
+use openapi_node::{Members, Node, OrderedMap, Result, Steps};
 use openapi_values::ReferenceOr;
 use std::alloc::Global;
 
@@ -43,7 +43,7 @@ impl Object for Link {
 }
 
 impl Record for Link {
-    fn from_members(alloc: Global, members: &Members, steps: &mut Steps) -> Result<Self, Fault> {
+    fn from_members(alloc: Global, members: &Members, steps: &mut Steps) -> Result<Self> {
         Ok(Link {
             description: optional::<Self, _>(alloc, members, "description", steps)?,
             operation: operation::<Self>(alloc, members, steps)?,
@@ -54,7 +54,7 @@ impl Record for Link {
         })
     }
 
-    fn put_rows(&self, alloc: Global, out: &mut Members) -> Result<(), Fault> {
+    fn put_rows(&self, alloc: Global, out: &mut Members) -> Result<()> {
         put_optional(alloc, self, out, "description", &self.description)?;
         put_operation(alloc, self, out, &self.operation)?;
         put_optional(alloc, self, out, "requestBody", &self.request_body)?;
@@ -74,7 +74,7 @@ pub fn link_ref_from_node(
     alloc: Global,
     node: &Node,
     steps: &mut Steps,
-) -> Result<ReferenceOr<Link>, Fault>
+) -> Result<ReferenceOr<Link>>
     ensures reads { ReadAs (reference_form (record_form link_rows)) result (ref_to (by link)) node.now }
     ensures refuses { Refuses result (ref_to (by link)) node.now }
     ensures rises { steps.old + 1 ≤ steps.new }
@@ -85,7 +85,7 @@ pub fn link_ref_from_node(
 
 /// Writes a link or a reference to one. Err at a name of an extension that does not begin with `x-`, or for want of
 /// memory.
-pub fn link_ref_to_node(alloc: Global, value: &ReferenceOr<Link>) -> Result<Node, Fault>
+pub fn link_ref_to_node(alloc: Global, value: &ReferenceOr<Link>) -> Result<Node>
     ensures { WrittenAs (ref_to (by link)) (reference_form (record_form link_rows) value.now) result }
 {
     value.to_node(alloc)

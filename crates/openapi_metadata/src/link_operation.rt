@@ -9,7 +9,7 @@ ghost use Rattle.openapi_fields.specs.Returned.{RowReadAs, NotWritable, RisesBy}
 ghost use Rattle.openapi_metadata.specs.Links.{operation_row, operation_form, link_operation_rows};
 
 use openapi_fields::{Either, HasSlots, Object, Record, decided, put_first, put_second};
-use openapi_node::{Fault, Members, Node, Steps};
+use openapi_node::{Members, Node, Result, Steps};
 use std::alloc::Global;
 
 /// The operation that a Link Object (OpenAPI 3.0.3, section 4.7.20) leads to. OpenAPI lets a link name it in one way only;
@@ -27,7 +27,7 @@ pub(crate) fn operation<R: Object>(
     alloc: Global,
     members: &Members,
     steps: &mut Steps,
-) -> Result<LinkOperation, Fault>
+) -> Result<LinkOperation>
     requires row { row_where (is_named (codes "operationRef")) (final_tables R.table)
         ≡ Some operation_row }
     ensures reads { RowReadAs operation_form result (by R.table) operation_row (members_of members.now) }
@@ -46,7 +46,7 @@ pub(crate) fn put_operation<R: HasSlots>(
     owner: &R,
     out: &mut Members,
     operation: &LinkOperation,
-) -> Result<(), Fault>
+) -> Result<()>
     requires slot { slot_where (is_named (codes "operationRef")) (R.slots_of owner.now)
         ≡ Some (operation_row, operation_form operation.now) }
     requires before { IsWritten final_tables (before (is_named (codes "operationRef")) (R.slots_of owner.now)) out.old }
@@ -73,11 +73,11 @@ impl Object for LinkOperation {
 }
 
 impl Record for LinkOperation {
-    fn from_members(alloc: Global, members: &Members, steps: &mut Steps) -> Result<Self, Fault> {
+    fn from_members(alloc: Global, members: &Members, steps: &mut Steps) -> Result<Self> {
         operation::<Self>(alloc, members, steps)
     }
 
-    fn put_rows(&self, alloc: Global, out: &mut Members) -> Result<(), Fault> {
+    fn put_rows(&self, alloc: Global, out: &mut Members) -> Result<()> {
         put_operation(alloc, self, out, self)
     }
 }

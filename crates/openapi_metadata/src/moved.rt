@@ -7,11 +7,11 @@ ghost use Rattle.openapi_tables.specs.Lists.{every};
 ghost use Rattle.openapi_fields.specs.Entries.{EntriesNotWritable};
 
 use openapi_fields::{Extensions, Names, append};
-use openapi_node::{Cause, Fault, Members, Node};
+use openapi_node::{Cause, Fault, Members, Node, Result};
 use std::alloc::Global;
 
 /// Asks that each name is one of an extension.
-fn check_names(alloc: Global, values: &Members) -> Result<(), Fault>
+fn check_names(alloc: Global, values: &Members) -> Result<()>
     ensures ok { OnOk result (every (λ e. kinds.in_class kinds.extensions e.0) values.now ≡ true) }
     ensures err { IfErr result (λ f. EntriesNotWritable (kinds.in_class kinds.extensions) leaf kinds.any_tree f values.now) }
 {
@@ -26,11 +26,7 @@ fn check_names(alloc: Global, values: &Members) -> Result<(), Fault>
 
 /// Puts extensions behind the members that are there, of which none has a name of an extension. It is refused where
 /// the name of an extension does not begin with `x-`, at that name, or for want of memory, with the empty place.
-pub(crate) fn move_extensions(
-    alloc: Global,
-    out: &mut Members,
-    values: Members,
-) -> Result<(), Fault>
+pub(crate) fn move_extensions(alloc: Global, out: &mut Members, values: Members) -> Result<()>
     requires { (n : List ℕ) → kinds.in_class kinds.extensions n ≡ true → get n out.old ≡ None }
     ensures ok { OnOk result (out.new ≡ out.old ++ values) }
     ensures names { OnOk result (every (λ e. kinds.in_class kinds.extensions e.0) values ≡ true) }

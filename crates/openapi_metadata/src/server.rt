@@ -7,7 +7,7 @@ use crate::server_variable::ServerVariable;
 use openapi_fields::{
     Object, Record, extensions, optional, put_extensions, put_optional, put_required, required,
 };
-use openapi_node::{Fault, Members, Node, OrderedMap, Steps};
+use openapi_node::{Members, Node, OrderedMap, Result, Steps};
 use std::alloc::Global;
 
 /// The Server Object (OpenAPI 3.0.3, section 4.7.5): a server that offers the API.
@@ -48,7 +48,7 @@ impl Object for Server {
 }
 
 impl Record for Server {
-    fn from_members(alloc: Global, members: &Members, steps: &mut Steps) -> Result<Self, Fault> {
+    fn from_members(alloc: Global, members: &Members, steps: &mut Steps) -> Result<Self> {
         Ok(Server {
             url: required::<Self, _>(alloc, members, "url", steps)?,
             description: optional::<Self, _>(alloc, members, "description", steps)?,
@@ -57,7 +57,7 @@ impl Record for Server {
         })
     }
 
-    fn put_rows(&self, alloc: Global, out: &mut Members) -> Result<(), Fault> {
+    fn put_rows(&self, alloc: Global, out: &mut Members) -> Result<()> {
         put_required(alloc, self, out, "url", &self.url)?;
         put_optional(alloc, self, out, "description", &self.description)?;
         put_optional(alloc, self, out, "variables", &self.variables)?;

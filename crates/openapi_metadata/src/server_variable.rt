@@ -7,7 +7,7 @@ use openapi_fields::{
     Object, Record, extensions, nullable, or_implied, put_extensions, put_implied, put_nullable,
     put_required, required,
 };
-use openapi_node::{Fault, Members, Node, OrderedMap, Steps};
+use openapi_node::{Members, Node, OrderedMap, Result, Steps};
 use std::alloc::Global;
 
 /// The Server Variable Object (OpenAPI 3.0.3, section 4.7.6): a variable of the URL of a server.
@@ -47,7 +47,7 @@ impl Object for ServerVariable {
 }
 
 impl Record for ServerVariable {
-    fn from_members(alloc: Global, members: &Members, steps: &mut Steps) -> Result<Self, Fault> {
+    fn from_members(alloc: Global, members: &Members, steps: &mut Steps) -> Result<Self> {
         Ok(ServerVariable {
             enumeration: or_implied::<Self, _>(alloc, members, "enum", steps)?,
             default: required::<Self, _>(alloc, members, "default", steps)?,
@@ -56,7 +56,7 @@ impl Record for ServerVariable {
         })
     }
 
-    fn put_rows(&self, alloc: Global, out: &mut Members) -> Result<(), Fault> {
+    fn put_rows(&self, alloc: Global, out: &mut Members) -> Result<()> {
         put_implied(alloc, self, out, "enum", &self.enumeration)?;
         put_required(alloc, self, out, "default", &self.default)?;
         put_nullable(alloc, self, out, "description", &self.description)?;

@@ -14,7 +14,7 @@ use openapi_fields::{
     IntoNode, Object, Record, ToNode, extensions, optional, put_extensions, put_optional,
     put_required, required,
 };
-use openapi_node::{Fault, Members, Node, OrderedMap, Steps};
+use openapi_node::{Members, Node, OrderedMap, Result, Steps};
 use openapi_schema_annotations::ExternalDocumentation;
 use std::alloc::Global;
 
@@ -50,7 +50,7 @@ impl Tag {
 
 impl Tag {
     /// Writes the rows but for the extensions into an object that has no members yet.
-    fn put_named(&self, alloc: Global, out: &mut Members) -> Result<(), Fault>
+    fn put_named(&self, alloc: Global, out: &mut Members) -> Result<()>
         requires { IsWritten final_tables [] out.old }
         ensures ok { OnOk result (IsWritten final_tables
             (before (is_class kinds.extensions) (record_slots tag tag_rows self.now)) out.new) }
@@ -76,7 +76,7 @@ impl Object for Tag {
 }
 
 impl Record for Tag {
-    fn from_members(alloc: Global, members: &Members, steps: &mut Steps) -> Result<Self, Fault> {
+    fn from_members(alloc: Global, members: &Members, steps: &mut Steps) -> Result<Self> {
         Ok(Tag {
             name: required::<Self, _>(alloc, members, "name", steps)?,
             description: optional::<Self, _>(alloc, members, "description", steps)?,
@@ -85,7 +85,7 @@ impl Record for Tag {
         })
     }
 
-    fn put_rows(&self, alloc: Global, out: &mut Members) -> Result<(), Fault> {
+    fn put_rows(&self, alloc: Global, out: &mut Members) -> Result<()> {
         self.put_named(alloc, out)?;
         put_extensions(alloc, self, out, &self.extensions)
     }
@@ -93,7 +93,7 @@ impl Record for Tag {
 
 /// The extensions of a tag are moved.
 impl IntoNode for Tag {
-    fn into_node(self, alloc: Global) -> Result<Node, Fault> {
+    fn into_node(self, alloc: Global) -> Result<Node> {
         let mut out = OrderedMap::new(alloc);
         match self.put_named(alloc, &mut out) {
             Ok(()) => match move_extensions(alloc, &mut out, self.into_extensions()) {

@@ -34,9 +34,11 @@ module _ (ts us : List Tree) (same : data_of (list (items_of ts)) ≡ data_of (l
   same_items : items_data (items_of ts) ≡ items_data (items_of us)
   same_items = cc
 
+  -- they are as long
   pub same_length : length ts ≡ length us
   same_length = sym (items_len-items_data ts) ∙ ap items_len same_items ∙ items_len-items_data us
 
+  -- and their items at an index have the same data
   pub same_item : (i : ℕ) (t u : Tree) → i < length ts → t ≡ get_or ts i t → u ≡ get_or us i u → data_of t ≡ data_of u
   same_item i t u h e f =
       let found : Some (data_of (get_or ts i t)) ≡ Some (data_of (get_or us i u)) =

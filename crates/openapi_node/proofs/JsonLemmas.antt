@@ -41,6 +41,8 @@ module _ (step : Step) (inside outside : Data) (below above : Fault) (up : GoesU
     there = ap (λ p. data_at p outside) s.1 ∙ goes (place_of below) ∙ w.there;
   }
 
+  -- a refusal of data inside, for want of memory or for a number that is not whole, is one of the
+  -- data around it
   pub goes_up : ((p : List Step) → data_at (step ∷ p) outside ≡ data_at p inside)
       → IsMemory below ⊎ IsNotWhole inside below → IsMemory above ⊎ IsNotWhole outside above
   goes_up goes (inl m) = inl (up.keeps_memory m)

@@ -40,6 +40,7 @@ no_float-put k d (json.member l c ms) e f =
     (both (has_float c) _ here (no_float-put k d ms e rest))
 
 mutual
+  -- no number in the data of a tree is a float
   pub no_float-data_of : (t : Tree) → has_float (data_of t) ≡ false
   no_float-data_of null = refl
   no_float-data_of (flag b) = refl

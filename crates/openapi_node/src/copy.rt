@@ -4,7 +4,7 @@ ghost use Rattle.openapi_node.specs.Fault.{IsMemory};
 ghost use Rattle.openapi_node.specs.View.{shown};
 ghost use Rattle.openapi_node.specs.Tree.{size_of, items_size, members_size, items_of, members_of};
 
-use crate::fault::Fault;
+use crate::fault::{Fault, Result};
 use crate::node::{Node, View};
 use crate::steps::Steps;
 use openapi_map::OrderedMap;
@@ -15,7 +15,7 @@ impl Node {
     /// refusal at most once.
     ///
     /// The one cause is [`Cause::Memory`](crate::Cause), with the empty place: a growth was refused.
-    pub fn copy(&self, alloc: Global, steps: &mut Steps) -> Result<Node, Fault>
+    pub fn copy(&self, alloc: Global, steps: &mut Steps) -> Result<Node>
         ensures ok { IfOk result (λ n. n ≡ self.now) }
         ensures counted { OnOk result (steps.new ≡ steps.old + size_of self.now) }
         ensures rises { steps.old ≤ steps.new }
@@ -33,7 +33,7 @@ impl Node {
 /// on a refusal at most once.
 ///
 /// The one cause is [`Cause::Memory`](crate::Cause), with the empty place: a growth was refused.
-pub fn copy_shown(alloc: Global, view: &View<'_>, steps: &mut Steps) -> Result<Node, Fault>
+pub fn copy_shown(alloc: Global, view: &View<'_>, steps: &mut Steps) -> Result<Node>
     ensures ok { IfOk result (λ n. n ≡ shown view.now) }
     ensures counted { OnOk result (steps.new + 1 ≡ steps.old + size_of (shown view.now)) }
     ensures rises { steps.old ≤ steps.new }

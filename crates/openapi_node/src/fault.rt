@@ -97,6 +97,9 @@ impl Cause {
     }
 }
 
+/// What a call gives that may be refused: a value, or the fault that says what is wrong.
+pub type Result<T, E = Fault> = std::result::Result<T, E>;
+
 impl Fault {
     /// A refusal of the root itself.
     pub fn new(alloc: Global, cause: Cause) -> Fault

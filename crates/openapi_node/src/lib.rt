@@ -17,7 +17,7 @@ mod whole;
 mod write_value;
 
 pub use copy::copy_shown;
-pub use fault::{Cause, Expected, Fault, PlaceStep, Pointer, ReferenceToken};
+pub use fault::{Cause, Expected, Fault, PlaceStep, Pointer, ReferenceToken, Result};
 pub use member::find_member;
 pub use node::{Members, Node, View};
 pub use openapi_map::OrderedMap;

@@ -8,7 +8,7 @@ ghost use Rattle.openapi_node.specs.Fault.{IsMemory};
 ghost use Rattle.openapi_node.specs.Json.{IsTreeOf, IsNotWhole};
 ghost use Rattle.openapi_node.specs.Tree.{list, items_of, members_of, text as text_tree, object as object_tree};
 
-use crate::fault::{Cause, Fault};
+use crate::fault::{Cause, Fault, Result};
 use crate::node::Node;
 use crate::whole::Whole;
 use openapi_map::OrderedMap;
@@ -21,7 +21,7 @@ impl Node {
     /// A refusal has one of two causes. [`Cause::NotWhole`]: the value at the place is a number that `serde_json`
     /// gives neither as an `i64` nor as a `u64`, as `1.0`, `1e2` and `-0`. [`Cause::Memory`], with the empty place: a
     /// growth was refused.
-    pub fn from_value(alloc: Global, value: &Value) -> Result<Node, Fault>
+    pub fn from_value(alloc: Global, value: &Value) -> Result<Node>
         ensures ok { IfOk result (IsTreeOf (view value.now)) }
         ensures err { IfErr result (λ f. IsMemory f ⊎ IsNotWhole (view value.now) f) }
     {
@@ -43,7 +43,7 @@ fn read_whole(number: &Number) -> Option<Whole>
 }
 
 /// A node of a copy of the text.
-fn read_text(alloc: Global, text: &String) -> Result<Node, Fault>
+fn read_text(alloc: Global, text: &String) -> Result<Node>
     ensures ok { IfOk result (λ n. n ≡ text_tree (string_bytes text.now)) }
     ensures err { IfErr result IsMemory }
 {
@@ -54,7 +54,7 @@ fn read_text(alloc: Global, text: &String) -> Result<Node, Fault>
 }
 
 /// Puts a node last in a list.
-fn push_node(alloc: Global, nodes: &mut Vec<Node>, node: Node) -> Result<(), Fault>
+fn push_node(alloc: Global, nodes: &mut Vec<Node>, node: Node) -> Result<()>
     ensures ok { OnOk result (nodes.new.items ≡ nodes.old.items ++ node ∷ []) }
     ensures err { IfErr result IsMemory }
 {
@@ -65,12 +65,7 @@ fn push_node(alloc: Global, nodes: &mut Vec<Node>, node: Node) -> Result<(), Fau
 }
 
 /// Puts a node last in an object, at a copy of a name that the object lacks.
-fn push_member(
-    alloc: Global,
-    nodes: &mut OrderedMap<Node>,
-    name: &String,
-    node: Node,
-) -> Result<(), Fault>
+fn push_member(alloc: Global, nodes: &mut OrderedMap<Node>, name: &String, node: Node) -> Result<()>
     requires { get (string_bytes name.now) nodes.old ≡ None }
     ensures ok { OnOk result (nodes.new ≡ nodes.old ++ (string_bytes name.now, node) ∷ []) }
     ensures err { IfErr result IsMemory }
@@ -85,7 +80,7 @@ fn push_member(
 }
 
 #[cycle(read)]
-fn read_node(alloc: Global, value: &Value) -> Result<Node, Fault>
+fn read_node(alloc: Global, value: &Value) -> Result<Node>
     ensures ok { IfOk result (IsTreeOf (view value.now)) }
     ensures err { IfErr result (λ f. IsMemory f ⊎ IsNotWhole (view value.now) f) }
 {
@@ -109,7 +104,7 @@ fn read_node(alloc: Global, value: &Value) -> Result<Node, Fault>
 }
 
 #[cycle(read)]
-fn read_items(alloc: Global, items: &Vec<Value>) -> Result<Vec<Node>, Fault>
+fn read_items(alloc: Global, items: &Vec<Value>) -> Result<Vec<Node>>
     ensures ok { IfOk result (λ v. IsTreeOf (array (items_view items.now.items)) (list (items_of v.items))) }
     ensures err { IfErr result (λ f. IsMemory f ⊎ IsNotWhole (array (items_view items.now.items)) f) }
 {
@@ -126,7 +121,7 @@ fn read_items(alloc: Global, items: &Vec<Value>) -> Result<Vec<Node>, Fault>
 }
 
 #[cycle(read)]
-fn read_members(alloc: Global, members: &Map<String, Value>) -> Result<OrderedMap<Node>, Fault>
+fn read_members(alloc: Global, members: &Map<String, Value>) -> Result<OrderedMap<Node>>
     ensures ok { IfOk result (λ m. IsTreeOf (object (members_view members.now.entries)) (object_tree (members_of m))) }
     ensures err { IfErr result (λ f. IsMemory f ⊎ IsNotWhole (object (members_view members.now.entries)) f) }
 {

@@ -8,7 +8,7 @@ ghost use Rattle.openapi_node.specs.Json.{data_of, items_data, members_data};
 ghost use Rattle.openapi_node.specs.Pairs.{pair_view, pair_data, put_all};
 ghost use Rattle.openapi_node.specs.Tree.{items_of, members_of, size_of, items_size, members_size};
 
-use crate::fault::Fault;
+use crate::fault::{Fault, Result};
 use crate::node::{Node, Shape, View};
 use crate::steps::Steps;
 use crate::whole::Whole;
@@ -21,7 +21,7 @@ impl Node {
     /// in the node is looked at once, and on a refusal at most once.
     ///
     /// The one cause is [`Cause::Memory`](crate::Cause), with the empty place: a growth was refused.
-    pub fn to_value(&self, alloc: Global, steps: &mut Steps) -> Result<Value, Fault>
+    pub fn to_value(&self, alloc: Global, steps: &mut Steps) -> Result<Value>
         ensures ok { IfOk result (λ v. view v ≡ data_of self.now) }
         ensures counted { OnOk result (steps.new ≡ steps.old + size_of self.now) }
         ensures rises { steps.old ≤ steps.new }
@@ -39,7 +39,7 @@ impl Node {
     ///
     /// The one cause is [`Cause::Memory`](crate::Cause), with the empty place: a growth was refused. The node is gone
     /// then too.
-    pub fn into_value(self, alloc: Global, steps: &mut Steps) -> Result<Value, Fault>
+    pub fn into_value(self, alloc: Global, steps: &mut Steps) -> Result<Value>
         ensures ok { IfOk result (λ v. view v ≡ data_of self) }
         ensures counted { OnOk result (steps.new ≡ steps.old + size_of self) }
         ensures rises { steps.old ≤ steps.new }

@@ -1,4 +1,3 @@
-pub mod ClassReading
 pub mod Opened
 pub mod PartRows
 pub mod PresentForms

@@ -1,9 +1,6 @@
--- The operations of a path item that are there: what lends them, what is taken of them, and their forms.
-use Rattle.std.proofs.Common.{◌≡◌, ℕ, List, [], ◌∷◌, Option, Some, None, drop, take, length, refl, sym, ap, ◌∙◌}
-use Rattle.std.proofs.iter.runs.Sources.{from_front}
+-- The operations of a path item that are there: what lends them, and their forms.
+use Rattle.std.proofs.Common.{◌≡◌, ℕ, List, [], ◌∷◌, Option, Some, None, drop, take, refl, sym, ap, ◌∙◌}
 use Rattle.std.specs.Borrow.{Bor}
-use Rattle.std.specs.Map.{values_of}
-use Rattle.std.specs.Map.Iter.{TakesFirst, ShowsInOrder, ShowsValuesInOrder}
 use Rattle.std.specs.Option.{option_copied}
 use Rattle.openapi_tables.specs.Prelude.{Form, fields, forms_of, each, join, plain}
 use Rattle.openapi_tables.specs.Operations.{methods, present_ops, those_there}
@@ -14,17 +11,6 @@ use Rattle.openapi_operations.specs.declared.operation.Operation.{Operation}
 use Rattle.openapi_operations.specs.declared.path_item.PathItem.{PathItem}
 use Rattle.openapi_operations.specs.Fields.{path_item_fields}
 use Rattle.openapi_operations.proofs.Opened.{path_item_rows-out}
-
--- an iterator that is seen as the list of what it has left gives that list, and the values in it
-pub shows_in_order : {A X : Type 0} (shows : A → X) → ShowsInOrder shows
-shows_in_order shows =
-    from_front (TakesFirst shows) shows (λ s. s) (λ s t h. ap length h.0) (λ s x t h. h)
-
--- an iterator over pairs gives their values in the order of what it has left
-pub shows_values_in_order : {A K X : Type 0} (shows : A → K × X) → ShowsValuesInOrder shows
-shows_values_in_order shows =
-    from_front (TakesFirst shows) (λ x. (shows x).1) values_of
-    (λ s t h. ap (λ l. length (values_of l)) h.0) (λ s x t h. ap values_of h)
 
 -- what is lent is what is there
 pub lent_held : {X : Type 0} (ns : List (List ℕ)) (os : List (Option (Bor X)))

@@ -14,7 +14,7 @@ use crate::path_item::PathItem;
 use crate::read::read_callback;
 use crate::write::write_callback;
 use openapi_fields::{FromNode, Object, Referable, ToNode};
-use openapi_node::{Fault, Node, OrderedMap, Steps, View};
+use openapi_node::{Node, OrderedMap, Result, Steps, View};
 use openapi_values::ReferenceOr;
 use std::alloc::Global;
 
@@ -57,7 +57,7 @@ impl FromNode for Callback {
 
     ghost form_of = { callback_form };
 
-    fn from_view(alloc: Global, view: &View<'_>, steps: &mut Steps) -> Result<Callback, Fault> {
+    fn from_view(alloc: Global, view: &View<'_>, steps: &mut Steps) -> Result<Callback> {
         read_callback(alloc, view, steps)
     }
 
@@ -66,7 +66,7 @@ impl FromNode for Callback {
 
 /// Refused also at a name among `paths` that begins with `x-`, which would be read as an extension.
 impl ToNode for Callback {
-    fn to_node(&self, alloc: Global) -> Result<Node, Fault> {
+    fn to_node(&self, alloc: Global) -> Result<Node> {
         write_callback(alloc, self)
     }
 
@@ -83,7 +83,7 @@ pub fn callback_ref_from_node(
     alloc: Global,
     node: &Node,
     steps: &mut Steps,
-) -> Result<ReferenceOr<Callback>, Fault>
+) -> Result<ReferenceOr<Callback>>
     ensures reads { ReadAs (reference_form callback_form) result callback_ref node.now }
     ensures refuses { Refuses result callback_ref node.now }
     ensures rises { steps.old + 1 ≤ steps.new }
@@ -94,7 +94,7 @@ pub fn callback_ref_from_node(
 
 /// Writes a callback or a reference to one. Err at a name or a code in it that would not be read again, or for want of
 /// memory.
-pub fn callback_ref_to_node(alloc: Global, value: &ReferenceOr<Callback>) -> Result<Node, Fault>
+pub fn callback_ref_to_node(alloc: Global, value: &ReferenceOr<Callback>) -> Result<Node>
     ensures { WrittenAs callback_ref (reference_form callback_form value.now) result }
 {
     value.to_node(alloc)

@@ -10,7 +10,7 @@ use crate::read::read_operation;
 use crate::write::write_operation;
 use openapi_fields::{FromNode, Object, ToNode};
 use openapi_metadata::Server;
-use openapi_node::{Fault, Node, OrderedMap, Steps, View};
+use openapi_node::{Node, OrderedMap, Result, Steps, View};
 use openapi_parameters::Parameter;
 use openapi_responses::{RequestBody, Responses};
 use openapi_schema_annotations::ExternalDocumentation;
@@ -103,7 +103,7 @@ impl FromNode for Operation {
 
     ghost form_of = { operation_form };
 
-    fn from_view(alloc: Global, view: &View<'_>, steps: &mut Steps) -> Result<Operation, Fault> {
+    fn from_view(alloc: Global, view: &View<'_>, steps: &mut Steps) -> Result<Operation> {
         read_operation(alloc, view, steps)
     }
 
@@ -111,7 +111,7 @@ impl FromNode for Operation {
 }
 
 impl ToNode for Operation {
-    fn to_node(&self, alloc: Global) -> Result<Node, Fault> {
+    fn to_node(&self, alloc: Global) -> Result<Node> {
         write_operation(alloc, self)
     }
 

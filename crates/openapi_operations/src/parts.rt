@@ -22,7 +22,7 @@ use openapi_fields::{
     required,
 };
 use openapi_metadata::Server;
-use openapi_node::{Fault, Members, Node, OrderedMap, Steps};
+use openapi_node::{Members, Node, OrderedMap, Result, Steps};
 use openapi_parameters::Parameter;
 use openapi_responses::{RequestBody, Responses};
 use openapi_schema_annotations::ExternalDocumentation;
@@ -71,7 +71,7 @@ pub(crate) fn read_texts(
     alloc: Global,
     members: &Members,
     steps: &mut Steps,
-) -> Result<OperationTexts, Fault>
+) -> Result<OperationTexts>
     ensures reads { PartReadAs text_forms result (kinds.by kinds.operation) text_rows (members_of members.now) }
     ensures count { RisesBy steps.old steps.new (3 * rows_weight text_rows (members_of members.now)) }
 {
@@ -89,7 +89,7 @@ pub(crate) fn read_settings(
     alloc: Global,
     members: &Members,
     steps: &mut Steps,
-) -> Result<OperationSettings, Fault>
+) -> Result<OperationSettings>
     ensures reads { PartReadAs setting_forms result (kinds.by kinds.operation) setting_rows (members_of members.now) }
     ensures count { RisesBy steps.old steps.new (3 * rows_weight setting_rows (members_of members.now)) }
 {
@@ -105,7 +105,7 @@ pub(crate) fn read_messages(
     alloc: Global,
     members: &Members,
     steps: &mut Steps,
-) -> Result<OperationMessages, Fault>
+) -> Result<OperationMessages>
     ensures reads { PartReadAs message_forms result (kinds.by kinds.operation) message_rows (members_of members.now) }
     ensures count { RisesBy steps.old steps.new (3 * rows_weight message_rows (members_of members.now)) }
 {
@@ -121,7 +121,7 @@ pub(crate) fn read_beside(
     alloc: Global,
     members: &Members,
     steps: &mut Steps,
-) -> Result<PathItemValues, Fault>
+) -> Result<PathItemValues>
     ensures reads { PartReadAs beside_forms result (kinds.by kinds.path_item) beside_rows (members_of members.now) }
     ensures count { RisesBy steps.old steps.new (3 * rows_weight beside_rows (members_of members.now)) }
 {
@@ -141,7 +141,7 @@ pub(crate) fn path_item_with(
     members: &Members,
     methods: Methods<Operation>,
     steps: &mut Steps,
-) -> Result<PathItem, Fault>
+) -> Result<PathItem>
     requires { AreRows final_tables method_rows (method_forms methods) (members_of members.now) }
     ensures reads { RowsReadAs path_item_fields result (kinds.by kinds.path_item) (members_of members.now) }
     ensures count { RisesBy steps.old steps.new (3 * rows_weight beside_rows (members_of members.now)) }
@@ -208,7 +208,7 @@ pub(crate) fn put_before_callbacks(
     alloc: Global,
     operation: &Operation,
     out: &mut Members,
-) -> Result<(), Fault>
+) -> Result<()>
     requires { IsWritten final_tables [] out.old }
     ensures ok { OnOk result (IsWritten final_tables (before (is_named (codes "callbacks"))
         (operation_slots operation.now)) out.new) }
@@ -247,7 +247,7 @@ pub(crate) fn put_behind_callbacks(
     alloc: Global,
     operation: &Operation,
     out: &mut Members,
-) -> Result<(), Fault>
+) -> Result<()>
     requires { IsWritten final_tables (through (is_named (codes "callbacks")) (operation_slots operation.now)) out.old }
     ensures ok { OnOk result (IsWritten final_tables (operation_slots operation.now) out.new) }
     ensures err { IfErr result (λ f. NotWritable f (slots_lost final_tables (operation_slots operation.now))) }

@@ -14,7 +14,7 @@ use crate::read::read_path_item;
 use crate::write::write_path_item;
 use openapi_fields::{FromNode, Object, Referable, ToNode};
 use openapi_metadata::Server;
-use openapi_node::{Fault, Node, OrderedMap, Steps, View};
+use openapi_node::{Node, OrderedMap, Result, Steps, View};
 use openapi_parameters::Parameter;
 use openapi_values::ReferenceOr;
 use std::alloc::Global;
@@ -99,7 +99,7 @@ impl FromNode for PathItem {
 
     ghost form_of = { path_item_form };
 
-    fn from_view(alloc: Global, view: &View<'_>, steps: &mut Steps) -> Result<PathItem, Fault> {
+    fn from_view(alloc: Global, view: &View<'_>, steps: &mut Steps) -> Result<PathItem> {
         read_path_item(alloc, view, steps)
     }
 
@@ -107,7 +107,7 @@ impl FromNode for PathItem {
 }
 
 impl ToNode for PathItem {
-    fn to_node(&self, alloc: Global) -> Result<Node, Fault> {
+    fn to_node(&self, alloc: Global) -> Result<Node> {
         write_path_item(alloc, self)
     }
 
@@ -124,7 +124,7 @@ pub fn path_item_ref_from_node(
     alloc: Global,
     node: &Node,
     steps: &mut Steps,
-) -> Result<ReferenceOr<PathItem>, Fault>
+) -> Result<ReferenceOr<PathItem>>
     ensures reads { ReadAs (reference_form path_item_form) result (ref_to (by path_item)) node.now }
     ensures refuses { Refuses result (ref_to (by path_item)) node.now }
     ensures rises { steps.old + 1 ≤ steps.new }
@@ -135,7 +135,7 @@ pub fn path_item_ref_from_node(
 
 /// Writes a path item or a reference to one. Err at a name or a code in it that would not be read again, or for want of
 /// memory.
-pub fn path_item_ref_to_node(alloc: Global, value: &ReferenceOr<PathItem>) -> Result<Node, Fault>
+pub fn path_item_ref_to_node(alloc: Global, value: &ReferenceOr<PathItem>) -> Result<Node>
     ensures { WrittenAs (ref_to (by path_item)) (reference_form path_item_form value.now) result }
 {
     value.to_node(alloc)

@@ -12,7 +12,7 @@ use openapi_fields::{
     ClassNames, Names, Object, Record, class_entries, extensions, put_class, put_extensions,
 };
 use openapi_map::{IntoIter, Iter};
-use openapi_node::{Fault, Members, Node, OrderedMap, Steps};
+use openapi_node::{Members, Node, OrderedMap, Result, Steps};
 use openapi_values::ReferenceOr;
 use std::alloc::Global;
 
@@ -96,14 +96,14 @@ impl Object for Paths {
 
 #[tactic(auto, unfolding(openapi_tables::specs::Tables::final_tables, openapi_tables::specs::Tables::tables_with))]
 impl Record for Paths {
-    fn from_members(alloc: Global, members: &Members, steps: &mut Steps) -> Result<Self, Fault> {
+    fn from_members(alloc: Global, members: &Members, steps: &mut Steps) -> Result<Self> {
         Ok(Paths {
             paths: class_entries::<Self, PathNames, _>(alloc, members, steps)?,
             extensions: extensions::<Self>(alloc, members, steps)?,
         })
     }
 
-    fn put_rows(&self, alloc: Global, out: &mut Members) -> Result<(), Fault> {
+    fn put_rows(&self, alloc: Global, out: &mut Members) -> Result<()> {
         put_class::<Self, PathNames, _>(alloc, self, out, &self.paths)?;
         put_extensions(alloc, self, out, &self.extensions)
     }

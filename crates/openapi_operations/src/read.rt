@@ -25,17 +25,13 @@ use openapi_fields::{
     Extensions, Names, as_item, as_member, at_name, extensions, members_at, members_shown,
     present_view, put_read, read_reference,
 };
-use openapi_node::{Fault, Members, Node, OrderedMap, Steps, View};
+use openapi_node::{Members, Node, OrderedMap, Result, Steps, View};
 use openapi_values::ReferenceOr;
 use std::alloc::Global;
 
 /// Reads a path item.
 #[cycle(read)]
-pub(crate) fn read_path_item(
-    alloc: Global,
-    view: &View<'_>,
-    steps: &mut Steps,
-) -> Result<PathItem, Fault>
+pub(crate) fn read_path_item(alloc: Global, view: &View<'_>, steps: &mut Steps) -> Result<PathItem>
     ensures reads { ReadAs path_item_form result (kinds.by kinds.path_item) (shown view.now) }
     ensures count { RisesBelow steps.old steps.new (3 * size_of (shown view.now)) }
 {
@@ -47,7 +43,7 @@ pub(crate) fn read_path_item(
 
 /// Reads a path item among the members of an object, its operations first.
 #[cycle(read)]
-fn path_item_of(alloc: Global, members: &Members, steps: &mut Steps) -> Result<PathItem, Fault>
+fn path_item_of(alloc: Global, members: &Members, steps: &mut Steps) -> Result<PathItem>
     ensures reads { RowsReadAs path_item_fields result (kinds.by kinds.path_item) (members_of members.now) }
     ensures count { RisesBy steps.old steps.new
         (3 * rows_weight (rows_asked final_tables (kinds.by kinds.path_item)) (members_of members.now)) }
@@ -69,7 +65,7 @@ fn read_methods(
     members: &Members,
     methods: &mut Methods<Operation>,
     steps: &mut Steps,
-) -> Result<(), Fault>
+) -> Result<()>
     requires get { methods.old.get ≡ None }
     requires put { methods.old.put ≡ None }
     requires post { methods.old.post ≡ None }
@@ -100,7 +96,7 @@ fn read_method(
     method: &'static str,
     place: &mut Option<Operation>,
     steps: &mut Steps,
-) -> Result<(), Fault>
+) -> Result<()>
     requires row { row_where (is_named method.now) (rows_asked final_tables (kinds.by kinds.path_item)) ≡ Some
         (kinds.row method.now kinds.optional (kinds.by kinds.operation)) }
     requires free { place.old ≡ None }
@@ -123,11 +119,7 @@ fn read_method(
 
 /// Reads an operation.
 #[cycle(read)]
-pub(crate) fn read_operation(
-    alloc: Global,
-    view: &View<'_>,
-    steps: &mut Steps,
-) -> Result<Operation, Fault>
+pub(crate) fn read_operation(alloc: Global, view: &View<'_>, steps: &mut Steps) -> Result<Operation>
     ensures reads { ReadAs operation_form result (kinds.by kinds.operation) (shown view.now) }
     ensures count { RisesBelow steps.old steps.new (3 * size_of (shown view.now)) }
 {
@@ -140,7 +132,7 @@ pub(crate) fn read_operation(
 /// Reads an operation among the members of an object, what is large last.
 #[cycle(read)]
 #[tactic(auto, using(crate::proofs::PartRows::operation_weight), unfolding(openapi_tables::specs::Tables::final_tables, openapi_tables::specs::Tables::tables_with))]
-fn operation_of(alloc: Global, members: &Members, steps: &mut Steps) -> Result<Operation, Fault>
+fn operation_of(alloc: Global, members: &Members, steps: &mut Steps) -> Result<Operation>
     ensures reads { RowsReadAs operation_fields result (kinds.by kinds.operation) (members_of members.now) }
     ensures count { RisesBy steps.old steps.new
         (3 * rows_weight (rows_asked final_tables (kinds.by kinds.operation)) (members_of members.now)) }
@@ -159,7 +151,7 @@ fn read_callbacks(
     alloc: Global,
     members: &Members,
     steps: &mut Steps,
-) -> Result<OrderedMap<ReferenceOr<Callback>>, Fault>
+) -> Result<OrderedMap<ReferenceOr<Callback>>>
     ensures reads { RowReadAs (map_form (reference_form callback_form)) result (kinds.by kinds.operation)
         (kinds.row (codes "callbacks") kinds.listed (kinds.map_of callback_ref)) (members_of members.now) }
     ensures count { RisesBy steps.old steps.new
@@ -178,7 +170,7 @@ fn callbacks_of(
     alloc: Global,
     members: &Members,
     steps: &mut Steps,
-) -> Result<OrderedMap<ReferenceOr<Callback>>, Fault>
+) -> Result<OrderedMap<ReferenceOr<Callback>>>
     ensures reads { ReadAs (map_form (reference_form callback_form)) result (kinds.map_of callback_ref)
         (object (members_of members.now)) }
     ensures count { RisesBy steps.old steps.new (3 * members_size (members_of members.now)) }
@@ -206,7 +198,7 @@ fn read_callback_ref(
     alloc: Global,
     view: &View<'_>,
     steps: &mut Steps,
-) -> Result<ReferenceOr<Callback>, Fault>
+) -> Result<ReferenceOr<Callback>>
     ensures reads { ReadAs (reference_form callback_form) result callback_ref (shown view.now) }
     ensures count { RisesBelow steps.old steps.new (3 * size_of (shown view.now) + 1) }
 {
@@ -219,11 +211,7 @@ fn read_callback_ref(
 
 /// Reads a callback.
 #[cycle(read)]
-pub(crate) fn read_callback(
-    alloc: Global,
-    view: &View<'_>,
-    steps: &mut Steps,
-) -> Result<Callback, Fault>
+pub(crate) fn read_callback(alloc: Global, view: &View<'_>, steps: &mut Steps) -> Result<Callback>
     ensures reads { ReadAs callback_form result (kinds.by kinds.callback_object) (shown view.now) }
     ensures count { RisesBelow steps.old steps.new (3 * size_of (shown view.now)) }
 {
@@ -235,7 +223,7 @@ pub(crate) fn read_callback(
 
 /// Reads a callback among the members of an object.
 #[cycle(read)]
-fn callback_of(alloc: Global, members: &Members, steps: &mut Steps) -> Result<Callback, Fault>
+fn callback_of(alloc: Global, members: &Members, steps: &mut Steps) -> Result<Callback>
     ensures reads { RowsReadAs callback_fields result (kinds.by kinds.callback_object) (members_of members.now) }
     ensures count { RisesBy steps.old steps.new
         (3 * rows_weight (rows_asked final_tables (kinds.by kinds.callback_object)) (members_of members.now)) }
@@ -251,7 +239,7 @@ fn read_requests(
     alloc: Global,
     members: &Members,
     steps: &mut Steps,
-) -> Result<OrderedMap<PathItem>, Fault>
+) -> Result<OrderedMap<PathItem>>
     ensures reads { RowReadAs (map_form path_item_form) result (kinds.by kinds.callback_object)
         (kinds.class kinds.callback_names (kinds.by kinds.path_item)) (members_of members.now) }
     ensures count { RisesBy steps.old steps.new

@@ -21,13 +21,13 @@ use openapi_fields::{
     Extensions, Names, as_some, put_extensions, put_implied, put_optional, put_row, put_written,
     whole_object, write_reference,
 };
-use openapi_node::{Cause, Fault, Members, Node, OrderedMap};
+use openapi_node::{Cause, Fault, Members, Node, OrderedMap, Result};
 use openapi_values::ReferenceOr;
 use std::alloc::Global;
 
 /// Writes a path item.
 #[cycle(write)]
-pub(crate) fn write_path_item(alloc: Global, path_item: &PathItem) -> Result<Node, Fault>
+pub(crate) fn write_path_item(alloc: Global, path_item: &PathItem) -> Result<Node>
     ensures { WrittenAs (kinds.by kinds.path_item) (path_item_form path_item.now) result }
 {
     whole_object(path_item_members(alloc, path_item))
@@ -35,7 +35,7 @@ pub(crate) fn write_path_item(alloc: Global, path_item: &PathItem) -> Result<Nod
 
 /// The members that a path item is written as.
 #[cycle(write)]
-fn path_item_members(alloc: Global, path_item: &PathItem) -> Result<Members, Fault>
+fn path_item_members(alloc: Global, path_item: &PathItem) -> Result<Members>
     ensures { RowsWritten (path_item_slots path_item.now) result }
 {
     let mut out = OrderedMap::new(alloc);
@@ -62,7 +62,7 @@ fn path_item_members(alloc: Global, path_item: &PathItem) -> Result<Members, Fau
 
 /// Writes the operations of a path item, behind its texts.
 #[cycle(write)]
-fn put_methods(alloc: Global, path_item: &PathItem, out: &mut Members) -> Result<(), Fault>
+fn put_methods(alloc: Global, path_item: &PathItem, out: &mut Members) -> Result<()>
     requires { IsWritten final_tables (before (is_named (codes "get")) (path_item_slots path_item.now)) out.old }
     ensures ok { OnOk result (IsWritten final_tables (through (is_named (codes "trace"))
         (path_item_slots path_item.now)) out.new) }
@@ -88,7 +88,7 @@ fn put_methods(alloc: Global, path_item: &PathItem, out: &mut Members) -> Result
 
 /// Writes the operation under a method; nothing where there is none.
 #[cycle(write)]
-fn write_method(alloc: Global, value: &Option<Operation>) -> Result<Option<Node>, Fault>
+fn write_method(alloc: Global, value: &Option<Operation>) -> Result<Option<Node>>
     ensures { MemberWrittenAs kinds.optional (kinds.by kinds.operation) (optional_form operation_form value.now) result }
 {
     match value {
@@ -99,7 +99,7 @@ fn write_method(alloc: Global, value: &Option<Operation>) -> Result<Option<Node>
 
 /// Writes an operation.
 #[cycle(write)]
-pub(crate) fn write_operation(alloc: Global, operation: &Operation) -> Result<Node, Fault>
+pub(crate) fn write_operation(alloc: Global, operation: &Operation) -> Result<Node>
     ensures { WrittenAs (kinds.by kinds.operation) (operation_form operation.now) result }
 {
     whole_object(operation_members(alloc, operation))
@@ -107,7 +107,7 @@ pub(crate) fn write_operation(alloc: Global, operation: &Operation) -> Result<No
 
 /// The members that an operation is written as.
 #[cycle(write)]
-fn operation_members(alloc: Global, operation: &Operation) -> Result<Members, Fault>
+fn operation_members(alloc: Global, operation: &Operation) -> Result<Members>
     ensures { RowsWritten (operation_slots operation.now) result }
 {
     let mut out = OrderedMap::new(alloc);
@@ -128,7 +128,7 @@ fn operation_members(alloc: Global, operation: &Operation) -> Result<Members, Fa
 fn write_callbacks(
     alloc: Global,
     values: &OrderedMap<ReferenceOr<Callback>>,
-) -> Result<Option<Node>, Fault>
+) -> Result<Option<Node>>
     ensures { MemberWrittenAs kinds.listed (kinds.map_of callback_ref) (map_form (reference_form callback_form) values.now)
         result }
 {
@@ -148,7 +148,7 @@ fn write_callbacks(
 
 /// Writes a callback or a reference to one.
 #[cycle(write)]
-fn write_callback_ref(alloc: Global, value: &ReferenceOr<Callback>) -> Result<Node, Fault>
+fn write_callback_ref(alloc: Global, value: &ReferenceOr<Callback>) -> Result<Node>
     ensures { WrittenAs callback_ref (reference_form callback_form value.now) result }
 {
     match value {
@@ -159,7 +159,7 @@ fn write_callback_ref(alloc: Global, value: &ReferenceOr<Callback>) -> Result<No
 
 /// Writes a callback.
 #[cycle(write)]
-pub(crate) fn write_callback(alloc: Global, callback: &Callback) -> Result<Node, Fault>
+pub(crate) fn write_callback(alloc: Global, callback: &Callback) -> Result<Node>
     ensures { WrittenAs (kinds.by kinds.callback_object) (callback_form callback.now) result }
 {
     whole_object(callback_members(alloc, callback))
@@ -167,7 +167,7 @@ pub(crate) fn write_callback(alloc: Global, callback: &Callback) -> Result<Node,
 
 /// The members that a callback is written as.
 #[cycle(write)]
-fn callback_members(alloc: Global, callback: &Callback) -> Result<Members, Fault>
+fn callback_members(alloc: Global, callback: &Callback) -> Result<Members>
     ensures { RowsWritten (callback_slots callback.now) result }
 {
     let mut out = request_members(alloc, callback)?;
@@ -177,7 +177,7 @@ fn callback_members(alloc: Global, callback: &Callback) -> Result<Members, Fault
 
 /// The members that the path items of a callback are written as. Err also at a name that begins with `x-`.
 #[cycle(write)]
-fn request_members(alloc: Global, callback: &Callback) -> Result<Members, Fault>
+fn request_members(alloc: Global, callback: &Callback) -> Result<Members>
     ensures ok { IfOk result (λ out. IsWritten final_tables (through (is_class kinds.callback_names)
         (callback_slots callback.now)) out) }
     ensures err { IfErr result (λ f. NotWritable f (slots_lost final_tables (callback_slots callback.now))) }

@@ -71,9 +71,11 @@ module _ (i j : TableName) (ws : List Row) (begins : final_tables i ≡ join (fi
 -- the table of a place
 module _ (i : TableName) (begins : final_tables i ≡ join (final_tables parameter_data) (drop 9 (final_tables i)))
     (ms : Members) where
+  -- a refusal by the rows that parameters of all places have is one by the whole table
   pub data_fails : (f : Fault) → Fails f (by parameter_data) (object ms) → Fails f (by i) (object ms)
   data_fails f h = head_fails i parameter_data (drop 9 (final_tables i)) begins ms f h
 
+  -- what those rows read, and what the other rows read behind it, is what the whole table reads
   pub data_reads : (d : ParameterData) (fs : List Form)
       → AreRows final_tables (final_tables parameter_data) (parameter_data_rows d) ms
       → AreRows final_tables (drop 9 (final_tables i)) fs ms

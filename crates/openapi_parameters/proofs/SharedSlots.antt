@@ -41,9 +41,11 @@ module _ (x : Parameter) where
       (done : IsWritten final_tables (through (is_named (codes "in")) (parameter_slots x)) out)
       (rows : IsWritten final_tables (record_slots parameter_data parameter_data_rows (data_of_parameter x)) more)
     where
+      -- none of their names is there yet
       pub data_new : AreNew more out
       data_new = new_behind its_place its_data out more shared_apart done rows
 
+      -- where they are put last, the place and the slots that all parameters have are written
       pub data_put : {A : Type 0} (r : Result A Fault) (new : Entries Tree) → OnOk r (new ≡ out ++ more)
           → OnOk r (IsWritten final_tables (shared_slots x) new)
       data_put (Ok u) new e =

@@ -16,7 +16,7 @@ use crate::parameter_data::ParameterData;
 use crate::read::{read_cookie, read_header, read_path, read_query};
 use crate::write::put_parameter;
 use openapi_fields::{FromNode, HasSlots, Object, Referable, ToNode, tag};
-use openapi_node::{Cause, Expected, Fault, Node, OrderedMap, Steps, View};
+use openapi_node::{Cause, Expected, Fault, Node, OrderedMap, Result, Steps, View};
 use openapi_values::{CookieStyle, HeaderStyle, PathStyle, QueryStyle, ReferenceOr};
 use std::alloc::Global;
 
@@ -100,7 +100,7 @@ impl FromNode for Parameter {
 
     ghost form_of = { parameter_form };
 
-    fn from_view(alloc: Global, view: &View<'_>, steps: &mut Steps) -> Result<Parameter, Fault> {
+    fn from_view(alloc: Global, view: &View<'_>, steps: &mut Steps) -> Result<Parameter> {
         let View::Object(members) = view else {
             return Err(Fault::new(alloc, Cause::WrongKind(Expected::Object)));
         };
@@ -117,7 +117,7 @@ impl FromNode for Parameter {
 }
 
 impl ToNode for Parameter {
-    fn to_node(&self, alloc: Global) -> Result<Node, Fault> {
+    fn to_node(&self, alloc: Global) -> Result<Node> {
         let mut out = OrderedMap::new(alloc);
         match put_parameter(alloc, self, &mut out) {
             Ok(()) => Ok(Node::object(out)),
@@ -138,7 +138,7 @@ pub fn parameter_ref_from_node(
     alloc: Global,
     node: &Node,
     steps: &mut Steps,
-) -> Result<ReferenceOr<Parameter>, Fault>
+) -> Result<ReferenceOr<Parameter>>
     ensures reads { ReadAs (reference_form parameter_form) result (ref_to parameter) node.now }
     ensures refuses { Refuses result (ref_to parameter) node.now }
     ensures rises { steps.old + 1 ≤ steps.new }
@@ -149,7 +149,7 @@ pub fn parameter_ref_from_node(
 
 /// Writes a parameter or a reference to one. Err at a name of an extension that does not begin with `x-`, or for want of
 /// memory.
-pub fn parameter_ref_to_node(alloc: Global, value: &ReferenceOr<Parameter>) -> Result<Node, Fault>
+pub fn parameter_ref_to_node(alloc: Global, value: &ReferenceOr<Parameter>) -> Result<Node>
     ensures { WrittenAs (ref_to parameter) (reference_form parameter_form value.now) result }
 {
     value.to_node(alloc)

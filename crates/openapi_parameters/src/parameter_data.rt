@@ -8,7 +8,7 @@ use openapi_fields::{
 };
 use openapi_media_types::{ParameterSchemaOrContent, format_name, read_format, write_format};
 use openapi_metadata::Example;
-use openapi_node::{Fault, Members, Node, OrderedMap, Steps};
+use openapi_node::{Members, Node, OrderedMap, Result, Steps};
 use openapi_values::ReferenceOr;
 use std::alloc::Global;
 
@@ -46,7 +46,7 @@ impl Object for ParameterData {
 
 #[tactic(auto, unfolding(openapi_tables::specs::Tables::final_tables, openapi_tables::specs::Tables::tables_with))]
 impl Record for ParameterData {
-    fn from_members(alloc: Global, members: &Members, steps: &mut Steps) -> Result<Self, Fault> {
+    fn from_members(alloc: Global, members: &Members, steps: &mut Steps) -> Result<Self> {
         let required_flag = or_implied::<Self, _>(alloc, members, "required", steps)?;
         let deprecated = optional::<Self, _>(alloc, members, "deprecated", steps)?;
         let explode = optional::<Self, _>(alloc, members, "explode", steps)?;
@@ -63,7 +63,7 @@ impl Record for ParameterData {
         })
     }
 
-    fn put_rows(&self, alloc: Global, out: &mut Members) -> Result<(), Fault> {
+    fn put_rows(&self, alloc: Global, out: &mut Members) -> Result<()> {
         put_required(alloc, self, out, "name", &self.name)?;
         put_optional(alloc, self, out, "description", &self.description)?;
         put_implied(alloc, self, out, "required", &self.required)?;

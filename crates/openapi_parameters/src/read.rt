@@ -12,7 +12,7 @@ ghost use Rattle.openapi_parameters.specs.Parameters.{parameter_rows, parameter_
 use crate::parameter::Parameter;
 use crate::parameter_data::ParameterData;
 use openapi_fields::{Object, Record, optional, or_implied};
-use openapi_node::{Fault, Members, Node, Steps};
+use openapi_node::{Members, Node, Result, Steps};
 use std::alloc::Global;
 
 /// The table of the parameters in a query.
@@ -52,11 +52,7 @@ impl Object for CookieTable {
 }
 
 /// Reads a parameter in a query.
-pub(crate) fn read_query(
-    alloc: Global,
-    members: &Members,
-    steps: &mut Steps,
-) -> Result<Parameter, Fault>
+pub(crate) fn read_query(alloc: Global, members: &Members, steps: &mut Steps) -> Result<Parameter>
     ensures reads { RowsReadAs parameter_rows result (by kinds.query_parameter) (members_of members.now) }
     ensures word { IfOk result (λ x. parameter_word x ≡ codes "query") }
     ensures count { RisesBy steps.old steps.new
@@ -74,11 +70,7 @@ pub(crate) fn read_query(
 }
 
 /// Reads a parameter in a header.
-pub(crate) fn read_header(
-    alloc: Global,
-    members: &Members,
-    steps: &mut Steps,
-) -> Result<Parameter, Fault>
+pub(crate) fn read_header(alloc: Global, members: &Members, steps: &mut Steps) -> Result<Parameter>
     ensures reads { RowsReadAs parameter_rows result (by kinds.header_parameter) (members_of members.now) }
     ensures word { IfOk result (λ x. parameter_word x ≡ codes "header") }
     ensures count { RisesBy steps.old steps.new
@@ -92,11 +84,7 @@ pub(crate) fn read_header(
 }
 
 /// Reads a parameter in a path.
-pub(crate) fn read_path(
-    alloc: Global,
-    members: &Members,
-    steps: &mut Steps,
-) -> Result<Parameter, Fault>
+pub(crate) fn read_path(alloc: Global, members: &Members, steps: &mut Steps) -> Result<Parameter>
     ensures reads { RowsReadAs parameter_rows result (by kinds.path_parameter) (members_of members.now) }
     ensures word { IfOk result (λ x. parameter_word x ≡ codes "path") }
     ensures count { RisesBy steps.old steps.new
@@ -110,11 +98,7 @@ pub(crate) fn read_path(
 }
 
 /// Reads a parameter in a cookie.
-pub(crate) fn read_cookie(
-    alloc: Global,
-    members: &Members,
-    steps: &mut Steps,
-) -> Result<Parameter, Fault>
+pub(crate) fn read_cookie(alloc: Global, members: &Members, steps: &mut Steps) -> Result<Parameter>
     ensures reads { RowsReadAs parameter_rows result (by kinds.cookie_parameter) (members_of members.now) }
     ensures word { IfOk result (λ x. parameter_word x ≡ codes "cookie") }
     ensures count { RisesBy steps.old steps.new

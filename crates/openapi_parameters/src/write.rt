@@ -10,7 +10,7 @@ ghost use Rattle.openapi_parameters.specs.Parameters.{shared_slots};
 use crate::location::ParameterLocation;
 use crate::parameter::Parameter;
 use openapi_fields::{append, put_implied, put_optional, put_tag, record_rows};
-use openapi_node::{Fault, Members, Node};
+use openapi_node::{Members, Node, Result};
 use openapi_values::Word;
 use std::alloc::Global;
 
@@ -27,7 +27,7 @@ fn location(value: &Parameter) -> ParameterLocation
 }
 
 /// Writes the `in` of a parameter, and behind it what parameters of all places have.
-fn put_shared(alloc: Global, value: &Parameter, out: &mut Members) -> Result<(), Fault>
+fn put_shared(alloc: Global, value: &Parameter, out: &mut Members) -> Result<()>
     requires { IsWritten final_tables [] out.old }
     ensures ok { OnOk result (IsWritten final_tables (shared_slots value.now) out.new) }
     ensures err { IfErr result (λ f. NotWritable f (slots_lost final_tables (parameter_slots value.now))) }
@@ -38,11 +38,7 @@ fn put_shared(alloc: Global, value: &Parameter, out: &mut Members) -> Result<(),
 
 /// Writes the members of a parameter.
 #[tactic(auto, unfolding(openapi_tables::specs::Tables::final_tables, openapi_tables::specs::Tables::tables_with))]
-pub(crate) fn put_parameter(
-    alloc: Global,
-    value: &Parameter,
-    out: &mut Members,
-) -> Result<(), Fault>
+pub(crate) fn put_parameter(alloc: Global, value: &Parameter, out: &mut Members) -> Result<()>
     requires { IsWritten final_tables [] out.old }
     ensures ok { OnOk result (IsWritten final_tables (parameter_slots value.now) out.new) }
     ensures err { IfErr result (λ f. NotWritable f (slots_lost final_tables (parameter_slots value.now))) }

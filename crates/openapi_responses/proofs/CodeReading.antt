@@ -4,22 +4,20 @@ use Rattle.std.specs.Result.{result_ok}
 use Rattle.indexmap.specs.IndexMap.{insert_entry}
 use Rattle.openapi_map.specs.Entries.{Entries}
 use Rattle.openapi_node.specs.Fault.{IsMemory}
-use Rattle.openapi_node.specs.Place.{Place, named}
+use Rattle.openapi_node.specs.Place.{named}
 use Rattle.openapi_node.specs.Tree.{Tree, object, members_of}
 use Rattle.openapi_node.specs.declared.fault.Fault.{Fault}
 use Rattle.openapi_tables.specs.Prelude.{Kind, status_names, class, in_class, is_code, code_of, each, every}
-use Rattle.openapi_tables.specs.Prelude.{final_tables, Entry, Seen, Shape, of_tree, of_members, own, conforms}
-use Rattle.openapi_tables.specs.Prelude.{root_conforms, Form, Key, Pair, name, coded, named as named_form, named_of}
-use Rattle.openapi_tables.specs.Prelude.{form, root_form, key_in, code_key, pairs_as, gather, put, put_all, root_asks}
-use Rattle.openapi_tables.specs.Prelude.{asked, asks_members, asks_row, below, Among, is_class, row_where, rows_asked}
-use Rattle.openapi_tables.specs.Prelude.{row_conforms, row_form, asking, StepsTo, pairs_of}
-use Rattle.openapi_tables.proofs.ByRowLaws.{among_left, among_right, among_below, among_flat, rows_ask}
+use Rattle.openapi_tables.specs.Prelude.{final_tables, of_members, conforms, Form, Key, Pair, name, coded, named as named_form}
+use Rattle.openapi_tables.specs.Prelude.{named_of, form, root_form, key_in, code_key, pairs_as, gather, put, put_all, Among}
+use Rattle.openapi_tables.specs.Prelude.{is_class, row_where, rows_asked, row_form, pairs_of}
 use Rattle.openapi_values.specs.StatusCode.{code_in}
 use Rattle.openapi_values.specs.declared.status_code.StatusCode.{StatusCode}
 use Rattle.openapi_fields.specs.Entries.{chosen}
 use Rattle.openapi_fields.specs.Returned.{FailsBelow, RowReadAs}
 use Rattle.openapi_fields.proofs.Below.{memory_fails, fails_above}
 use Rattle.openapi_fields.proofs.Chosen.{next_same}
+use Rattle.openapi_fields.proofs.Classed.{class_asks, class_conforms, class_members}
 use Rattle.openapi_responses.specs.Codes.{Coded, coded_pairs, coded_form}
 use Rattle.openapi_responses.proofs.CodeKeys.{same_status, coded-insert}
 
@@ -55,9 +53,11 @@ no_status n (Err x) h e = sym (ap is_code e)
 -- the next of the members, whose name is a status code
 module _ (ms : Entries Tree) (i : ℕ) (n : List ℕ) (t : Tree) (at : slice_get ms i ≡ Some (n, t)) (s : StatusCode)
     (is : code_of n ≡ Some (code_in s)) where
+  -- so the class of the status codes takes its name
   pub next_is : in_class status_names n ≡ true
   next_is = ap is_code is
 
+  -- where what was read of it is inserted under its code, the map is read as far as it
   pub next_gathered : {X : Type 0} (view : X → Form) (k : Kind) (vs new : List (StatusCode × X)) (x : X)
       → gathered (form final_tables k) (statuses (take i ms)) ≡ coded_pairs view vs → form final_tables k t ≡ view x
       → new ≡ insert_entry same_status vs s x
@@ -74,57 +74,11 @@ module _ (ms : Entries Tree) (i : ℕ) (n : List ℕ) (t : Tree) (at : slice_get
 
 -- the members that are status codes, as the definitions see them
 module _ (k : Kind) where
-  abbrev seen : {X : Type 0} → (Shape (Seen X) → X) → Entries Tree → List (Entry (Seen X))
-  seen f [] = []
-  seen f (e ∷ es) = record { name = e.0; value = record { tree = e.1; answer = of_tree f e.1 } } ∷ seen f es
-
-  own_seen : {X : Type 0} (f : Shape (Seen X) → X) (ms : Entries Tree)
-      → own (class status_names k) (of_members f (members_of ms)) ≡ seen f (statuses ms)
-  own_seen f [] = refl
-  own_seen {X} f (m ∷ ms) = go (in_class status_names m.0) (own_seen f ms)
-    where
-      rest : List (Entry (Seen X))
-      rest = own (class status_names k) (of_members f (members_of ms))
-
-      go : (b : Bool) → rest ≡ seen f (statuses ms)
-          → cond b (record { name = m.0; value = record { tree = m.1; answer = of_tree f m.1 } } ∷ rest) rest
-          ≡ seen f (cond b (m ∷ statuses ms) (statuses ms))
-      go true h = ap (λ l. record { name = m.0; value = record { tree = m.1; answer = of_tree f m.1 } } ∷ l) h
-      go false h = h
-
-  all_conform : (es : Entries Tree) → every (λ e. e.value.answer k) (seen (root_conforms final_tables) es)
-      ≡ every (λ (e : List ℕ × Tree). conforms final_tables k e.1) es
-  all_conform [] = refl
-  all_conform (e ∷ es) = ap (λ b. conforms final_tables k e.1 && b) (all_conform es)
-
-  all_forms : (es : Entries Tree) → pairs_as (key_in status_names) k (seen (root_form final_tables) es)
+  all_forms : (es : Entries Tree) → pairs_as (key_in status_names) k (of_members (root_form final_tables) (members_of es))
       ≡ recoded (form final_tables k) es
   all_forms [] = refl
   all_forms (e ∷ es) = ap (λ l. record { key = key_in status_names e.0; value = form final_tables k e.1 } ∷ l)
       (all_forms es)
-
-  one_asked : (es : Entries Tree) (e : List ℕ × Tree) (p : Place) (j : Kind) (v : Tree) → Among e es
-      → Among (asking p j v) (asked final_tables k e.1)
-      → Among (asking (named e.0 ∷ p) j v) (asks_members k (seen (root_asks final_tables) es))
-  one_asked [] e p j v h a = absurd h
-  one_asked (d ∷ es) e p j v (inl s) a =
-      among_left (asking (named e.0 ∷ p) j v) (below (named d.0) (asked final_tables k d.1))
-      (asks_members k (seen (root_asks final_tables) es))
-      (subst (λ (x : List ℕ × Tree). Among (asking (named e.0 ∷ p) j v) (below (named x.0) (asked final_tables k x.1)))
-      s (among_below (named e.0) p j v (asked final_tables k e.1) a))
-  one_asked (d ∷ es) e p j v (inr s) a =
-      among_right (asking (named e.0 ∷ p) j v) (below (named d.0) (asked final_tables k d.1))
-      (asks_members k (seen (root_asks final_tables) es)) (one_asked es e p j v s a)
-
-  leads_to : (o : Kind) (ms : Entries Tree) (e : List ℕ × Tree)
-      → row_where (is_class status_names) (rows_asked final_tables o) ≡ Some (class status_names k)
-      → Among e (statuses ms) → StepsTo final_tables o (object (members_of ms)) (named e.0) k e.1
-  leads_to o ms e at h p j v a =
-      rows_ask final_tables o (members_of ms) (asking (named e.0 ∷ p) j v)
-      (among_flat (asking (named e.0 ∷ p) j v) (asks_row (of_members (root_asks final_tables) (members_of ms)))
-      (is_class status_names) (class status_names k) (rows_asked final_tables o) at
-      (subst (λ l. Among (asking (named e.0 ∷ p) j v) (asks_members k l)) (sym (own_seen (root_asks final_tables) ms))
-      (one_asked (statuses ms) e p j v h a)))
 
   -- what was read of the entries, or a refusal of one of them
   abbrev pub CodesReadAs : {X : Type 0} → (X → Form) → Result (Coded X) Fault → Entries Tree → Type 0
@@ -137,15 +91,15 @@ module _ (k : Kind) where
   pub codes_give : {X : Type 0} (view : X → Form) (r : Result (Coded X) Fault) (o : Kind) (ms : Entries Tree)
       → row_where (is_class status_names) (rows_asked final_tables o) ≡ Some (class status_names k)
       → CodesReadAs view r (statuses ms) → RowReadAs (coded_form view) r o (class status_names k) (members_of ms)
-  unfolding row_conforms row_form
+  unfolding row_form
   codes_give view (Ok m) o ms at h = (
-    ap (every (λ e. e.value.answer k)) (own_seen (root_conforms final_tables) ms) ∙ all_conform (statuses ms) ∙ h.0,
+    class_conforms status_names k ms ∙ h.0,
     ap (λ l. named_form (named_of (gather status_names (pairs_as (key_in status_names) k l))))
-        (own_seen (root_form final_tables) ms)
+        (class_members status_names k (root_form final_tables) ms)
         ∙ ap (λ l. named_form (named_of (gather status_names l))) (all_forms (statuses ms))
         ∙ ap (λ l. named_form (named_of l)) h.1,
   )
   codes_give view (Err f) o ms at h =
       ⊎_elim (λ m. memory_fails f o (object (members_of ms)) m)
       (λ (x : (e : List ℕ × Tree) × Among e (statuses ms) × FailsBelow (named e.0) f k e.1).
-      fails_above (named (x.0).0) f o k (object (members_of ms)) (x.0).1 (leads_to o ms x.0 at x.1) x.2) h
+      fails_above (named (x.0).0) f o k (object (members_of ms)) (x.0).1 (class_asks status_names k o ms x.0 at x.1) x.2) h

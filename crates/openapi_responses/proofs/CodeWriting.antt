@@ -56,10 +56,11 @@ in_its_class : (s : StatusCode) → writable_code (code_in s) ≡ true → in_cl
 in_its_class s w = (and_parts _ (in_class status_names (code_text s)) (again s ∙ w)).1
 
 module _ {X : Type 0} (view : X → Form) (k : Kind) where
-  -- the members that entries are written as, and whether nothing of them is lost
+  -- the members that entries are written as
   abbrev pub members : List (StatusCode × X) → Entries Tree
   members es = prints final_tables status_names k (coded_pairs view es)
 
+  -- whether nothing of them is lost
   abbrev pub all_kept : List (StatusCode × X) → Bool
   all_kept es = every (is_kept final_tables status_names k) (coded_pairs view es)
 
@@ -112,6 +113,7 @@ module _ {X : Type 0} (view : X → Form) (k : Kind) where
       ∙ ap (λ l. out ++ l) (sym (members-more first s.now x.now))
       ∙ ap (λ l. out ++ members l) (sym (map-append deref_pair done ((s, x) ∷ [])))
 
+  -- where nothing of what it gave is lost, nor of one entry more, nothing is lost of all these
   pub next_kept : (done : List (Bor StatusCode × Bor X)) (s : Bor StatusCode) (x : Bor X)
       → all_kept (map deref_pair done) ≡ true → writable_code (code_in s.now) ≡ true
       → unwritable final_tables k (view x.now) ≡ [] → all_kept (map deref_pair (done ++ (s, x) ∷ [])) ≡ true

@@ -16,7 +16,7 @@ ghost use Rattle.openapi_responses.specs.Codes.{coded_form, code_text, CodeNotWr
 
 use indexmap::IndexMap;
 use openapi_fields::{FromNode, HasSlots, ToNode, at_name, put_value};
-use openapi_node::{Cause, Fault, Members, Node, Steps};
+use openapi_node::{Cause, Fault, Members, Node, Result, Steps};
 use openapi_values::StatusCode;
 use std::alloc::Global;
 use std::str::FromStr;
@@ -27,7 +27,7 @@ fn put_at<V: Drop>(
     values: &mut IndexMap<StatusCode, V>,
     code: StatusCode,
     value: V,
-) -> Result<(), Fault>
+) -> Result<()>
     ensures ok { OnOk result (values.new.entries ≡ insert_entry ⟦<StatusCode as PartialEq>⟧.eq values.old.entries code
         value) }
     ensures err { IfErr result IsMemory }
@@ -44,7 +44,7 @@ pub(crate) fn coded_entries<R: HasSlots, T: FromNode + Drop>(
     alloc: Global,
     members: &Members,
     steps: &mut Steps,
-) -> Result<IndexMap<StatusCode, T>, Fault>
+) -> Result<IndexMap<StatusCode, T>>
     requires row { row_where (is_class kinds.status_names) (rows_asked final_tables R.object) ≡ Some
         (kinds.class kinds.status_names T.kind) }
     ensures reads { RowReadAs (coded_form T.form_of) result R.object (kinds.class kinds.status_names T.kind)
@@ -68,12 +68,7 @@ pub(crate) fn coded_entries<R: HasSlots, T: FromNode + Drop>(
 
 /// Puts what a value is written as last, under the text of a code that is not there yet. A code that would not be read
 /// again is refused.
-fn put_code<T: ToNode>(
-    alloc: Global,
-    out: &mut Members,
-    code: &StatusCode,
-    value: &T,
-) -> Result<(), Fault>
+fn put_code<T: ToNode>(alloc: Global, out: &mut Members, code: &StatusCode, value: &T) -> Result<()>
     requires { kinds.writable_code (code_in code.now) ≡ true → get (code_text code.now) out.old ≡ None }
     ensures ok { OnOk result (out.new ≡ out.old ++ (
       code_text code.now,
@@ -99,7 +94,7 @@ pub(crate) fn put_coded<R: HasSlots, T: ToNode>(
     owner: &R,
     out: &mut Members,
     values: &IndexMap<StatusCode, T>,
-) -> Result<(), Fault>
+) -> Result<()>
     requires slot { slot_where (is_class kinds.status_names) (R.slots_of owner.now) ≡ Some
         (kinds.class kinds.status_names T.kind, coded_form T.form_of values.now) }
     requires before { IsWritten final_tables (before (is_class kinds.status_names) (R.slots_of owner.now)) out.old }

@@ -13,7 +13,7 @@ use openapi_fields::{
     put_implied, put_optional,
 };
 use openapi_media_types::Content;
-use openapi_node::{Fault, Members, Node, OrderedMap, Steps};
+use openapi_node::{Members, Node, OrderedMap, Result, Steps};
 use openapi_values::ReferenceOr;
 use std::alloc::Global;
 
@@ -56,7 +56,7 @@ impl Object for RequestBody {
 
 #[tactic(auto, unfolding(openapi_tables::specs::Tables::final_tables, openapi_tables::specs::Tables::tables_with))]
 impl Record for RequestBody {
-    fn from_members(alloc: Global, members: &Members, steps: &mut Steps) -> Result<Self, Fault> {
+    fn from_members(alloc: Global, members: &Members, steps: &mut Steps) -> Result<Self> {
         Ok(RequestBody {
             required: or_implied::<Self, _>(alloc, members, "required", steps)?,
             description: optional::<Self, _>(alloc, members, "description", steps)?,
@@ -65,7 +65,7 @@ impl Record for RequestBody {
         })
     }
 
-    fn put_rows(&self, alloc: Global, out: &mut Members) -> Result<(), Fault> {
+    fn put_rows(&self, alloc: Global, out: &mut Members) -> Result<()> {
         put_optional(alloc, self, out, "description", &self.description)?;
         put_implied(alloc, self, out, "content", &self.content)?;
         put_implied(alloc, self, out, "required", &self.required)?;
@@ -83,7 +83,7 @@ pub fn request_body_ref_from_node(
     alloc: Global,
     node: &Node,
     steps: &mut Steps,
-) -> Result<ReferenceOr<RequestBody>, Fault>
+) -> Result<ReferenceOr<RequestBody>>
     ensures reads { ReadAs (reference_form (record_form request_body_rows)) result (ref_to (by request_body)) node.now }
     ensures refuses { Refuses result (ref_to (by request_body)) node.now }
     ensures rises { steps.old + 1 ≤ steps.new }
@@ -94,10 +94,7 @@ pub fn request_body_ref_from_node(
 
 /// Writes a request body or a reference to one. Err at a name of an extension that does not begin with `x-`, or for want
 /// of memory.
-pub fn request_body_ref_to_node(
-    alloc: Global,
-    value: &ReferenceOr<RequestBody>,
-) -> Result<Node, Fault>
+pub fn request_body_ref_to_node(alloc: Global, value: &ReferenceOr<RequestBody>) -> Result<Node>
     ensures { WrittenAs (ref_to (by request_body)) (reference_form (record_form request_body_rows) value.now) result }
 {
     value.to_node(alloc)

@@ -14,7 +14,7 @@ use openapi_fields::{
 };
 use openapi_media_types::{Content, Header};
 use openapi_metadata::Link;
-use openapi_node::{Fault, Members, Node, OrderedMap, Steps};
+use openapi_node::{Members, Node, OrderedMap, Result, Steps};
 use openapi_values::ReferenceOr;
 use std::alloc::Global;
 
@@ -61,7 +61,7 @@ impl Object for Response {
 
 #[tactic(auto, unfolding(openapi_tables::specs::Tables::final_tables, openapi_tables::specs::Tables::tables_with))]
 impl Record for Response {
-    fn from_members(alloc: Global, members: &Members, steps: &mut Steps) -> Result<Self, Fault> {
+    fn from_members(alloc: Global, members: &Members, steps: &mut Steps) -> Result<Self> {
         Ok(Response {
             description: required::<Self, _>(alloc, members, "description", steps)?,
             headers: or_implied::<Self, _>(alloc, members, "headers", steps)?,
@@ -71,7 +71,7 @@ impl Record for Response {
         })
     }
 
-    fn put_rows(&self, alloc: Global, out: &mut Members) -> Result<(), Fault> {
+    fn put_rows(&self, alloc: Global, out: &mut Members) -> Result<()> {
         put_required(alloc, self, out, "description", &self.description)?;
         put_implied(alloc, self, out, "headers", &self.headers)?;
         put_implied(alloc, self, out, "content", &self.content)?;
@@ -90,7 +90,7 @@ pub fn response_ref_from_node(
     alloc: Global,
     node: &Node,
     steps: &mut Steps,
-) -> Result<ReferenceOr<Response>, Fault>
+) -> Result<ReferenceOr<Response>>
     ensures reads { ReadAs (reference_form (record_form response_rows)) result (ref_to (by response)) node.now }
     ensures refuses { Refuses result (ref_to (by response)) node.now }
     ensures rises { steps.old + 1 ≤ steps.new }
@@ -101,7 +101,7 @@ pub fn response_ref_from_node(
 
 /// Writes a response or a reference to one. Err at a name of an extension that does not begin with `x-`, or for want of
 /// memory.
-pub fn response_ref_to_node(alloc: Global, value: &ReferenceOr<Response>) -> Result<Node, Fault>
+pub fn response_ref_to_node(alloc: Global, value: &ReferenceOr<Response>) -> Result<Node>
     ensures { WrittenAs (ref_to (by response)) (reference_form (record_form response_rows) value.now) result }
 {
     value.to_node(alloc)

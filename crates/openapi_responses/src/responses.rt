@@ -7,7 +7,7 @@ use crate::codes::{coded_entries, put_coded};
 use crate::response::Response;
 use indexmap::IndexMap;
 use openapi_fields::{Object, Record, extensions, optional, put_extensions, put_optional};
-use openapi_node::{Fault, Members, Node, OrderedMap, Steps};
+use openapi_node::{Members, Node, OrderedMap, Result, Steps};
 use openapi_values::{ReferenceOr, StatusCode};
 use std::alloc::Global;
 
@@ -48,7 +48,7 @@ impl Object for Responses {
 
 #[tactic(auto, unfolding(openapi_tables::specs::Tables::final_tables, openapi_tables::specs::Tables::tables_with))]
 impl Record for Responses {
-    fn from_members(alloc: Global, members: &Members, steps: &mut Steps) -> Result<Self, Fault> {
+    fn from_members(alloc: Global, members: &Members, steps: &mut Steps) -> Result<Self> {
         Ok(Responses {
             extensions: extensions::<Self>(alloc, members, steps)?,
             default: optional::<Self, _>(alloc, members, "default", steps)?,
@@ -56,7 +56,7 @@ impl Record for Responses {
         })
     }
 
-    fn put_rows(&self, alloc: Global, out: &mut Members) -> Result<(), Fault> {
+    fn put_rows(&self, alloc: Global, out: &mut Members) -> Result<()> {
         put_optional(alloc, self, out, "default", &self.default)?;
         put_coded(alloc, self, out, &self.responses)?;
         put_extensions(alloc, self, out, &self.extensions)

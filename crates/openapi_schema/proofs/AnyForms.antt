@@ -52,7 +52,7 @@ any_additional d (Some a) = refl
 any_items : (d : Any) (o : Option (ReferenceOr (Box Schema))) → optional_form (reference_form (λ b. b.value))
     (any_level (record d { items = o })).items
     ≡ optional_form (reference_form (λ b. schema_form b.value)) o
-any_items d None = refl
+any_items d (Some (r.Reference s)) = refl
 any_items d o = refl
 
 -- if each element has its form once it is mapped too, a list that is mapped has the forms of the list

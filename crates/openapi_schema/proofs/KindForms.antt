@@ -153,7 +153,7 @@ array_level d = map-ArrayType the_data the_data-1 the_data-2 the_data-3 the_data
 array_items : (d : Array) (o : Option (ReferenceOr (Box Schema))) → optional_form (reference_form (λ b. b.value))
     (array_level (record d { items = o })).items
     ≡ optional_form (reference_form (λ b. schema_form b.value)) o
-array_items d None = refl
+array_items d (Some (r.Reference s)) = refl
 array_items d o = refl
 
 -- one level of an array, with what stands inside seen as forms, gives the forms of its fields

@@ -43,6 +43,8 @@ module _ (a : FirstNames) (b : LastNames) (ms : Members) (rows : AreRows final_t
       enumeration_read final_tables ms p (trees_in b.enumeration)
       (subst P (lent_form b.enumeration) rows.1.1.1.1.1.1.1.1.1.1.1.1.1.1.1.1.0)
 
+  -- what an integer asks further: that the entries of its enumeration and its limits fit 64 bits
+  -- with sign, where they are not null
   pub integer_further : further integer_sort (members_list ms)
       ≡ (entries_test is_null_or_signed (trees_in b.enumeration) && limit_test a.plain.multiple_of && limit_test a.plain.minimum
       && limit_test a.plain.maximum)

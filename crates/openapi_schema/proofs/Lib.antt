@@ -1,6 +1,7 @@
 pub mod AnyForms
 pub mod CombinedForms
 pub mod FormatSlots
+pub mod GivenRows
 pub mod KindForms
 pub mod KindGives
 pub mod KindSorts

@@ -63,6 +63,7 @@ module _ (t : SchemaType) where
   pub type_again : join (tag_slots (Some (schema_type_word t))) (untagged (type_slots t)) ≡ type_slots t
   type_again = subst (λ ss. join (tag_slots (Some (schema_type_word t))) (untagged ss) ≡ ss) (sym same) refl
 
+  -- a refusal by its slots without their `type` is a refusal of the whole type
   pub type_loses : (f : Fault) → NotWritable f (slots_lost final_tables (untagged (type_slots t)))
       → NotWritable f (unwritable final_tables schema_type (schema_type_form t))
   type_loses f h =
@@ -84,12 +85,15 @@ module _ (t : SchemaType) where
     started : IsWritten final_tables [] out
     started = none_written final_tables out new
 
+    -- the name of the `type` is not there yet in an empty object
     pub type_tag_new : AreNew (tag_members word) out
     type_tag_new = tag_new [] (untagged (type_slots t)) word parts_apart out rows started more
 
+    -- nor are the names of the members behind it, once the `type` is there
     pub type_rows_new : AreNew rows (out ++ tag_members word)
     type_rows_new = rows_new [] (untagged (type_slots t)) word parts_apart out rows started more
 
+    -- the object of all of them is what the type is written as, and nothing is lost
     pub type_written : (node : Tree) → node ≡ object (members_of (out ++ (tag_members word ++ rows)))
         → (node ≡ print final_tables schema_type (schema_type_form t))
         × (unwritable final_tables schema_type (schema_type_form t) ≡ [])

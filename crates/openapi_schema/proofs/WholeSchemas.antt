@@ -25,7 +25,7 @@ use Rattle.openapi_fields.proofs.JoinedSlots.{loses_first, loses_wider, written_
 use Rattle.openapi_schema.proofs.TaggedRows.{rows_new, tag_new, tagged_rows}
 use Rattle.openapi_schema.proofs.OpenedForms.{schema_form-out}
 
--- an object by its sort is written as the slots of its rows, and loses what they lose
+-- an object by its sort is written as the slots of its rows
 pub schema_print : (c : Choice) (fs : List Form) → print final_tables a_schema (fields c (forms_of fs))
     ≡ object (members_of (untied (slots_print final_tables (slots (rows_of final_tables a_schema c) fs))))
 schema_print c fs =
@@ -34,6 +34,7 @@ schema_print c fs =
     ∙ ap (λ l. object (of_list l)) (slots_print-rows final_tables ws fs)
     ∙ ap object (members_untied (slots_print final_tables (slots ws fs)))
 
+-- and loses what they lose
 pub schema_lost : (c : Choice) (fs : List Form) → unwritable final_tables a_schema (fields c (forms_of fs))
     ≡ slots_lost final_tables (slots (rows_of final_tables a_schema c) fs)
 schema_lost c fs =
@@ -93,11 +94,13 @@ module _ (x : Schema) where
       ap (print final_tables a_schema) (schema_form-out x) ∙ schema_print (sort its) both
       ∙ ap (λ ss. object (members_of (untied (slots_print final_tables ss)))) here
 
+  -- what a schema loses is what its slots lose
   pub its_lost : unwritable final_tables a_schema (schema_form x) ≡ slots_lost final_tables (join first second)
   its_lost =
       ap (unwritable final_tables a_schema) (schema_form-out x) ∙ schema_lost (sort its) both
       ∙ ap (slots_lost final_tables) here
 
+  -- a refusal by the slots of what every schema can say is a refusal of the schema
   pub data_loses : (f : Fault) → NotWritable f (slots_lost final_tables first)
       → NotWritable f (unwritable final_tables a_schema (schema_form x))
   data_loses f h =
@@ -115,12 +118,15 @@ module _ (x : Schema) where
     parts_apart : slots_apart parts ≡ true
     parts_apart = ap (λ ss. slots_apart (join first ss)) is ∙ its_slots_apart
 
+    -- the name of the `type` is not there yet, behind what every schema can say
     pub its_tag_new : AreNew (tag_members word) out
     its_tag_new = tag_new first (untagged second) word parts_apart out rows done more
 
+    -- nor are the names of the members behind it, once the `type` is there
     pub its_rows_new : AreNew rows (out ++ tag_members word)
     its_rows_new = rows_new first (untagged second) word parts_apart out rows done more
 
+    -- the object of all of them is what the schema is written as, and nothing is lost
     pub schema_written : (node : Tree) → node ≡ object (members_of (out ++ (tag_members word ++ rows)))
         → (node ≡ print final_tables a_schema (schema_form x))
         × (unwritable final_tables a_schema (schema_form x) ≡ [])

@@ -60,6 +60,7 @@ module _ (k : SchemaKind) where
   unfolding rows_of
   alone_lost = kind_lost (sort its_sort) (schema_kind_rows k).1
 
+  -- a refusal by its slots without their `type` is a refusal of the whole kind
   pub alone_loses : (f : Fault) → NotWritable f (slots_lost final_tables (untagged (kind_slots k)))
       → NotWritable f (unwritable final_tables a_schema_kind (schema_kind_form k))
   alone_loses f h =
@@ -82,12 +83,15 @@ module _ (k : SchemaKind) where
     started : IsWritten final_tables [] out
     started = none_written final_tables out new
 
+    -- the name of the `type` is not there yet in an empty object
     pub alone_tag_new : AreNew (tag_members word) out
     alone_tag_new = tag_new [] (untagged (kind_slots k)) word parts_apart out rows started more
 
+    -- nor are the names of the members behind it, once the `type` is there
     pub alone_rows_new : AreNew rows (out ++ tag_members word)
     alone_rows_new = rows_new [] (untagged (kind_slots k)) word parts_apart out rows started more
 
+    -- the object of all of them is what the kind is written as, and nothing is lost
     pub alone_written : (node : Tree) → node ≡ object (members_of (out ++ (tag_members word ++ rows)))
         → (node ≡ print final_tables a_schema_kind (schema_kind_form k))
         × (unwritable final_tables a_schema_kind (schema_kind_form k) ≡ [])

@@ -15,7 +15,7 @@ use crate::any_schema::AnySchema;
 use crate::kind_names::{FirstNames, LastNames};
 use crate::plain_names::{read_plain_first, read_plain_last};
 use openapi_fields::{optional, or_implied};
-use openapi_node::{Fault, Members, Node, OrderedMap, Steps};
+use openapi_node::{Members, Node, OrderedMap, Result, Steps};
 use std::alloc::Global;
 
 /// Reads the first twelve rows of a schema of no sort in particular. A list or a map that is missing is an empty one.
@@ -24,7 +24,7 @@ pub(crate) fn read_any_first(
     alloc: Global,
     members: &Members,
     steps: &mut Steps,
-) -> Result<FirstNames, Fault>
+) -> Result<FirstNames>
     ensures reads { PartReadAs any_first_rows result (by any_schema) any_first (members_of members.now) }
     ensures count { RisesBy steps.old steps.new (3 * rows_weight any_first (members_of members.now)) }
 {
@@ -51,7 +51,7 @@ pub(crate) fn read_any_rest(
     alloc: Global,
     members: &Members,
     steps: &mut Steps,
-) -> Result<LastNames<'static>, Fault>
+) -> Result<LastNames<'static>>
     ensures reads { PartReadAs any_rest_rows result (by any_schema) any_rest (members_of members.now) }
     ensures count { RisesBy steps.old steps.new (3 * rows_weight any_rest (members_of members.now)) }
 {

@@ -7,7 +7,7 @@ use crate::any_names::{any_of_names, read_any_first, read_any_rest};
 use crate::schema::{AdditionalProperties, Schema};
 use crate::write::any_rows;
 use openapi_fields::{Object, Record, or_implied};
-use openapi_node::{Fault, Members, Node, OrderedMap, Steps, Whole};
+use openapi_node::{Members, Node, OrderedMap, Result, Steps, Whole};
 use openapi_values::ReferenceOr;
 use std::alloc::Global;
 
@@ -132,14 +132,14 @@ impl Object for AnySchema {
 
 #[tactic(auto, unfolding(openapi_tables::specs::Tables::final_tables, openapi_tables::specs::Tables::tables_with, openapi_tables::specs::Tables::any_rows))]
 impl Record for AnySchema {
-    fn from_members(alloc: Global, members: &Members, steps: &mut Steps) -> Result<Self, Fault> {
+    fn from_members(alloc: Global, members: &Members, steps: &mut Steps) -> Result<Self> {
         let first = read_any_first(alloc, members, steps)?;
         let enumeration = or_implied::<Self, _>(alloc, members, "enum", steps)?;
         let last = read_any_rest(alloc, members, steps)?;
         Ok(any_of_names(alloc, first, last, enumeration))
     }
 
-    fn put_rows(&self, alloc: Global, out: &mut Members) -> Result<(), Fault> {
+    fn put_rows(&self, alloc: Global, out: &mut Members) -> Result<()> {
         *out = any_rows(alloc, self)?;
         Ok(())
     }

@@ -6,13 +6,11 @@ ghost use Rattle.openapi_schema.specs.Reading.{outer_box_form};
 ghost use Rattle.openapi_schema.specs.SchemaForms.{additional_form};
 
 use crate::schema::{AdditionalProperties, Schema};
-use openapi_node::Fault;
+use openapi_node::Result;
 use openapi_values::ReferenceOr;
 
 /// What was read of an object that stands where a flag may stand too.
-pub(crate) fn in_additional(
-    read: Result<Box<ReferenceOr<Schema>>, Fault>,
-) -> Result<AdditionalProperties, Fault>
+pub(crate) fn in_additional(read: Result<Box<ReferenceOr<Schema>>>) -> Result<AdditionalProperties>
     ensures { (ms : Members) → ReadAs outer_box_form read (ref_to a_schema) (object ms)
         → ReadAs additional_form result flag_or_schema (object ms) }
 {

@@ -6,7 +6,7 @@ ghost use Rattle.openapi_schema.specs.Fields.{array_fields, object_fields};
 use crate::schema::{AdditionalProperties, Schema};
 use crate::write::{array_rows, object_rows};
 use openapi_fields::{Object, Record, optional, or_implied};
-use openapi_node::{Fault, Members, Node, OrderedMap, Steps};
+use openapi_node::{Members, Node, OrderedMap, Result, Steps};
 use openapi_values::ReferenceOr;
 use std::alloc::Global;
 
@@ -69,7 +69,7 @@ impl Object for ObjectType {
 
 #[tactic(auto, unfolding(openapi_tables::specs::Tables::final_tables, openapi_tables::specs::Tables::tables_with, openapi_tables::specs::Tables::object_rows))]
 impl Record for ObjectType {
-    fn from_members(alloc: Global, members: &Members, steps: &mut Steps) -> Result<Self, Fault> {
+    fn from_members(alloc: Global, members: &Members, steps: &mut Steps) -> Result<Self> {
         Ok(ObjectType {
             properties: or_implied::<Self, _>(alloc, members, "properties", steps)?,
             required: or_implied::<Self, _>(alloc, members, "required", steps)?,
@@ -84,7 +84,7 @@ impl Record for ObjectType {
         })
     }
 
-    fn put_rows(&self, alloc: Global, out: &mut Members) -> Result<(), Fault> {
+    fn put_rows(&self, alloc: Global, out: &mut Members) -> Result<()> {
         *out = object_rows(alloc, self)?;
         Ok(())
     }
@@ -98,7 +98,7 @@ impl Object for ArrayType {
 
 #[tactic(auto, unfolding(openapi_tables::specs::Tables::final_tables, openapi_tables::specs::Tables::tables_with, openapi_tables::specs::Tables::array_rows))]
 impl Record for ArrayType {
-    fn from_members(alloc: Global, members: &Members, steps: &mut Steps) -> Result<Self, Fault> {
+    fn from_members(alloc: Global, members: &Members, steps: &mut Steps) -> Result<Self> {
         Ok(ArrayType {
             items: optional::<Self, _>(alloc, members, "items", steps)?,
             min_items: optional::<Self, _>(alloc, members, "minItems", steps)?,
@@ -107,7 +107,7 @@ impl Record for ArrayType {
         })
     }
 
-    fn put_rows(&self, alloc: Global, out: &mut Members) -> Result<(), Fault> {
+    fn put_rows(&self, alloc: Global, out: &mut Members) -> Result<()> {
         *out = array_rows(alloc, self)?;
         Ok(())
     }

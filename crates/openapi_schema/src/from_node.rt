@@ -11,7 +11,7 @@ use crate::joined::schema_with;
 use crate::read::{read_additional_in, read_kind, read_schema_ref};
 use crate::schema::{AdditionalProperties, Schema, SchemaKind};
 use openapi_fields::{FromNode, Referable, in_inner_box};
-use openapi_node::{Cause, Expected, Fault, Node, Steps, View};
+use openapi_node::{Cause, Expected, Fault, Node, Result, Steps, View};
 use openapi_values::ReferenceOr;
 use std::alloc::Global;
 
@@ -21,7 +21,7 @@ pub fn boxed_schema_ref_from_node(
     alloc: Global,
     node: &Node,
     steps: &mut Steps,
-) -> Result<ReferenceOr<Box<Schema>>, Fault>
+) -> Result<ReferenceOr<Box<Schema>>>
     ensures reads { ReadAs inner_box_form result (kinds.ref_to kinds.a_schema) node.now }
     ensures refuses { Refuses result (kinds.ref_to kinds.a_schema) node.now }
     ensures rises { steps.old + 1 ≤ steps.new }
@@ -36,7 +36,7 @@ impl FromNode for Schema {
 
     ghost form_of = { schema_form };
 
-    fn from_view(alloc: Global, view: &View<'_>, steps: &mut Steps) -> Result<Schema, Fault> {
+    fn from_view(alloc: Global, view: &View<'_>, steps: &mut Steps) -> Result<Schema> {
         match view {
             View::Object(members) => {
                 schema_with(alloc, members, read_kind(alloc, members, steps), steps)
@@ -58,7 +58,7 @@ impl FromNode for SchemaKind {
 
     ghost form_of = { schema_kind_form };
 
-    fn from_view(alloc: Global, view: &View<'_>, steps: &mut Steps) -> Result<SchemaKind, Fault> {
+    fn from_view(alloc: Global, view: &View<'_>, steps: &mut Steps) -> Result<SchemaKind> {
         match view {
             View::Object(members) => read_kind(alloc, members, steps),
             _ => Err(Fault::new(alloc, Cause::WrongKind(Expected::Object))),
@@ -77,7 +77,7 @@ impl FromNode for AdditionalProperties {
         alloc: Global,
         view: &View<'_>,
         steps: &mut Steps,
-    ) -> Result<AdditionalProperties, Fault> {
+    ) -> Result<AdditionalProperties> {
         read_additional_in(alloc, view, steps)
     }
 

@@ -18,7 +18,7 @@ use crate::kind_names::{FirstNames, LastNames};
 use crate::schema::{Schema, SchemaKind};
 use crate::schema_kind::schema_kind;
 use openapi_fields::{Record, as_item};
-use openapi_node::{Fault, Members, Node, Steps};
+use openapi_node::{Members, Node, Result, Steps};
 use openapi_schema_types::SchemaData;
 use openapi_values::ReferenceOr;
 use std::alloc::Global;
@@ -28,9 +28,9 @@ use std::alloc::Global;
 pub(crate) fn kind_with(
     alloc: Global,
     first: FirstNames,
-    last: Result<LastNames<'_>, Fault>,
+    last: Result<LastNames<'_>>,
     steps: &mut Steps,
-) -> Result<SchemaKind, Fault>
+) -> Result<SchemaKind>
     ensures reads { (ms : Members) → PartReadAs first_rows (Ok first) kinds.a_schema_kind first_optional ms
         → PartReadAs last_rows last.entry kinds.a_schema_kind last_optional ms → KindReadAs result ms }
     ensures count { RisesBy steps.old steps.new (2 * entries_left last.entry) }
@@ -46,9 +46,9 @@ pub(crate) fn kind_with(
 pub(crate) fn schema_with(
     alloc: Global,
     members: &Members,
-    kind: Result<SchemaKind, Fault>,
+    kind: Result<SchemaKind>,
     steps: &mut Steps,
-) -> Result<Schema, Fault>
+) -> Result<Schema>
     ensures reads { KindReadAs kind (members_of members.now)
         → ReadAs schema_form result kinds.a_schema (object (members_of members.now)) }
     ensures count { RisesBy steps.old steps.new
@@ -71,9 +71,9 @@ pub(crate) fn schema_with(
 pub(crate) fn item_with(
     alloc: Global,
     members: &Members,
-    kind: Result<SchemaKind, Fault>,
+    kind: Result<SchemaKind>,
     steps: &mut Steps,
-) -> Result<ReferenceOr<Schema>, Fault>
+) -> Result<ReferenceOr<Schema>>
     ensures reads { KindReadAs kind (members_of members.now) → reference_in (object (members_of members.now)) ≡ None
         → ReadAs ref_form result (kinds.ref_to kinds.a_schema) (object (members_of members.now)) }
     ensures count { RisesBy steps.old steps.new

@@ -12,7 +12,7 @@ use crate::any_names::any_of_names;
 use crate::composite_types::{ArrayType, ObjectType};
 use crate::kind_names::{FirstNames, LastNames};
 use crate::schema::{SchemaKind, SchemaType};
-use openapi_node::{Fault, Node, OrderedMap, Steps, Whole};
+use openapi_node::{Node, OrderedMap, Result, Steps, Whole};
 use openapi_schema_types::{
     BooleanType, Entry, IntegerType, NumberType, Sort, StringType, copies, entries,
 };
@@ -24,7 +24,7 @@ fn enumeration<T: Entry + Drop>(
     alloc: Global,
     nodes: Option<&[Node]>,
     steps: &mut Steps,
-) -> Result<Option<Vec<Option<T>>>, Fault>
+) -> Result<Option<Vec<Option<T>>>>
     ensures reads { EnumerationReadAs T.test T.tree_in result (trees_in nodes.entry) }
     ensures err { IfErr result IsMemory }
     ensures count { RisesBy steps.old steps.new (entries_weight (trees_in nodes.entry)) }
@@ -36,7 +36,7 @@ fn enumeration<T: Entry + Drop>(
 }
 
 /// The entries of an enumeration as they are; no entries where there is no enumeration. Err only for want of memory.
-fn kept(alloc: Global, nodes: Option<&[Node]>, steps: &mut Steps) -> Result<Vec<Node>, Fault>
+fn kept(alloc: Global, nodes: Option<&[Node]>, steps: &mut Steps) -> Result<Vec<Node>>
     ensures ok { IfOk result (λ v. v.items ≡ trees_or_none (trees_in nodes.entry)) }
     ensures err { IfErr result IsMemory }
     ensures count { RisesBy steps.old steps.new (entries_weight (trees_in nodes.entry)) }
@@ -135,7 +135,7 @@ pub(crate) fn typed_or_any<T: TypedEntry>(
     first: FirstNames,
     last: LastNames<'_>,
     steps: &mut Steps,
-) -> Result<SchemaKind, Fault>
+) -> Result<SchemaKind>
     ensures reads { IfOk result (λ k. IsKindBy T.sort k first last.entry) }
     ensures err { IfErr result IsMemory }
     ensures count { RisesBy steps.old steps.new (2 * entries_weight (trees_in last.entry.enumeration)) }
@@ -220,7 +220,7 @@ pub(crate) fn integer_or_any(
     first: FirstNames,
     last: LastNames<'_>,
     steps: &mut Steps,
-) -> Result<SchemaKind, Fault>
+) -> Result<SchemaKind>
     ensures reads { IfOk result (λ k. IsKindBy sorts.integer_sort k first last.entry) }
     ensures err { IfErr result IsMemory }
     ensures count { RisesBy steps.old steps.new (2 * entries_weight (trees_in last.entry.enumeration)) }
@@ -267,7 +267,7 @@ pub(crate) fn any_kind(
     first: FirstNames,
     last: LastNames<'_>,
     steps: &mut Steps,
-) -> Result<SchemaKind, Fault>
+) -> Result<SchemaKind>
     ensures ok { IfOk result (λ k. IsKindOf sorts.any_sort k first last.entry) }
     ensures err { IfErr result IsMemory }
     ensures count { RisesBy steps.old steps.new (entries_weight (trees_in last.entry.enumeration)) }

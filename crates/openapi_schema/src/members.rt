@@ -17,7 +17,7 @@ ghost use Rattle.openapi_schema.specs.declared.schema.Schema.{out-Schema};
 
 use crate::schema::{Schema, SchemaKind, SchemaType};
 use openapi_fields::{append, put};
-use openapi_node::{Fault, Members, Node, OrderedMap};
+use openapi_node::{Fault, Members, Node, OrderedMap, Result};
 use openapi_schema_types::TypeName;
 use openapi_values::Word;
 use std::alloc::Global;
@@ -63,7 +63,7 @@ pub(crate) fn put_tagged(
     out: &mut Members,
     word: Option<&'static str>,
     rows: Members,
-) -> Result<(), Fault>
+) -> Result<()>
     requires tag { AreNew (tag_members (option_map (λ w. w.now) word)) out.old }
     requires rows { AreNew rows (out.old ++ tag_members (option_map (λ w. w.now) word)) }
     ensures ok { OnOk result (out.new ≡ out.old ++ (tag_members (option_map (λ w. w.now) word.entry) ++ rows)) }
@@ -87,7 +87,7 @@ pub(crate) fn whole_schema(
     schema: &Schema,
     mut out: Members,
     rows: Members,
-) -> Result<Node, Fault>
+) -> Result<Node>
     requires data { IsWritten final_tables (record_slots kinds.schema_data schema_data_rows
         (out-Schema schema.now).schema_data) out }
     requires kind { IsWritten final_tables (untagged (kind_slots (out-Schema schema.now).schema_kind)) rows }
@@ -98,7 +98,7 @@ pub(crate) fn whole_schema(
 }
 
 /// The kind of a schema by itself as it is written, of the members of its rows.
-pub(crate) fn whole_kind(alloc: Global, kind: &SchemaKind, rows: Members) -> Result<Node, Fault>
+pub(crate) fn whole_kind(alloc: Global, kind: &SchemaKind, rows: Members) -> Result<Node>
     requires { IsWritten final_tables (untagged (kind_slots kind.now)) rows }
     ensures { WrittenAs kinds.a_schema_kind (schema_kind_form kind.now) result }
 {
@@ -108,7 +108,7 @@ pub(crate) fn whole_kind(alloc: Global, kind: &SchemaKind, rows: Members) -> Res
 }
 
 /// The type of a schema by itself as it is written, of the members of its rows.
-pub(crate) fn whole_type(alloc: Global, typ: &SchemaType, rows: Members) -> Result<Node, Fault>
+pub(crate) fn whole_type(alloc: Global, typ: &SchemaType, rows: Members) -> Result<Node>
     requires { IsWritten final_tables (untagged (type_slots typ.now)) rows }
     ensures { WrittenAs schema_type (schema_type_form typ.now) result }
 {

@@ -9,7 +9,7 @@ ghost use Rattle.openapi_fields.specs.Reading.{PartReadAs};
 
 use crate::kind_names::KindNames;
 use openapi_fields::optional;
-use openapi_node::{Fault, Members, Node, Steps, Whole};
+use openapi_node::{Members, Node, Result, Steps, Whole};
 use std::alloc::Global;
 
 /// One text, number or flag under each of the first twelve names that has one, where it is not null.
@@ -44,7 +44,7 @@ pub(crate) fn read_plain_first(
     alloc: Global,
     members: &Members,
     steps: &mut Steps,
-) -> Result<PlainFirst, Fault>
+) -> Result<PlainFirst>
     ensures reads { PartReadAs plain_first_rows result kinds.a_schema_kind plain_first (members_of members.now) }
     ensures count { RisesBy steps.old steps.new (3 * rows_weight plain_first (members_of members.now)) }
 {
@@ -68,7 +68,7 @@ pub(crate) fn read_plain_last(
     alloc: Global,
     members: &Members,
     steps: &mut Steps,
-) -> Result<PlainLast, Fault>
+) -> Result<PlainLast>
     ensures reads { PartReadAs plain_last_rows result kinds.a_schema_kind plain_last (members_of members.now) }
     ensures count { RisesBy steps.old steps.new (3 * rows_weight plain_last (members_of members.now)) }
 {

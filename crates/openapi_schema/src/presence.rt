@@ -10,11 +10,11 @@ ghost use Rattle.openapi_schema.specs.KindNames.{trees_form};
 ghost use Rattle.openapi_schema.specs.Kinds.{entries_weight, trees_in};
 
 use openapi_fields::{as_member, present_view};
-use openapi_node::{Cause, Expected, Fault, Members, Node, Steps, View};
+use openapi_node::{Cause, Expected, Fault, Members, Node, Result, Steps, View};
 use std::alloc::Global;
 
 /// The elements of a list, which are not looked into.
-fn elements<'a>(alloc: Global, view: &View<'a>) -> Result<&'a [Node], Fault>
+fn elements<'a>(alloc: Global, view: &View<'a>) -> Result<&'a [Node]>
     ensures reads { ReadAs (λ nodes. trees_form nodes.now) result (kinds.list_of kinds.any_tree) (shown view.now) }
     ensures within { IfOk result (λ nodes. items_size (items_of nodes.now) < size_of (shown view.now)) }
 {
@@ -29,7 +29,7 @@ pub(crate) fn lent_entries<'a>(
     alloc: Global,
     members: &'a Members,
     steps: &mut Steps,
-) -> Result<Option<&'a [Node]>, Fault>
+) -> Result<Option<&'a [Node]>>
     ensures reads { RowReadAs (optional_form (λ nodes. trees_form nodes.now)) result kinds.a_schema_kind
         (kinds.row (codes "enum") kinds.optional (kinds.list_of kinds.any_tree)) (members_of members.now) }
     ensures count { RisesBy steps.old steps.new

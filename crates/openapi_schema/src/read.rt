@@ -25,7 +25,7 @@ use crate::schema::{AdditionalProperties, Schema, SchemaKind};
 use openapi_fields::{
     as_member, in_inner_box, in_outer_box, optional, present_view, push, put_read, read_reference,
 };
-use openapi_node::{Cause, Expected, Fault, Members, Node, OrderedMap, Steps, View};
+use openapi_node::{Cause, Expected, Fault, Members, Node, OrderedMap, Result, Steps, View};
 use openapi_values::ReferenceOr;
 use std::alloc::Global;
 
@@ -35,7 +35,7 @@ pub fn schema_ref_from_node(
     alloc: Global,
     node: &Node,
     steps: &mut Steps,
-) -> Result<ReferenceOr<Schema>, Fault>
+) -> Result<ReferenceOr<Schema>>
     ensures reads { ReadAs ref_form result (kinds.ref_to kinds.a_schema) node.now }
     ensures refuses { Refuses result (kinds.ref_to kinds.a_schema) node.now }
     ensures rises { steps.old + 1 ≤ steps.new }
@@ -51,7 +51,7 @@ pub(crate) fn read_schema_ref(
     alloc: Global,
     view: &View<'_>,
     steps: &mut Steps,
-) -> Result<ReferenceOr<Schema>, Fault>
+) -> Result<ReferenceOr<Schema>>
     ensures reads { ReadAs ref_form result (kinds.ref_to kinds.a_schema) (shown view.now) }
     ensures count { RisesBelow steps.old steps.new (3 * size_of (shown view.now) + 1) }
 {
@@ -71,7 +71,7 @@ fn read_boxed_schema_ref(
     alloc: Global,
     view: &View<'_>,
     steps: &mut Steps,
-) -> Result<ReferenceOr<Box<Schema>>, Fault>
+) -> Result<ReferenceOr<Box<Schema>>>
     ensures reads { ReadAs inner_box_form result (kinds.ref_to kinds.a_schema) (shown view.now) }
     ensures count { RisesBelow steps.old steps.new (3 * size_of (shown view.now) + 1) }
 {
@@ -85,7 +85,7 @@ fn read_boxed_ref(
     alloc: Global,
     view: &View<'_>,
     steps: &mut Steps,
-) -> Result<Box<ReferenceOr<Schema>>, Fault>
+) -> Result<Box<ReferenceOr<Schema>>>
     ensures reads { ReadAs outer_box_form result (kinds.ref_to kinds.a_schema) (shown view.now) }
     ensures count { RisesBelow steps.old steps.new (3 * size_of (shown view.now) + 1) }
 {
@@ -94,11 +94,7 @@ fn read_boxed_ref(
 
 /// Reads the kind of a schema among the members of an object.
 #[cycle(read)]
-pub(crate) fn read_kind(
-    alloc: Global,
-    members: &Members,
-    steps: &mut Steps,
-) -> Result<SchemaKind, Fault>
+pub(crate) fn read_kind(alloc: Global, members: &Members, steps: &mut Steps) -> Result<SchemaKind>
     ensures reads { KindReadAs result (members_of members.now) }
     ensures count { RisesBy steps.old steps.new (3 * rows_weight optional_rows (members_of members.now)) }
 {
@@ -110,11 +106,7 @@ pub(crate) fn read_kind(
 #[cycle(read)]
 #[tactic(auto, using(crate::proofs::PartRows::first_weight), unfolding(openapi_tables::specs::Members::checked_rows, openapi_tables::specs::Tables::any_rows))]
 #[inline(never)]
-fn read_first_names(
-    alloc: Global,
-    members: &Members,
-    steps: &mut Steps,
-) -> Result<FirstNames, Fault>
+fn read_first_names(alloc: Global, members: &Members, steps: &mut Steps) -> Result<FirstNames>
     ensures reads { PartReadAs first_rows result kinds.a_schema_kind first_optional (members_of members.now) }
     ensures count { RisesBy steps.old steps.new (3 * rows_weight first_optional (members_of members.now)) }
 {
@@ -138,7 +130,7 @@ fn read_last_names<'a>(
     alloc: Global,
     members: &'a Members,
     steps: &mut Steps,
-) -> Result<LastNames<'a>, Fault>
+) -> Result<LastNames<'a>>
     ensures reads { PartReadAs last_rows result kinds.a_schema_kind last_optional (members_of members.now) }
     ensures count { RisesBy steps.old steps.new (3 * rows_weight last_optional (members_of members.now)) }
     ensures left { IfOk result (λ b. steps.new + 2 * entries_weight (trees_in b.enumeration) ≤ steps.old
@@ -169,7 +161,7 @@ fn read_inner_box(
     members: &Members,
     name: &'static str,
     steps: &mut Steps,
-) -> Result<Option<ReferenceOr<Box<Schema>>>, Fault>
+) -> Result<Option<ReferenceOr<Box<Schema>>>>
     requires row { row_where (is_named name.now) (rows_asked final_tables kinds.a_schema_kind) ≡ Some
         (kinds.row name.now kinds.optional (kinds.ref_to kinds.a_schema)) }
     ensures reads { RowReadAs (optional_form inner_box_form) result kinds.a_schema_kind
@@ -190,7 +182,7 @@ fn read_outer_box(
     members: &Members,
     name: &'static str,
     steps: &mut Steps,
-) -> Result<Option<Box<ReferenceOr<Schema>>>, Fault>
+) -> Result<Option<Box<ReferenceOr<Schema>>>>
     requires row { row_where (is_named name.now) (rows_asked final_tables kinds.a_schema_kind) ≡ Some
         (kinds.row name.now kinds.optional (kinds.ref_to kinds.a_schema)) }
     ensures reads { RowReadAs (optional_form outer_box_form) result kinds.a_schema_kind
@@ -211,7 +203,7 @@ fn read_listed(
     members: &Members,
     name: &'static str,
     steps: &mut Steps,
-) -> Result<Option<Vec<ReferenceOr<Schema>>>, Fault>
+) -> Result<Option<Vec<ReferenceOr<Schema>>>>
     requires row { row_where (is_named name.now) (rows_asked final_tables kinds.a_schema_kind) ≡ Some
         (kinds.row name.now kinds.optional (kinds.list_of (kinds.ref_to kinds.a_schema))) }
     ensures reads { RowReadAs (optional_form (list_form ref_form)) result kinds.a_schema_kind
@@ -232,7 +224,7 @@ fn read_refs_in(
     alloc: Global,
     view: &View<'_>,
     steps: &mut Steps,
-) -> Result<Vec<ReferenceOr<Schema>>, Fault>
+) -> Result<Vec<ReferenceOr<Schema>>>
     ensures reads { ReadAs (list_form ref_form) result (kinds.list_of (kinds.ref_to kinds.a_schema)) (shown view.now) }
     ensures count { RisesBelow steps.old steps.new (3 * size_of (shown view.now)) }
 {
@@ -244,11 +236,7 @@ fn read_refs_in(
 
 /// The schemas and references among the elements of a list, in order.
 #[cycle(read)]
-fn read_refs(
-    alloc: Global,
-    nodes: &[Node],
-    steps: &mut Steps,
-) -> Result<Vec<ReferenceOr<Schema>>, Fault>
+fn read_refs(alloc: Global, nodes: &[Node], steps: &mut Steps) -> Result<Vec<ReferenceOr<Schema>>>
     ensures reads { ReadAs (list_form ref_form) result (kinds.list_of (kinds.ref_to kinds.a_schema))
         (list (items_of nodes.now)) }
     ensures count { RisesBy steps.old steps.new (3 * items_size (items_of nodes.now)) }
@@ -290,7 +278,7 @@ fn read_properties_in(
     alloc: Global,
     view: &View<'_>,
     steps: &mut Steps,
-) -> Result<OrderedMap<ReferenceOr<Box<Schema>>>, Fault>
+) -> Result<OrderedMap<ReferenceOr<Box<Schema>>>>
     ensures reads { ReadAs (map_form inner_box_form) result (kinds.map_of (kinds.ref_to kinds.a_schema))
         (shown view.now) }
     ensures count { RisesBelow steps.old steps.new (3 * size_of (shown view.now)) }
@@ -307,7 +295,7 @@ fn read_named(
     alloc: Global,
     members: &Members,
     steps: &mut Steps,
-) -> Result<OrderedMap<ReferenceOr<Box<Schema>>>, Fault>
+) -> Result<OrderedMap<ReferenceOr<Box<Schema>>>>
     ensures reads { ReadAs (map_form inner_box_form) result (kinds.map_of (kinds.ref_to kinds.a_schema))
         (object (members_of members.now)) }
     ensures count { RisesBy steps.old steps.new (3 * members_size (members_of members.now)) }
@@ -337,7 +325,7 @@ fn read_additional(
     alloc: Global,
     members: &Members,
     steps: &mut Steps,
-) -> Result<Option<AdditionalProperties>, Fault>
+) -> Result<Option<AdditionalProperties>>
     ensures reads { RowReadAs (optional_form additional_form) result kinds.a_schema_kind
         (kinds.row (codes "additionalProperties") kinds.optional kinds.flag_or_schema) (members_of members.now) }
     ensures count { RisesBy steps.old steps.new
@@ -359,7 +347,7 @@ pub(crate) fn read_additional_in(
     alloc: Global,
     view: &View<'_>,
     steps: &mut Steps,
-) -> Result<AdditionalProperties, Fault>
+) -> Result<AdditionalProperties>
     ensures reads { ReadAs additional_form result kinds.flag_or_schema (shown view.now) }
     ensures count { RisesBelow steps.old steps.new (3 * size_of (shown view.now) + 1) }
 {

@@ -9,7 +9,7 @@ use crate::any_schema::AnySchema;
 use crate::kind_names::{FirstNames, LastNames, named_sort};
 use crate::kinds::{any_kind, array_kind, integer_or_any, object_kind, typed_or_any};
 use crate::schema::{Schema, SchemaKind};
-use openapi_node::{Fault, Steps, Whole};
+use openapi_node::{Result, Steps, Whole};
 use openapi_schema_types::Sort;
 use openapi_values::ReferenceOr;
 use std::alloc::Global;
@@ -30,7 +30,7 @@ pub(crate) fn schema_kind(
     first: FirstNames,
     last: LastNames<'_>,
     steps: &mut Steps,
-) -> Result<SchemaKind, Fault>
+) -> Result<SchemaKind>
     ensures reads { IfOk result (λ k. IsKind k first last.entry) }
     ensures err { IfErr result IsMemory }
     ensures count { RisesBy steps.old steps.new (2 * entries_weight (trees_in last.entry.enumeration)) }

@@ -16,7 +16,7 @@ use crate::members::whole_type;
 use crate::schema::SchemaType;
 use crate::write::type_rows;
 use openapi_fields::{FromNode, Record, ToNode, tag};
-use openapi_node::{Cause, Expected, Fault, Members, Node, Steps, View};
+use openapi_node::{Cause, Expected, Fault, Members, Node, Result, Steps, View};
 use openapi_schema_types::{BooleanType, IntegerType, NumberType, StringType, TypeName};
 use std::alloc::Global;
 
@@ -26,7 +26,7 @@ fn of_type(
     name: TypeName,
     members: &Members,
     steps: &mut Steps,
-) -> Result<SchemaType, Fault>
+) -> Result<SchemaType>
     ensures reads { RowsReadAs schema_type_fields result (by (table_of name)) (members_of members.now) }
     ensures word { IfOk result (λ x. schema_type_word x ≡ type_name_word name) }
     ensures count { RisesBy steps.old steps.new
@@ -65,7 +65,7 @@ impl FromNode for SchemaType {
 
     ghost form_of = { schema_type_form };
 
-    fn from_view(alloc: Global, view: &View<'_>, steps: &mut Steps) -> Result<SchemaType, Fault> {
+    fn from_view(alloc: Global, view: &View<'_>, steps: &mut Steps) -> Result<SchemaType> {
         let View::Object(members) = view else {
             return Err(Fault::new(alloc, Cause::WrongKind(Expected::Object)));
         };
@@ -79,7 +79,7 @@ impl FromNode for SchemaType {
 }
 
 impl ToNode for SchemaType {
-    fn to_node(&self, alloc: Global) -> Result<Node, Fault> {
+    fn to_node(&self, alloc: Global) -> Result<Node> {
         match type_rows(alloc, self) {
             Ok(rows) => whole_type(alloc, self, rows),
             Err(fault) => Err(fault),

@@ -6,11 +6,11 @@ use crate::members::whole_kind;
 use crate::schema::{AdditionalProperties, Schema, SchemaKind};
 use crate::write::{additional_to_node, kind_rows, write_schema};
 use openapi_fields::{IntoNode, ToNode};
-use openapi_node::{Fault, Node};
+use openapi_node::{Node, Result};
 use std::alloc::Global;
 
 impl ToNode for Schema {
-    fn to_node(&self, alloc: Global) -> Result<Node, Fault> {
+    fn to_node(&self, alloc: Global) -> Result<Node> {
         write_schema(alloc, self)
     }
 
@@ -22,7 +22,7 @@ impl IntoNode for Schema {}
 
 /// The kind of a schema by itself, with no member that every kind of schema can have.
 impl ToNode for SchemaKind {
-    fn to_node(&self, alloc: Global) -> Result<Node, Fault> {
+    fn to_node(&self, alloc: Global) -> Result<Node> {
         match kind_rows(alloc, self) {
             Ok(rows) => whole_kind(alloc, self, rows),
             Err(fault) => Err(fault),
@@ -33,7 +33,7 @@ impl ToNode for SchemaKind {
 }
 
 impl ToNode for AdditionalProperties {
-    fn to_node(&self, alloc: Global) -> Result<Node, Fault> {
+    fn to_node(&self, alloc: Global) -> Result<Node> {
         additional_to_node(alloc, self)
     }
 

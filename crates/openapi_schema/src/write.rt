@@ -21,14 +21,14 @@ use openapi_fields::{
     as_some, only_row, push, put_implied, put_optional, put_row, put_written, record_rows,
     write_reference,
 };
-use openapi_node::{Fault, Members, Node, OrderedMap};
+use openapi_node::{Fault, Members, Node, OrderedMap, Result};
 use openapi_values::ReferenceOr;
 use std::alloc::Global;
 
 /// Writes a schema or a reference to one. It is refused where a schema in it holds an extension whose name does not
 /// begin with `x-`, at the place of that name, or for want of memory, with the empty place.
 #[cycle(write)]
-pub fn schema_ref_to_node(alloc: Global, value: &ReferenceOr<Schema>) -> Result<Node, Fault>
+pub fn schema_ref_to_node(alloc: Global, value: &ReferenceOr<Schema>) -> Result<Node>
     ensures { WrittenAs (kinds.ref_to kinds.a_schema) (ref_form value.now) result }
 {
     match value {
@@ -39,10 +39,7 @@ pub fn schema_ref_to_node(alloc: Global, value: &ReferenceOr<Schema>) -> Result<
 
 /// Writes a schema in a box, or a reference to one. It is refused as by [`schema_ref_to_node`].
 #[cycle(write)]
-pub fn boxed_schema_ref_to_node(
-    alloc: Global,
-    value: &ReferenceOr<Box<Schema>>,
-) -> Result<Node, Fault>
+pub fn boxed_schema_ref_to_node(alloc: Global, value: &ReferenceOr<Box<Schema>>) -> Result<Node>
     ensures { WrittenAs (kinds.ref_to kinds.a_schema) (inner_box_form value.now) result }
 {
     match value {
@@ -53,7 +50,7 @@ pub fn boxed_schema_ref_to_node(
 
 /// Writes a schema.
 #[cycle(write)]
-pub(crate) fn write_schema(alloc: Global, schema: &Schema) -> Result<Node, Fault>
+pub(crate) fn write_schema(alloc: Global, schema: &Schema) -> Result<Node>
     ensures { WrittenAs kinds.a_schema (schema_form schema.now) result }
 {
     match record_rows(alloc, &schema.schema_data) {
@@ -67,7 +64,7 @@ pub(crate) fn write_schema(alloc: Global, schema: &Schema) -> Result<Node, Fault
 
 /// The members that the kind of a schema is written as, but for its `type`.
 #[cycle(write)]
-pub(crate) fn kind_rows(alloc: Global, kind: &SchemaKind) -> Result<Members, Fault>
+pub(crate) fn kind_rows(alloc: Global, kind: &SchemaKind) -> Result<Members>
     ensures { RowsWritten (untagged (kind_slots kind.now)) result }
 {
     match kind {
@@ -82,7 +79,7 @@ pub(crate) fn kind_rows(alloc: Global, kind: &SchemaKind) -> Result<Members, Fau
 
 /// The members that a schema of a `type` is written as, but for the `type`.
 #[cycle(write)]
-pub(crate) fn type_rows(alloc: Global, typ: &SchemaType) -> Result<Members, Fault>
+pub(crate) fn type_rows(alloc: Global, typ: &SchemaType) -> Result<Members>
     ensures { RowsWritten (untagged (type_slots typ.now)) result }
 {
     match typ {
@@ -98,7 +95,7 @@ pub(crate) fn type_rows(alloc: Global, typ: &SchemaType) -> Result<Members, Faul
 /// The members that a schema of objects is written as, but for its `type`.
 #[cycle(write)]
 #[tactic(auto, unfolding(openapi_tables::specs::Tables::final_tables, openapi_tables::specs::Tables::tables_with, openapi_tables::specs::Tables::object_rows))]
-pub(crate) fn object_rows(alloc: Global, typ: &ObjectType) -> Result<Members, Fault>
+pub(crate) fn object_rows(alloc: Global, typ: &ObjectType) -> Result<Members>
     ensures { RowsWritten (object_slots typ.now) result }
 {
     let mut out = OrderedMap::new(alloc);
@@ -125,7 +122,7 @@ pub(crate) fn object_rows(alloc: Global, typ: &ObjectType) -> Result<Members, Fa
 /// The members that a schema of arrays is written as, but for its `type`.
 #[cycle(write)]
 #[tactic(auto, unfolding(openapi_tables::specs::Tables::final_tables, openapi_tables::specs::Tables::tables_with, openapi_tables::specs::Tables::array_rows))]
-pub(crate) fn array_rows(alloc: Global, typ: &ArrayType) -> Result<Members, Fault>
+pub(crate) fn array_rows(alloc: Global, typ: &ArrayType) -> Result<Members>
     ensures { RowsWritten (array_slots typ.now) result }
 {
     let mut out = OrderedMap::new(alloc);
@@ -144,7 +141,7 @@ pub(crate) fn array_rows(alloc: Global, typ: &ArrayType) -> Result<Members, Faul
 
 /// The members that a schema of no sort in particular is written as.
 #[cycle(write)]
-pub(crate) fn any_rows(alloc: Global, any: &AnySchema) -> Result<Members, Fault>
+pub(crate) fn any_rows(alloc: Global, any: &AnySchema) -> Result<Members>
     ensures { RowsWritten (any_slots any.now) result }
 {
     let mut out = OrderedMap::new(alloc);
@@ -156,7 +153,7 @@ pub(crate) fn any_rows(alloc: Global, any: &AnySchema) -> Result<Members, Fault>
 /// Writes the first twelve rows of a schema of no sort in particular.
 #[cycle(write)]
 #[tactic(auto, unfolding(openapi_tables::specs::Tables::final_tables, openapi_tables::specs::Tables::tables_with, openapi_tables::specs::Tables::any_rows))]
-fn put_first(alloc: Global, any: &AnySchema, out: &mut Members) -> Result<(), Fault>
+fn put_first(alloc: Global, any: &AnySchema, out: &mut Members) -> Result<()>
     requires { IsWritten final_tables [] out.old }
     ensures ok { OnOk result (IsWritten final_tables (before (is_named (codes "items")) (any_slots any.now))
         out.new) }
@@ -191,7 +188,7 @@ fn put_first(alloc: Global, any: &AnySchema, out: &mut Members) -> Result<(), Fa
 /// Writes the last twelve rows of a schema of no sort in particular.
 #[cycle(write)]
 #[tactic(auto, unfolding(openapi_tables::specs::Tables::final_tables, openapi_tables::specs::Tables::tables_with, openapi_tables::specs::Tables::any_rows))]
-fn put_last(alloc: Global, any: &AnySchema, out: &mut Members) -> Result<(), Fault>
+fn put_last(alloc: Global, any: &AnySchema, out: &mut Members) -> Result<()>
     requires { IsWritten final_tables (before (is_named (codes "items")) (any_slots any.now)) out.old }
     ensures ok { OnOk result (IsWritten final_tables (any_slots any.now) out.new) }
     ensures err { IfErr result (λ f. NotWritable f (slots_lost final_tables (any_slots any.now))) }
@@ -212,7 +209,7 @@ fn put_last(alloc: Global, any: &AnySchema, out: &mut Members) -> Result<(), Fau
 
 /// Writes a list of schemas and references; nothing where it is empty.
 #[cycle(write)]
-fn write_listed(alloc: Global, values: &Vec<ReferenceOr<Schema>>) -> Result<Option<Node>, Fault>
+fn write_listed(alloc: Global, values: &Vec<ReferenceOr<Schema>>) -> Result<Option<Node>>
     ensures { MemberWrittenAs kinds.listed (kinds.list_of (kinds.ref_to kinds.a_schema)) (list_form ref_form values.now)
         result }
 {
@@ -224,7 +221,7 @@ fn write_listed(alloc: Global, values: &Vec<ReferenceOr<Schema>>) -> Result<Opti
 
 /// Writes a list of schemas and references, in order.
 #[cycle(write)]
-fn write_refs(alloc: Global, values: &Vec<ReferenceOr<Schema>>) -> Result<Node, Fault>
+fn write_refs(alloc: Global, values: &Vec<ReferenceOr<Schema>>) -> Result<Node>
     ensures { WrittenAs (kinds.list_of (kinds.ref_to kinds.a_schema)) (list_form ref_form values.now) result }
 {
     let Ok(mut nodes) = Vec::with_capacity(alloc, values.len()) else {
@@ -244,7 +241,7 @@ fn write_refs(alloc: Global, values: &Vec<ReferenceOr<Schema>>) -> Result<Node, 
 fn write_properties(
     alloc: Global,
     values: &OrderedMap<ReferenceOr<Box<Schema>>>,
-) -> Result<Option<Node>, Fault>
+) -> Result<Option<Node>>
     ensures { MemberWrittenAs kinds.listed (kinds.map_of (kinds.ref_to kinds.a_schema))
         (map_form inner_box_form values.now) result }
 {
@@ -256,7 +253,7 @@ fn write_properties(
 
 /// Writes schemas and references by names, in order.
 #[cycle(write)]
-fn write_named(alloc: Global, values: &OrderedMap<ReferenceOr<Box<Schema>>>) -> Result<Node, Fault>
+fn write_named(alloc: Global, values: &OrderedMap<ReferenceOr<Box<Schema>>>) -> Result<Node>
     ensures { WrittenAs (kinds.map_of (kinds.ref_to kinds.a_schema)) (map_form inner_box_form values.now) result }
 {
     let Ok(mut out) = OrderedMap::with_capacity(alloc, values.len()) else {
@@ -279,10 +276,7 @@ fn write_named(alloc: Global, values: &OrderedMap<ReferenceOr<Box<Schema>>>) -> 
 
 /// Writes a schema in a box or a reference, where there is one.
 #[cycle(write)]
-fn write_items(
-    alloc: Global,
-    value: &Option<ReferenceOr<Box<Schema>>>,
-) -> Result<Option<Node>, Fault>
+fn write_items(alloc: Global, value: &Option<ReferenceOr<Box<Schema>>>) -> Result<Option<Node>>
     ensures { MemberWrittenAs kinds.optional (kinds.ref_to kinds.a_schema) (optional_form inner_box_form value.now) result }
 {
     match value {
@@ -293,7 +287,7 @@ fn write_items(
 
 /// Writes a schema or a reference in a box, where there is one.
 #[cycle(write)]
-fn write_not(alloc: Global, value: &Option<Box<ReferenceOr<Schema>>>) -> Result<Option<Node>, Fault>
+fn write_not(alloc: Global, value: &Option<Box<ReferenceOr<Schema>>>) -> Result<Option<Node>>
     ensures { MemberWrittenAs kinds.optional (kinds.ref_to kinds.a_schema) (optional_form outer_box_form value.now) result }
 {
     match value {
@@ -304,10 +298,7 @@ fn write_not(alloc: Global, value: &Option<Box<ReferenceOr<Schema>>>) -> Result<
 
 /// Writes what other members may be, where it is said.
 #[cycle(write)]
-fn write_additional(
-    alloc: Global,
-    value: &Option<AdditionalProperties>,
-) -> Result<Option<Node>, Fault>
+fn write_additional(alloc: Global, value: &Option<AdditionalProperties>) -> Result<Option<Node>>
     ensures { MemberWrittenAs kinds.optional kinds.flag_or_schema (optional_form additional_form value.now) result }
 {
     match value {
@@ -318,7 +309,7 @@ fn write_additional(
 
 /// Writes a flag, or a schema or a reference.
 #[cycle(write)]
-pub(crate) fn additional_to_node(alloc: Global, value: &AdditionalProperties) -> Result<Node, Fault>
+pub(crate) fn additional_to_node(alloc: Global, value: &AdditionalProperties) -> Result<Node>
     ensures { WrittenAs kinds.flag_or_schema (additional_form value.now) result }
 {
     match value {

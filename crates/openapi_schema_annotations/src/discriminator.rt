@@ -6,7 +6,7 @@ ghost use Rattle.openapi_schema_annotations.specs.Objects.{discriminator_rows};
 use openapi_fields::{
     Object, Record, extensions, or_implied, put_extensions, put_implied, put_required, required,
 };
-use openapi_node::{Fault, Members, Node, OrderedMap, Steps};
+use openapi_node::{Members, Node, OrderedMap, Result, Steps};
 use std::alloc::Global;
 
 /// The Discriminator Object (OpenAPI 3.0.3, section 4.7.25): how a payload tells which of several schemas describes it.
@@ -42,7 +42,7 @@ impl Object for Discriminator {
 }
 
 impl Record for Discriminator {
-    fn from_members(alloc: Global, members: &Members, steps: &mut Steps) -> Result<Self, Fault> {
+    fn from_members(alloc: Global, members: &Members, steps: &mut Steps) -> Result<Self> {
         Ok(Discriminator {
             property_name: required::<Self, _>(alloc, members, "propertyName", steps)?,
             mapping: or_implied::<Self, _>(alloc, members, "mapping", steps)?,
@@ -50,7 +50,7 @@ impl Record for Discriminator {
         })
     }
 
-    fn put_rows(&self, alloc: Global, out: &mut Members) -> Result<(), Fault> {
+    fn put_rows(&self, alloc: Global, out: &mut Members) -> Result<()> {
         put_required(alloc, self, out, "propertyName", &self.property_name)?;
         put_implied(alloc, self, out, "mapping", &self.mapping)?;
         put_extensions(alloc, self, out, &self.extensions)

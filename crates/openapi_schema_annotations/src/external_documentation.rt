@@ -6,7 +6,7 @@ ghost use Rattle.openapi_schema_annotations.specs.Objects.{external_documentatio
 use openapi_fields::{
     Object, Record, extensions, optional, put_extensions, put_optional, put_required, required,
 };
-use openapi_node::{Fault, Members, Node, OrderedMap, Steps};
+use openapi_node::{Members, Node, OrderedMap, Result, Steps};
 use std::alloc::Global;
 
 /// The External Documentation Object (OpenAPI 3.0.3, section 4.7.11): a resource outside the document with further
@@ -43,7 +43,7 @@ impl Object for ExternalDocumentation {
 }
 
 impl Record for ExternalDocumentation {
-    fn from_members(alloc: Global, members: &Members, steps: &mut Steps) -> Result<Self, Fault> {
+    fn from_members(alloc: Global, members: &Members, steps: &mut Steps) -> Result<Self> {
         Ok(ExternalDocumentation {
             description: optional::<Self, _>(alloc, members, "description", steps)?,
             url: required::<Self, _>(alloc, members, "url", steps)?,
@@ -51,7 +51,7 @@ impl Record for ExternalDocumentation {
         })
     }
 
-    fn put_rows(&self, alloc: Global, out: &mut Members) -> Result<(), Fault> {
+    fn put_rows(&self, alloc: Global, out: &mut Members) -> Result<()> {
         put_optional(alloc, self, out, "description", &self.description)?;
         put_required(alloc, self, out, "url", &self.url)?;
         put_extensions(alloc, self, out, &self.extensions)

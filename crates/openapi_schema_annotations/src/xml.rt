@@ -6,7 +6,7 @@ ghost use Rattle.openapi_schema_annotations.specs.Objects.{xml_rows};
 use openapi_fields::{
     Object, Record, extensions, optional, or_implied, put_extensions, put_implied, put_optional,
 };
-use openapi_node::{Fault, Members, Node, OrderedMap, Steps};
+use openapi_node::{Members, Node, OrderedMap, Result, Steps};
 use std::alloc::Global;
 
 /// The XML Object (OpenAPI 3.0.3, section 4.7.26): how a property is represented in XML.
@@ -55,7 +55,7 @@ impl Object for Xml {
 }
 
 impl Record for Xml {
-    fn from_members(alloc: Global, members: &Members, steps: &mut Steps) -> Result<Self, Fault> {
+    fn from_members(alloc: Global, members: &Members, steps: &mut Steps) -> Result<Self> {
         Ok(Xml {
             name: optional::<Self, _>(alloc, members, "name", steps)?,
             namespace: optional::<Self, _>(alloc, members, "namespace", steps)?,
@@ -66,7 +66,7 @@ impl Record for Xml {
         })
     }
 
-    fn put_rows(&self, alloc: Global, out: &mut Members) -> Result<(), Fault> {
+    fn put_rows(&self, alloc: Global, out: &mut Members) -> Result<()> {
         put_optional(alloc, self, out, "name", &self.name)?;
         put_optional(alloc, self, out, "namespace", &self.namespace)?;
         put_optional(alloc, self, out, "prefix", &self.prefix)?;

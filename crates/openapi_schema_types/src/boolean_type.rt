@@ -4,7 +4,7 @@ ghost use Rattle.openapi_tables.specs.Kind.{boolean_type};
 ghost use Rattle.openapi_schema_types.specs.PartForms.{boolean_type_rows};
 
 use openapi_fields::{Object, Record, or_implied, put_implied};
-use openapi_node::{Fault, Members, Node, Steps};
+use openapi_node::{Members, Node, Result, Steps};
 use std::alloc::Global;
 
 /// A schema of `type` `boolean` (OpenAPI 3.0.3, section 4.7.24).
@@ -33,13 +33,13 @@ impl Object for BooleanType {
 
 #[tactic(auto, unfolding(openapi_tables::specs::Tables::final_tables, openapi_tables::specs::Tables::tables_with, openapi_tables::specs::Tables::boolean_rows))]
 impl Record for BooleanType {
-    fn from_members(alloc: Global, members: &Members, steps: &mut Steps) -> Result<Self, Fault> {
+    fn from_members(alloc: Global, members: &Members, steps: &mut Steps) -> Result<Self> {
         Ok(BooleanType {
             enumeration: or_implied::<Self, _>(alloc, members, "enum", steps)?,
         })
     }
 
-    fn put_rows(&self, alloc: Global, out: &mut Members) -> Result<(), Fault> {
+    fn put_rows(&self, alloc: Global, out: &mut Members) -> Result<()> {
         put_implied(alloc, self, out, "enum", &self.enumeration)
     }
 }

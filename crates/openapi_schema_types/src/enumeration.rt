@@ -8,7 +8,7 @@ ghost use Rattle.openapi_fields.specs.Returned.{RisesBy};
 ghost use Rattle.openapi_schema_types.specs.Enumerations.{GivesEntry, EntriesReadAs};
 ghost use Rattle.openapi_schema_types.specs.Enumerations.{text_tree, number_tree, signed_tree, flag_tree};
 
-use openapi_node::{Fault, Node, Steps, View, Whole};
+use openapi_node::{Fault, Node, Result, Steps, View, Whole};
 use std::alloc::Global;
 
 /// What an entry of an enumeration can be, if it is not null.
@@ -27,7 +27,7 @@ pub trait Entry: Sized {
 
     /// The value that a look shows: None for null. None of all where another value is shown. Err only for want of
     /// memory.
-    fn from_shown(alloc: Global, view: &View<'_>) -> Result<Option<Option<Self>>, Fault>
+    fn from_shown(alloc: Global, view: &View<'_>) -> Result<Option<Option<Self>>>
         ensures reads { GivesEntry test tree_in result (shown view.now) }
         ensures err { IfErr result IsMemory };
 }
@@ -37,7 +37,7 @@ impl Entry for String {
 
     ghost tree_in = { text_tree };
 
-    fn from_shown(alloc: Global, view: &View<'_>) -> Result<Option<Option<String>>, Fault> {
+    fn from_shown(alloc: Global, view: &View<'_>) -> Result<Option<Option<String>>> {
         match view {
             View::Null => Ok(Some(None)),
             View::Text(text) => match String::from_str(alloc, text) {
@@ -54,7 +54,7 @@ impl Entry for Whole {
 
     ghost tree_in = { number_tree };
 
-    fn from_shown(_alloc: Global, view: &View<'_>) -> Result<Option<Option<Whole>>, Fault> {
+    fn from_shown(_alloc: Global, view: &View<'_>) -> Result<Option<Option<Whole>>> {
         match view {
             View::Null => Ok(Some(None)),
             View::Whole(number) => Ok(Some(Some(*number))),
@@ -68,7 +68,7 @@ impl Entry for i64 {
 
     ghost tree_in = { signed_tree };
 
-    fn from_shown(_alloc: Global, view: &View<'_>) -> Result<Option<Option<i64>>, Fault> {
+    fn from_shown(_alloc: Global, view: &View<'_>) -> Result<Option<Option<i64>>> {
         match view {
             View::Null => Ok(Some(None)),
             View::Whole(number) => match number.as_i64() {
@@ -85,7 +85,7 @@ impl Entry for bool {
 
     ghost tree_in = { flag_tree };
 
-    fn from_shown(_alloc: Global, view: &View<'_>) -> Result<Option<Option<bool>>, Fault> {
+    fn from_shown(_alloc: Global, view: &View<'_>) -> Result<Option<Option<bool>>> {
         match view {
             View::Null => Ok(Some(None)),
             View::Flag(flag) => Ok(Some(Some(*flag))),
@@ -100,7 +100,7 @@ pub fn entries<T: Entry + Drop>(
     alloc: Global,
     nodes: &[Node],
     steps: &mut Steps,
-) -> Result<Option<Vec<Option<T>>>, Fault>
+) -> Result<Option<Vec<Option<T>>>>
     ensures reads { EntriesReadAs T.test T.tree_in result nodes.now }
     ensures err { IfErr result IsMemory }
     ensures count { RisesBy steps.old steps.new (length nodes.now) }
@@ -124,7 +124,7 @@ pub fn entries<T: Entry + Drop>(
 
 /// The entries of an enumeration as they are. Err only for want of memory.
 #[tactic(auto, using(crate::proofs::ItemSizes::items_size_drop))]
-pub fn copies(alloc: Global, nodes: &[Node], steps: &mut Steps) -> Result<Vec<Node>, Fault>
+pub fn copies(alloc: Global, nodes: &[Node], steps: &mut Steps) -> Result<Vec<Node>>
     ensures ok { IfOk result (λ v. v.items ≡ nodes.now) }
     ensures err { IfErr result IsMemory }
     ensures count { RisesBy steps.old steps.new (items_size (items_of nodes.now)) }

@@ -5,7 +5,7 @@ ghost use Rattle.openapi_values.specs.declared.variant_or.VariantOrUnknownOrEmpt
 ghost use Rattle.openapi_schema_types.specs.PartForms.{number_type_rows};
 
 use openapi_fields::{Object, Record, optional, or_implied, put_implied, put_optional};
-use openapi_node::{Fault, Members, Node, Steps, Whole};
+use openapi_node::{Members, Node, Result, Steps, Whole};
 use openapi_values::{NumberFormat, VariantOrUnknownOrEmpty};
 use std::alloc::Global;
 
@@ -59,7 +59,7 @@ impl Object for NumberType {
 
 #[tactic(auto, unfolding(openapi_tables::specs::Tables::final_tables, openapi_tables::specs::Tables::tables_with))]
 impl Record for NumberType {
-    fn from_members(alloc: Global, members: &Members, steps: &mut Steps) -> Result<Self, Fault> {
+    fn from_members(alloc: Global, members: &Members, steps: &mut Steps) -> Result<Self> {
         Ok(NumberType {
             format: or_implied::<Self, _>(alloc, members, "format", steps)?,
             multiple_of: optional::<Self, _>(alloc, members, "multipleOf", steps)?,
@@ -71,7 +71,7 @@ impl Record for NumberType {
         })
     }
 
-    fn put_rows(&self, alloc: Global, out: &mut Members) -> Result<(), Fault> {
+    fn put_rows(&self, alloc: Global, out: &mut Members) -> Result<()> {
         put_implied(alloc, self, out, "format", &self.format)?;
         put_optional(alloc, self, out, "multipleOf", &self.multiple_of)?;
         put_implied(

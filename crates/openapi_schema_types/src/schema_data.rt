@@ -7,7 +7,7 @@ use openapi_fields::{
     Object, Record, extensions, join, optional, or_implied, put_extensions, put_implied,
     put_optional,
 };
-use openapi_node::{Fault, Members, Node, OrderedMap, Steps};
+use openapi_node::{Members, Node, OrderedMap, Result, Steps};
 use openapi_schema_annotations::{Discriminator, ExternalDocumentation, Xml};
 use std::alloc::Global;
 
@@ -82,7 +82,7 @@ impl Object for SchemaData {
 
 #[tactic(auto, unfolding(openapi_tables::specs::Tables::final_tables, openapi_tables::specs::Tables::tables_with))]
 impl Record for SchemaData {
-    fn from_members(alloc: Global, members: &Members, steps: &mut Steps) -> Result<Self, Fault> {
+    fn from_members(alloc: Global, members: &Members, steps: &mut Steps) -> Result<Self> {
         let nullable = or_implied::<Self, _>(alloc, members, "nullable", steps)?;
         let read_only = or_implied::<Self, _>(alloc, members, "readOnly", steps)?;
         let write_only = or_implied::<Self, _>(alloc, members, "writeOnly", steps)?;
@@ -118,7 +118,7 @@ impl Record for SchemaData {
         })
     }
 
-    fn put_rows(&self, alloc: Global, out: &mut Members) -> Result<(), Fault> {
+    fn put_rows(&self, alloc: Global, out: &mut Members) -> Result<()> {
         put_implied(alloc, self, out, "nullable", &self.nullable)?;
         put_implied(alloc, self, out, "readOnly", &self.read_only)?;
         put_implied(alloc, self, out, "writeOnly", &self.write_only)?;

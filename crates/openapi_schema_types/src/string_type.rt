@@ -5,7 +5,7 @@ ghost use Rattle.openapi_values.specs.declared.variant_or.VariantOrUnknownOrEmpt
 ghost use Rattle.openapi_schema_types.specs.PartForms.{string_type_rows};
 
 use openapi_fields::{Object, Record, optional, or_implied, put_implied, put_optional};
-use openapi_node::{Fault, Members, Node, Steps};
+use openapi_node::{Members, Node, Result, Steps};
 use openapi_values::{StringFormat, VariantOrUnknownOrEmpty};
 use std::alloc::Global;
 
@@ -51,7 +51,7 @@ impl Object for StringType {
 
 #[tactic(auto, unfolding(openapi_tables::specs::Tables::final_tables, openapi_tables::specs::Tables::tables_with, openapi_tables::specs::Tables::string_rows))]
 impl Record for StringType {
-    fn from_members(alloc: Global, members: &Members, steps: &mut Steps) -> Result<Self, Fault> {
+    fn from_members(alloc: Global, members: &Members, steps: &mut Steps) -> Result<Self> {
         Ok(StringType {
             format: or_implied::<Self, _>(alloc, members, "format", steps)?,
             pattern: optional::<Self, _>(alloc, members, "pattern", steps)?,
@@ -61,7 +61,7 @@ impl Record for StringType {
         })
     }
 
-    fn put_rows(&self, alloc: Global, out: &mut Members) -> Result<(), Fault> {
+    fn put_rows(&self, alloc: Global, out: &mut Members) -> Result<()> {
         put_implied(alloc, self, out, "format", &self.format)?;
         put_optional(alloc, self, out, "pattern", &self.pattern)?;
         put_implied(alloc, self, out, "enum", &self.enumeration)?;

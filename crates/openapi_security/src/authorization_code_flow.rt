@@ -5,7 +5,7 @@ ghost use Rattle.openapi_security.specs.Flows.{authorization_code_flow_rows};
 use openapi_fields::{
     Object, Record, extensions, optional, put_extensions, put_optional, put_required, required,
 };
-use openapi_node::{Fault, Members, Node, OrderedMap, Steps};
+use openapi_node::{Members, Node, OrderedMap, Result, Steps};
 use std::alloc::Global;
 
 /// The OAuth Flow Object (OpenAPI 3.0.3, section 4.7.29) of the authorization code flow of OAuth 2.
@@ -30,7 +30,7 @@ impl Object for AuthorizationCodeOAuth2Flow {
 }
 
 impl Record for AuthorizationCodeOAuth2Flow {
-    fn from_members(alloc: Global, members: &Members, steps: &mut Steps) -> Result<Self, Fault> {
+    fn from_members(alloc: Global, members: &Members, steps: &mut Steps) -> Result<Self> {
         Ok(AuthorizationCodeOAuth2Flow {
             authorization_url: required::<Self, _>(alloc, members, "authorizationUrl", steps)?,
             token_url: required::<Self, _>(alloc, members, "tokenUrl", steps)?,
@@ -40,7 +40,7 @@ impl Record for AuthorizationCodeOAuth2Flow {
         })
     }
 
-    fn put_rows(&self, alloc: Global, out: &mut Members) -> Result<(), Fault> {
+    fn put_rows(&self, alloc: Global, out: &mut Members) -> Result<()> {
         put_required(
             alloc,
             self,

@@ -5,7 +5,7 @@ ghost use Rattle.openapi_security.specs.Flows.{implicit_flow_rows};
 use openapi_fields::{
     Object, Record, extensions, optional, put_extensions, put_optional, put_required, required,
 };
-use openapi_node::{Fault, Members, Node, OrderedMap, Steps};
+use openapi_node::{Members, Node, OrderedMap, Result, Steps};
 use std::alloc::Global;
 
 /// The OAuth Flow Object (OpenAPI 3.0.3, section 4.7.29) of the implicit flow of OAuth 2.
@@ -28,7 +28,7 @@ impl Object for ImplicitOAuth2Flow {
 }
 
 impl Record for ImplicitOAuth2Flow {
-    fn from_members(alloc: Global, members: &Members, steps: &mut Steps) -> Result<Self, Fault> {
+    fn from_members(alloc: Global, members: &Members, steps: &mut Steps) -> Result<Self> {
         Ok(ImplicitOAuth2Flow {
             authorization_url: required::<Self, _>(alloc, members, "authorizationUrl", steps)?,
             refresh_url: optional::<Self, _>(alloc, members, "refreshUrl", steps)?,
@@ -37,7 +37,7 @@ impl Record for ImplicitOAuth2Flow {
         })
     }
 
-    fn put_rows(&self, alloc: Global, out: &mut Members) -> Result<(), Fault> {
+    fn put_rows(&self, alloc: Global, out: &mut Members) -> Result<()> {
         put_required(
             alloc,
             self,

@@ -8,7 +8,7 @@ use crate::client_credentials_flow::ClientCredentialsOAuth2Flow;
 use crate::implicit_flow::ImplicitOAuth2Flow;
 use crate::password_flow::PasswordOAuth2Flow;
 use openapi_fields::{Object, Record, extensions, join, optional, put_extensions, put_optional};
-use openapi_node::{Fault, Members, Node, OrderedMap, Steps};
+use openapi_node::{Members, Node, OrderedMap, Result, Steps};
 use std::alloc::Global;
 
 /// The OAuth Flows Object (OpenAPI 3.0.3, section 4.7.28): the flows of OAuth 2 that are supported.
@@ -52,7 +52,7 @@ impl Object for OAuth2Flows {
 }
 
 impl Record for OAuth2Flows {
-    fn from_members(alloc: Global, members: &Members, steps: &mut Steps) -> Result<Self, Fault> {
+    fn from_members(alloc: Global, members: &Members, steps: &mut Steps) -> Result<Self> {
         let implicit = optional::<Self, _>(alloc, members, "implicit", steps);
         let password = optional::<Self, _>(alloc, members, "password", steps);
         let client = optional::<Self, _>(alloc, members, "clientCredentials", steps);
@@ -71,7 +71,7 @@ impl Record for OAuth2Flows {
         })
     }
 
-    fn put_rows(&self, alloc: Global, out: &mut Members) -> Result<(), Fault> {
+    fn put_rows(&self, alloc: Global, out: &mut Members) -> Result<()> {
         put_optional(alloc, self, out, "implicit", &self.implicit)?;
         put_optional(alloc, self, out, "password", &self.password)?;
         put_optional(

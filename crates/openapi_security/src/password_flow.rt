@@ -5,7 +5,7 @@ ghost use Rattle.openapi_security.specs.Flows.{password_flow_rows};
 use openapi_fields::{
     Object, Record, extensions, optional, put_extensions, put_optional, put_required, required,
 };
-use openapi_node::{Fault, Members, Node, OrderedMap, Steps};
+use openapi_node::{Members, Node, OrderedMap, Result, Steps};
 use std::alloc::Global;
 
 /// The OAuth Flow Object (OpenAPI 3.0.3, section 4.7.29) of the resource owner password flow of OAuth 2.
@@ -28,7 +28,7 @@ impl Object for PasswordOAuth2Flow {
 }
 
 impl Record for PasswordOAuth2Flow {
-    fn from_members(alloc: Global, members: &Members, steps: &mut Steps) -> Result<Self, Fault> {
+    fn from_members(alloc: Global, members: &Members, steps: &mut Steps) -> Result<Self> {
         Ok(PasswordOAuth2Flow {
             refresh_url: optional::<Self, _>(alloc, members, "refreshUrl", steps)?,
             token_url: required::<Self, _>(alloc, members, "tokenUrl", steps)?,
@@ -37,7 +37,7 @@ impl Record for PasswordOAuth2Flow {
         })
     }
 
-    fn put_rows(&self, alloc: Global, out: &mut Members) -> Result<(), Fault> {
+    fn put_rows(&self, alloc: Global, out: &mut Members) -> Result<()> {
         put_optional(alloc, self, out, "refreshUrl", &self.refresh_url)?;
         put_required(alloc, self, out, "tokenUrl", &self.token_url)?;
         put_required(alloc, self, out, "scopes", &self.scopes)?;

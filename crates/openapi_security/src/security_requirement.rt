@@ -6,7 +6,7 @@ ghost use Rattle.openapi_fields.specs.Returned.{ReadAs, Refuses, WrittenAs};
 ghost use Rattle.openapi_security.specs.Schemes.{security_requirement_form};
 
 use openapi_fields::{FromNode, ToNode};
-use openapi_node::{Fault, Node, OrderedMap, Steps};
+use openapi_node::{Node, OrderedMap, Result, Steps};
 use std::alloc::Global;
 
 /// The Security Requirement Object (OpenAPI 3.0.3, section 4.7.30): by the name of each security scheme that a call
@@ -18,7 +18,7 @@ pub fn security_requirement_from_node(
     alloc: Global,
     node: &Node,
     steps: &mut Steps,
-) -> Result<SecurityRequirement, Fault>
+) -> Result<SecurityRequirement>
     ensures reads { ReadAs security_requirement_form result security_requirement node.now }
     ensures refuses { Refuses result security_requirement node.now }
     ensures rises { steps.old + 1 ≤ steps.new }
@@ -31,7 +31,7 @@ pub fn security_requirement_from_node(
 pub fn security_requirement_to_node(
     alloc: Global,
     requirement: &SecurityRequirement,
-) -> Result<Node, Fault>
+) -> Result<Node>
     ensures { WrittenAs security_requirement (security_requirement_form requirement.now) result }
 {
     requirement.to_node(alloc)

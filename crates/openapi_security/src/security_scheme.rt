@@ -21,7 +21,7 @@ use openapi_fields::{
     FromNode, HasSlots, Object, Referable, ToNode, extensions, optional, put_extensions,
     put_optional, put_required, put_tag, required, tag,
 };
-use openapi_node::{Cause, Expected, Fault, Members, Node, OrderedMap, Steps, View};
+use openapi_node::{Cause, Expected, Fault, Members, Node, OrderedMap, Result, Steps, View};
 use openapi_values::{APIKeyLocation, ReferenceOr, Word};
 use std::alloc::Global;
 
@@ -150,7 +150,7 @@ impl Object for OpenIdConnectTable {
 }
 
 /// Reads a scheme by an API key.
-fn api_key(alloc: Global, members: &Members, steps: &mut Steps) -> Result<SecurityScheme, Fault>
+fn api_key(alloc: Global, members: &Members, steps: &mut Steps) -> Result<SecurityScheme>
     ensures reads { RowsReadAs security_scheme_rows result (by kinds.api_key_scheme) (members_of members.now) }
     ensures word { IfOk result (λ x. security_scheme_word x ≡ codes "apiKey") }
     ensures count { RisesBy steps.old steps.new
@@ -165,7 +165,7 @@ fn api_key(alloc: Global, members: &Members, steps: &mut Steps) -> Result<Securi
 }
 
 /// Reads a scheme by HTTP.
-fn http(alloc: Global, members: &Members, steps: &mut Steps) -> Result<SecurityScheme, Fault>
+fn http(alloc: Global, members: &Members, steps: &mut Steps) -> Result<SecurityScheme>
     ensures reads { RowsReadAs security_scheme_rows result (by kinds.http_scheme) (members_of members.now) }
     ensures word { IfOk result (λ x. security_scheme_word x ≡ codes "http") }
     ensures count { RisesBy steps.old steps.new
@@ -180,7 +180,7 @@ fn http(alloc: Global, members: &Members, steps: &mut Steps) -> Result<SecurityS
 }
 
 /// Reads a scheme by OAuth 2.
-fn oauth2(alloc: Global, members: &Members, steps: &mut Steps) -> Result<SecurityScheme, Fault>
+fn oauth2(alloc: Global, members: &Members, steps: &mut Steps) -> Result<SecurityScheme>
     ensures reads { RowsReadAs security_scheme_rows result (by kinds.oauth2_scheme) (members_of members.now) }
     ensures word { IfOk result (λ x. security_scheme_word x ≡ codes "oauth2") }
     ensures count { RisesBy steps.old steps.new
@@ -194,11 +194,7 @@ fn oauth2(alloc: Global, members: &Members, steps: &mut Steps) -> Result<Securit
 }
 
 /// Reads a scheme by OpenID Connect.
-fn open_id_connect(
-    alloc: Global,
-    members: &Members,
-    steps: &mut Steps,
-) -> Result<SecurityScheme, Fault>
+fn open_id_connect(alloc: Global, members: &Members, steps: &mut Steps) -> Result<SecurityScheme>
     ensures reads { RowsReadAs security_scheme_rows result (by kinds.open_id_connect_scheme) (members_of members.now) }
     ensures word { IfOk result (λ x. security_scheme_word x ≡ codes "openIdConnect") }
     ensures count { RisesBy steps.old steps.new
@@ -221,11 +217,7 @@ impl FromNode for SecurityScheme {
 
     ghost form_of = { security_scheme_form };
 
-    fn from_view(
-        alloc: Global,
-        view: &View<'_>,
-        steps: &mut Steps,
-    ) -> Result<SecurityScheme, Fault> {
+    fn from_view(alloc: Global, view: &View<'_>, steps: &mut Steps) -> Result<SecurityScheme> {
         let View::Object(members) = view else {
             return Err(Fault::new(alloc, Cause::WrongKind(Expected::Object)));
         };
@@ -251,7 +243,7 @@ impl HasSlots for SecurityScheme {
 }
 
 /// Writes the members of a scheme.
-fn put_scheme(alloc: Global, value: &SecurityScheme, out: &mut Members) -> Result<(), Fault>
+fn put_scheme(alloc: Global, value: &SecurityScheme, out: &mut Members) -> Result<()>
     requires { IsWritten final_tables [] out.old }
     ensures ok { OnOk result (IsWritten final_tables (security_scheme_slots value.now) out.new) }
     ensures err { IfErr result (λ f. NotWritable f (slots_lost final_tables (security_scheme_slots value.now))) }
@@ -305,7 +297,7 @@ fn put_scheme(alloc: Global, value: &SecurityScheme, out: &mut Members) -> Resul
 }
 
 impl ToNode for SecurityScheme {
-    fn to_node(&self, alloc: Global) -> Result<Node, Fault> {
+    fn to_node(&self, alloc: Global) -> Result<Node> {
         let mut out = OrderedMap::new(alloc);
         match put_scheme(alloc, self, &mut out) {
             Ok(()) => Ok(Node::object(out)),
@@ -326,7 +318,7 @@ pub fn security_scheme_ref_from_node(
     alloc: Global,
     node: &Node,
     steps: &mut Steps,
-) -> Result<ReferenceOr<SecurityScheme>, Fault>
+) -> Result<ReferenceOr<SecurityScheme>>
     ensures reads { ReadAs (reference_form security_scheme_form) result (ref_to security_scheme) node.now }
     ensures refuses { Refuses result (ref_to security_scheme) node.now }
     ensures rises { steps.old + 1 ≤ steps.new }
@@ -340,7 +332,7 @@ pub fn security_scheme_ref_from_node(
 pub fn security_scheme_ref_to_node(
     alloc: Global,
     value: &ReferenceOr<SecurityScheme>,
-) -> Result<Node, Fault>
+) -> Result<Node>
     ensures { WrittenAs (ref_to security_scheme) (reference_form security_scheme_form value.now) result }
 {
     value.to_node(alloc)

@@ -1,19 +1,19 @@
 -- A schema of the sort that holds anything, read and written again, has the same kind names.
-use Rattle.openapi_tables.proofs.ListLaws.{every_same}
-use Rattle.std.proofs.Common.{ℕ, Bool, true, false, not, cond, ◌&&◌, ◌||◌, List, [], ◌∷◌, ◌≡◌, refl, sym, ap, ◌∙◌}
-use Rattle.std.proofs.Common.{subst, codes}
+use Rattle.std.proofs.Common.{ℕ, Bool, true, false, cond, List, [], ◌∷◌, ◌≡◌, refl, sym, ap, ◌∙◌}
+use Rattle.std.proofs.Common.{subst}
 use Rattle.std.proofs.lemmas.Bool.{and_parts}
 use Rattle.openapi_tables.specs.Prelude.{Kind, Tables, Row, a_schema, class, constant, either, list_of, listed, map_of}
 use Rattle.openapi_tables.specs.Prelude.{optional, ref_to, required, row, Form, absent, leaf, more, named, no_forms}
-use Rattle.openapi_tables.specs.Prelude.{no_named, sequence, under, each, every, has, join, Sort, all_of_sort, allowed}
-use Rattle.openapi_tables.specs.Prelude.{any_of_sort, any_sort, boolean_sort, entries_pass, first_tree, further, held}
-use Rattle.openapi_tables.specs.Prelude.{integer_sort, is_null, is_null_or_flag, is_null_or_signed, is_null_or_text}
-use Rattle.openapi_tables.specs.Prelude.{is_null_or_whole, kind_names, meets, not_sort, number_sort, one_of_sort, own}
-use Rattle.openapi_tables.specs.Prelude.{possible_sort, row_name, sort_of, string_sort, clean, is_silent, one, print}
+use Rattle.openapi_tables.specs.Prelude.{no_named, sequence, under, each, every, join}
+use Rattle.openapi_tables.specs.Prelude.{first_tree, held}
+use Rattle.openapi_tables.specs.Prelude.{is_null}
+use Rattle.openapi_tables.specs.Prelude.{kind_names, own}
+use Rattle.openapi_tables.specs.Prelude.{row_name, sort_of, clean, is_silent, one, print}
 use Rattle.openapi_tables.specs.Prelude.{row_print, face_proper, proper, row_proper, form, slot_of_own, mode_fits}
 use Rattle.openapi_tables.specs.Prelude.{row_sound, rows_apart, sound, any_rows, Entry}
 use Rattle.openapi_tables.proofs.again.RowsStay.{writes_own}
 use Rattle.openapi_tables.proofs.FormLaws.{show}
+use Rattle.openapi_tables.proofs.MemberLaws.{same_sort}
 use Rattle.openapi_tables.proofs.ListLaws.{Each, each_under, every_each}
 use Rattle.openapi_tables.proofs.PlainLaws.{clean-plain, is_plain}
 use Rattle.openapi_tables.proofs.PrintLaws.{members_for, printed}
@@ -117,73 +117,17 @@ null_alike : (l' l : List (Entry Tree)) (w : Row) → RowAlike l' l w → NullAl
 null_alike l' l (row n m k) h = h.0
 null_alike l' l w h = absurd h
 
-abbrev chain : Bool → Bool → Bool → Bool → Sort
-chain a b c d = cond (not a) one_of_sort
-    (cond (not b) all_of_sort (cond (not c) any_of_sort (cond (not d) not_sort any_sort)))
-
-names_alike : (s : Sort) (l' l : List (Entry Tree)) → Each (NullAlike l' l) any_rows
-    → every (λ n. has (allowed s) n || is_null (held n l')) kind_names
-    ≡ every (λ n. has (allowed s) n || is_null (held n l)) kind_names
-unfolding any_rows kind_names
-names_alike s l' l h =
-    every_same (λ n. has (allowed s) n || is_null (held n l'))
-    (λ n. has (allowed s) n || is_null (held n l)) kind_names
-    (each_under {P = λ n. is_null (held n l') ≡ is_null (held n l)}
-    (λ n x. ap (λ b. has (allowed s) n || b) x) kind_names h)
-
-further_alike : (s : Sort) (l' l : List (Entry Tree)) → held (codes "enum") l' ≡ held (codes "enum") l
-    → held (codes "multipleOf") l' ≡ held (codes "multipleOf") l → held (codes "minimum") l' ≡ held (codes "minimum") l
-    → held (codes "maximum") l' ≡ held (codes "maximum") l → further s l' ≡ further s l
-further_alike string_sort l' l a b c d = ap (entries_pass is_null_or_text) a
-further_alike number_sort l' l a b c d = ap (entries_pass is_null_or_whole) a
-further_alike integer_sort l' l a b c d =
-    ap (λ t. entries_pass is_null_or_signed t && is_null_or_signed (held (codes "multipleOf") l')
-    && is_null_or_signed (held (codes "minimum") l') && is_null_or_signed (held (codes "maximum") l')) a
-    ∙ ap (λ t. entries_pass is_null_or_signed (held (codes "enum") l) && is_null_or_signed t
-    && is_null_or_signed (held (codes "minimum") l') && is_null_or_signed (held (codes "maximum") l')) b
-    ∙ ap (λ t. entries_pass is_null_or_signed (held (codes "enum") l)
-    && is_null_or_signed (held (codes "multipleOf") l) && is_null_or_signed t
-    && is_null_or_signed (held (codes "maximum") l')) c
-    ∙ ap (λ t. entries_pass is_null_or_signed (held (codes "enum") l)
-    && is_null_or_signed (held (codes "multipleOf") l) && is_null_or_signed (held (codes "minimum") l)
-    && is_null_or_signed t) d
-further_alike boolean_sort l' l a b c d = ap (entries_pass is_null_or_flag) a
-further_alike s l' l a b c d = refl
-
-possible_alike : (t : Tree) (l' l : List (Entry Tree))
-    → is_null (held (codes "oneOf") l') ≡ is_null (held (codes "oneOf") l)
-    → is_null (held (codes "allOf") l') ≡ is_null (held (codes "allOf") l)
-    → is_null (held (codes "anyOf") l') ≡ is_null (held (codes "anyOf") l)
-    → is_null (held (codes "not") l') ≡ is_null (held (codes "not") l) → possible_sort t l' ≡ possible_sort t l
-possible_alike null l' l a b c d =
-    ap (λ x. chain x (is_null (held (codes "allOf") l')) (is_null (held (codes "anyOf") l'))
-    (is_null (held (codes "not") l'))) a
-    ∙ ap (λ x. chain (is_null (held (codes "oneOf") l)) x (is_null (held (codes "anyOf") l'))
-    (is_null (held (codes "not") l'))) b
-    ∙ ap (λ x. chain (is_null (held (codes "oneOf") l)) (is_null (held (codes "allOf") l)) x
-    (is_null (held (codes "not") l'))) c
-    ∙ ap (λ x. chain (is_null (held (codes "oneOf") l)) (is_null (held (codes "allOf") l))
-    (is_null (held (codes "anyOf") l)) x) d
-possible_alike t l' l a b c d = refl
-
 sort_alike : (l' l : List (Entry Tree)) → Each (RowAlike l' l) any_rows → sort_of l' ≡ sort_of l
-unfolding any_rows
+unfolding any_rows kind_names
 sort_alike l' l h =
-    let nulls : Each (NullAlike l' l) any_rows = each_under (λ w x. null_alike l' l w x) any_rows h in
-    let q : possible_sort (held (codes "type") l') l' ≡ possible_sort (held (codes "type") l) l =
-    ap (λ t. possible_sort t l') (h.0.1 refl)
-    ∙ possible_alike (held (codes "type") l) l' l h.1.1.1.1.1.1.1.1.1.1.1.1.1.1.1.1.1.1.1.1.0.0
-    h.1.1.1.1.1.1.1.1.1.1.1.1.1.1.1.1.1.1.1.1.1.0.0 h.1.1.1.1.1.1.1.1.1.1.1.1.1.1.1.1.1.1.1.1.1.1.0.0
-    h.1.1.1.1.1.1.1.1.1.1.1.1.1.1.1.1.1.1.1.1.1.1.1.0.0 in
-    ap (λ s. cond (meets s l') s any_sort) q
-    ∙ ap (λ b. cond (b && further (possible_sort (held (codes "type") l) l) l')
-    (possible_sort (held (codes "type") l) l) any_sort)
-    (names_alike (possible_sort (held (codes "type") l) l) l' l nulls)
-    ∙ ap (λ b. cond
-    (every (λ n. has (allowed (possible_sort (held (codes "type") l) l)) n || is_null (held n l)) kind_names
-    && b) (possible_sort (held (codes "type") l) l) any_sort)
-    (further_alike (possible_sort (held (codes "type") l) l) l' l (h.1.1.1.1.1.1.1.1.1.1.1.1.1.1.1.1.0.1 refl)
-    (h.1.1.0.1 refl) (h.1.1.1.1.1.0.1 refl) (h.1.1.1.1.1.1.0.1 refl))
+    same_sort l' l (record {
+      nulls = each_under (λ w x. null_alike l' l w x) any_rows h;
+      type = h.0.1 refl;
+      enum = h.1.1.1.1.1.1.1.1.1.1.1.1.1.1.1.1.0.1 refl;
+      multiple_of = h.1.1.0.1 refl;
+      minimum = h.1.1.1.1.1.0.1 refl;
+      maximum = h.1.1.1.1.1.1.0.1 refl;
+    })
 
 -- what a schema of the sort that holds anything writes, of that sort too, is read and written as one of that sort
 pub any_again : (T : Tables) (pre : List Row) (fs : List Form) (l : List (Entry Tree))

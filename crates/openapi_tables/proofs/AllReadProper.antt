@@ -5,15 +5,15 @@ use Rattle.std.proofs.lemmas.Bool.{and_parts, and_from, both_ways}
 use Rattle.openapi_tables.specs.Prelude.{Kind, Tables, Case, Code, TableName, a_schema, a_schema_kind, any_text}
 use Rattle.openapi_tables.specs.Prelude.{any_tree, by, code, code_of, flag_or_schema, format, is_code, list_of, map_of}
 use Rattle.openapi_tables.specs.Prelude.{null_or, number, one_of, ref_to, schema_data, status_code, status_names}
-use Rattle.openapi_tables.specs.Prelude.{tagged, text_of, writable_code, chosen_holds, conforms, is_reference}
+use Rattle.openapi_tables.specs.Prelude.{tagged, text_of, writable_code, chosen_holds, conforms, is_case}
 use Rattle.openapi_tables.specs.Prelude.{object_holds, reference_or, root_conforms, text_in, Form, Pair, an_item, coded}
 use Rattle.openapi_tables.specs.Prelude.{forms_of, known, leaf, name, named_of, of_code, of_forms, of_named, other}
-use Rattle.openapi_tables.specs.Prelude.{reference, each, every, has, join, Choice, Sort, checked_rows, choice, held}
+use Rattle.openapi_tables.specs.Prelude.{reference, each, every, has, join, Choice, checked_rows, choice, held}
 use Rattle.openapi_tables.specs.Prelude.{made_optional, own, plain, rows_of, sort, sort_of, sort_rows, Held}
 use Rattle.openapi_tables.specs.Prelude.{choice_proper, face_proper, is_name, is_written, of_kind, proper, rows_proper}
 use Rattle.openapi_tables.specs.Prelude.{code_form, code_key, form, pairs_as, reference_or_item, root_form, same_key}
 use Rattle.openapi_tables.specs.Prelude.{row_sound, rows_apart, sound, tables_sound, under_ref, any_rows, Entry, Seen}
-use Rattle.openapi_tables.specs.Prelude.{Shape, an_object, items_list, members_list, members_of, of_items, of_members}
+use Rattle.openapi_tables.specs.Prelude.{items_list, members_list, members_of, of_items, of_members}
 use Rattle.std.specs.Prelude.{pos}
 use Rattle.openapi_tables.proofs.again.SchemasSettle.{front}
 use Rattle.openapi_tables.proofs.CodeLaws.{code_of-text_of, writable-code_of}
@@ -23,10 +23,11 @@ use Rattle.openapi_tables.proofs.ListLaws.{Each, Each-join, every_each}
 use Rattle.openapi_tables.proofs.again.ObjectsBack.{rows_of_sound, tag_case}
 use Rattle.openapi_tables.proofs.ReadLaws.{form-fields, slot_in}
 use Rattle.openapi_tables.proofs.SortHolds.{AllHold, all_hold}
-use Rattle.openapi_tables.proofs.Taken.{trees_of-members}
+use Rattle.openapi_tables.proofs.Taken.{reference_of}
 use Rattle.openapi_tables.proofs.TreeLaws.{Inside, by_trees, members_of-list}
 use Rattle.openapi_tables.proofs.Writes.{behind, object_conforms}
 use Rattle.openapi_tables.specs.Members.{tag}
+use Rattle.openapi_tables.specs.Print.{bare}
 use Rattle.openapi_node.specs.Tree.{Items, Members, Tree, flag, item, list, member, no_items, no_members, null, object}
 use Rattle.openapi_node.specs.Tree.{text, whole}
 use Rattle.openapi_tables.proofs.SortReads.{sort_reads}
@@ -52,66 +53,93 @@ pub sound_rows_of : (T : Tables) (W : tables_sound T ≡ true) (k : Kind) (c : C
 sound_rows_of T W k c es s h = every_each (row_sound T) (rows_of T k c)
     (and_parts (rows_apart (rows_of T k c)) (every (row_sound T) (rows_of T k c)) (rows_of_sound T W k c es s h)).1
 
-table_reads : (T : Tables) (W : tables_sound T ≡ true) (i : TableName) (es : List (Entry Tree)) → ValuesProper T es
-    → conforms T (by i) (object (members_of es)) ≡ true
-    → proper T (by i) (form T (by i) (object (members_of es))) ≡ true
-unfolding rows_of checked_rows
-table_reads T W i es g h =
-    let a = sound_rows_of T W (by i) plain es refl refl in
-    ap (proper T (by i)) (form-fields T (by i) plain es refl)
-    ∙ proper-fields T (by i) plain (each (slot_in T es) (T i)) refl
-    (rows_read_proper T es (T i) a g (all_read T es (T i) a (held_of T (by i) es plain refl h)))
-
-tagged_reads : (T : Tables) (W : tables_sound T ≡ true) (n : List ℕ) (cs : List Case) (es : List (Entry Tree))
-    → sound T (tagged n cs) ≡ true → ValuesProper T es → conforms T (tagged n cs) (object (members_of es)) ≡ true
-    → proper T (tagged n cs) (form T (tagged n cs) (object (members_of es))) ≡ true
-unfolding rows_of checked_rows
-tagged_reads T W n cs es s g h = at (choice (tagged n cs) es) refl
+-- the choice of rows for a tagged object that conforms
+pub tag_of : (T : Tables) (n : List ℕ) (cs : List Case) (es : List (Entry Tree))
+    → conforms T (tagged n cs) (object (members_of es)) ≡ true
+    → (s : List ℕ) × (choice (tagged n cs) es ≡ Some (tag s)) × (is_case cs s ≡ true) × (held n es ≡ text s)
+tag_of T n cs es h = at (choice (tagged n cs) es) refl
   where
     at : (o : Option Choice) → choice (tagged n cs) es ≡ o
-        → proper T (tagged n cs) (form T (tagged n cs) (object (members_of es))) ≡ true
+        → (s : List ℕ) × (choice (tagged n cs) es ≡ Some (tag s)) × (is_case cs s ≡ true) × (held n es ≡ text s)
     at None e =
         absurd (both_ways (object_holds T (tagged n cs) (of_members (root_conforms T) (members_of es)))
         (object_conforms T (tagged n cs) es ∙ ap (λ o. chosen_holds T (tagged n cs) (judged T es) o) e) h)
-    at (Some c) e =
-        let t = tag_case cs (held n es) c e in
-        let e' : choice (tagged n cs) es ≡ Some (tag t.0) = e ∙ ap (λ d. Some d) t.1 in
-        let a = sound_rows_of T W (tagged n cs) (tag t.0) es s e' in
-        ap (proper T (tagged n cs)) (form-fields T (tagged n cs) (tag t.0) es e')
-        ∙ proper-fields T (tagged n cs) (tag t.0) (each (slot_in T es) (rows_of T (tagged n cs) (tag t.0))) t.2
-        (rows_read_proper T es (rows_of T (tagged n cs) (tag t.0)) a g
-        (all_read T es (rows_of T (tagged n cs) (tag t.0)) a (held_of T (tagged n cs) es (tag t.0) e' h)))
+    at (Some c) e = let t = tag_case cs (held n es) c e in (t.0, e ∙ ap (λ d. Some d) t.1, t.2, t.3)
 
-schema_reads : (T : Tables) (W : tables_sound T ≡ true) (es : List (Entry Tree)) → ValuesProper T es
-    → conforms T a_schema (object (members_of es)) ≡ true
-    → proper T a_schema (form T a_schema (object (members_of es))) ≡ true
+-- by which choice an object is read under a kind: its rows are sound, and each reads what the object holds
+pub record ReadBy (T : Tables) (k : Kind) (es : List (Entry Tree)) : Type 0 where
+  pub by_choice : Choice
+  pub chosen : choice k es ≡ Some by_choice
+  pub fits : choice_proper k by_choice ≡ true
+  pub stands : bare k ≡ k
+  pub sound_rows : Each (λ w. row_sound T w ≡ true) (rows_of T k by_choice)
+  pub reads : AllRead T es (rows_of T k by_choice)
+
+-- an object that conforms to a table is read by it
+pub read_by_table : (T : Tables) (W : tables_sound T ≡ true) (i : TableName) (es : List (Entry Tree))
+    → conforms T (by i) (object (members_of es)) ≡ true → ReadBy T (by i) es
 unfolding rows_of checked_rows
-schema_reads T W es g h =
-    let s : Sort = sort_of es in
+read_by_table T W i es h =
+    let a = sound_rows_of T W (by i) plain es refl refl in
+    record {
+      by_choice = plain;
+      chosen = refl;
+      fits = refl;
+      stands = refl;
+      sound_rows = a;
+      reads = all_read T es (T i) a (held_of T (by i) es plain refl h);
+    }
+
+-- one that conforms to a tagged kind is read by the table of the word under its tag
+pub read_by_tag : (T : Tables) (W : tables_sound T ≡ true) (n : List ℕ) (cs : List Case) (es : List (Entry Tree))
+    → sound T (tagged n cs) ≡ true → conforms T (tagged n cs) (object (members_of es)) ≡ true
+    → ReadBy T (tagged n cs) es
+unfolding rows_of checked_rows
+read_by_tag T W n cs es s h =
+    let t = tag_of T n cs es h in
+    let a = sound_rows_of T W (tagged n cs) (tag t.0) es s t.1 in
+    record {
+      by_choice = tag t.0;
+      chosen = t.1;
+      fits = t.2;
+      stands = refl;
+      sound_rows = a;
+      reads = all_read T es (rows_of T (tagged n cs) (tag t.0)) a (held_of T (tagged n cs) es (tag t.0) t.1 h);
+    }
+
+-- a schema is read by the table of the data of schemas, and by its sort
+pub read_by_sort : (T : Tables) (W : tables_sound T ≡ true) (es : List (Entry Tree))
+    → conforms T a_schema (object (members_of es)) ≡ true → ReadBy T a_schema es
+unfolding rows_of checked_rows
+read_by_sort T W es h =
     let a : Each (λ w. row_sound T w ≡ true) (join (T schema_data) (sort_rows (sort_of es))) =
     sound_rows_of T W a_schema (sort (sort_of es)) es refl refl in
     let p = behind T es (T schema_data) (each made_optional any_rows)
     (held_of T a_schema es (sort (sort_of es)) refl h) in
-    let r : AllRead T es (join (T schema_data) (sort_rows (sort_of es))) =
-    Each-join (λ w. RowReads T (own w es) w) (T schema_data) (sort_rows (sort_of es))
-    (all_read T es (T schema_data) (front (λ w. row_sound T w ≡ true) (T schema_data) (sort_rows (sort_of es)) a)
-    p.0) (sort_reads T (sort_of es) es p.1 refl) in
-    ap (proper T a_schema) (form-fields T a_schema (sort (sort_of es)) es refl)
-    ∙ proper-fields T a_schema (sort (sort_of es))
-    (each (slot_in T es) (join (T schema_data) (sort_rows (sort_of es)))) refl
-    (rows_read_proper T es (join (T schema_data) (sort_rows (sort_of es))) a g r)
+    record {
+      by_choice = sort (sort_of es);
+      chosen = refl;
+      fits = refl;
+      stands = refl;
+      sound_rows = a;
+      reads = Each-join (λ w. RowReads T (own w es) w) (T schema_data) (sort_rows (sort_of es))
+          (all_read T es (T schema_data) (front (λ w. row_sound T w ≡ true) (T schema_data) (sort_rows (sort_of es)) a) p.0)
+          (sort_reads T (sort_of es) es p.1 refl);
+    }
 
-kind_reads : (T : Tables) (W : tables_sound T ≡ true) (es : List (Entry Tree)) → ValuesProper T es
-    → conforms T a_schema_kind (object (members_of es)) ≡ true
-    → proper T a_schema_kind (form T a_schema_kind (object (members_of es))) ≡ true
+-- the kind of a schema is read by its sort
+pub read_by_kind : (T : Tables) (W : tables_sound T ≡ true) (es : List (Entry Tree))
+    → conforms T a_schema_kind (object (members_of es)) ≡ true → ReadBy T a_schema_kind es
 unfolding rows_of checked_rows
-kind_reads T W es g h =
-    let a : Each (λ w. row_sound T w ≡ true) (sort_rows (sort_of es)) =
-    sound_rows_of T W a_schema_kind (sort (sort_of es)) es refl refl in
-    ap (proper T a_schema_kind) (form-fields T a_schema_kind (sort (sort_of es)) es refl)
-    ∙ proper-fields T a_schema_kind (sort (sort_of es)) (each (slot_in T es) (sort_rows (sort_of es))) refl
-    (rows_read_proper T es (sort_rows (sort_of es)) a g
-    (sort_reads T (sort_of es) es (held_of T a_schema_kind es (sort (sort_of es)) refl h) refl))
+read_by_kind T W es h =
+    record {
+      by_choice = sort (sort_of es);
+      chosen = refl;
+      fits = refl;
+      stands = refl;
+      sound_rows = sound_rows_of T W a_schema_kind (sort (sort_of es)) es refl refl;
+      reads = sort_reads T (sort_of es) es (held_of T a_schema_kind es (sort (sort_of es)) refl h) refl;
+    }
 
 -- P of an object made of the list of its members
 pub of_list : (P : Tree → Type 0) (ms : Members) → P (object (members_of (members_list ms))) → P (object ms)
@@ -120,6 +148,21 @@ of_list P ms h = subst (λ x. P (object x)) (members_of-list ms) h
 -- the other way: P of an object is P of the object made of the list of its members
 pub from_list : (P : Tree → Type 0) (ms : Members) → P (object ms) → P (object (members_of (members_list ms)))
 from_list P ms h = subst (λ x. P (object x)) (sym (members_of-list ms)) h
+
+-- what is read of an object is proper, where what is read of the values inside is
+object_reads : (T : Tables) (k : Kind) (ms : Members)
+    → (conforms T k (object (members_of (members_list ms))) ≡ true → ReadBy T k (members_list ms))
+    → ValuesProper T (members_list ms) → conforms T k (object ms) ≡ true → proper T k (form T k (object ms)) ≡ true
+object_reads T k ms read g h =
+    let es = members_list ms in
+    let r = read (from_list (λ t. conforms T k t ≡ true) ms h) in
+    let fs = each (slot_in T es) (rows_of T k r.by_choice) in
+    of_list (λ t. proper T k (form T k t) ≡ true) ms
+    (ap (proper T k) (form-fields T k r.by_choice es r.chosen)
+    ∙ subst (λ j. (choice_proper j r.by_choice
+    && rows_proper (rows_of T j r.by_choice) (of_forms (face_proper T) (forms_of fs))) ≡ true) (sym r.stands)
+    (proper-fields T k r.by_choice fs r.fits
+    (rows_read_proper T es (rows_of T k r.by_choice) r.sound_rows g r.reads)))
 
 list_reads : (T : Tables) (k : Kind) (ts : Items) → sound T k ≡ true → Each (ReadsProper T) (items_list ts)
     → every (λ (x : Seen (Kind → Bool)). x.answer k) (of_items (root_conforms T) ts) ≡ true
@@ -169,18 +212,14 @@ item_reads : (T : Tables) (k : Kind) (t : Tree) → (conforms T k t ≡ true →
     → conforms T (ref_to k) t ≡ true → proper T (ref_to k) (form T (ref_to k) t) ≡ true
 item_reads T k (object ms) g h = at (text_in (held (codes "$ref") (members_list ms))) refl
   where
-    same : (X : Type 0) (f : Shape (Seen X) → X)
-        → is_reference (an_object (of_members f ms)) ≡ text_in (held (codes "$ref") (members_list ms))
-    same X f = ap (λ l. text_in (held (codes "$ref") l)) (trees_of-members f ms)
-
     at : (r : Option (List ℕ)) → text_in (held (codes "$ref") (members_list ms)) ≡ r
         → proper T (ref_to k) (form T (ref_to k) (object ms)) ≡ true
     at None e =
         ap (λ r. proper T (ref_to k) (reference_or_item r (form T k (object ms))))
-        (same (Kind → Form) (root_form T) ∙ e)
-        ∙ g (sym (ap (λ r. reference_or r (conforms T k (object ms))) (same (Kind → Bool) (root_conforms T) ∙ e)) ∙ h)
+        (reference_of (root_form T) ms ∙ e)
+        ∙ g (sym (ap (λ r. reference_or r (conforms T k (object ms))) (reference_of (root_conforms T) ms ∙ e)) ∙ h)
     at (Some u) e = ap (λ r. proper T (ref_to k) (reference_or_item r (form T k (object ms))))
-        (same (Kind → Form) (root_form T) ∙ e)
+        (reference_of (root_form T) ms ∙ e)
 item_reads T k t g h = g h
 
 step : (T : Tables) (W : tables_sound T ≡ true) (t : Tree) → Inside (ReadsProper T) t → ReadsProper T t
@@ -197,23 +236,14 @@ step T W null g (format ws b) s h = h
 step T W (whole z) g (null_or (number w)) s h = h
 step T W (list ts) g (list_of k) s h = list_reads T k ts s g h
 step T W (object ms) g (map_of k) s h = map_reads T k ms s g h
-step T W (object ms) g (by i) s h =
-    of_list (λ t. proper T (by i) (form T (by i) t) ≡ true) ms
-    (table_reads T W i (members_list ms) g (from_list (λ t. conforms T (by i) t ≡ true) ms h))
+step T W (object ms) g (by i) s h = object_reads T (by i) ms (read_by_table T W i (members_list ms)) g h
 step T W (object ms) g (tagged n cs) s h =
-    of_list (λ t. proper T (tagged n cs) (form T (tagged n cs) t) ≡ true) ms
-    (tagged_reads T W n cs (members_list ms) s g (from_list (λ t. conforms T (tagged n cs) t ≡ true) ms h))
-step T W (object ms) g a_schema s h =
-    of_list (λ t. proper T a_schema (form T a_schema t) ≡ true) ms
-    (schema_reads T W (members_list ms) g (from_list (λ t. conforms T a_schema t ≡ true) ms h))
-step T W (object ms) g a_schema_kind s h =
-    of_list (λ t. proper T a_schema_kind (form T a_schema_kind t) ≡ true) ms
-    (kind_reads T W (members_list ms) g (from_list (λ t. conforms T a_schema_kind t ≡ true) ms h))
+    object_reads T (tagged n cs) ms (read_by_tag T W n cs (members_list ms) s) g h
+step T W (object ms) g a_schema s h = object_reads T a_schema ms (read_by_sort T W (members_list ms)) g h
+step T W (object ms) g a_schema_kind s h = object_reads T a_schema_kind ms (read_by_kind T W (members_list ms)) g h
 step T W (object ms) g flag_or_schema s h =
     flag_reads (form T (ref_to a_schema) (object ms))
-    (item_reads T a_schema (object ms)
-    (λ x. of_list (λ t. proper T a_schema (form T a_schema t) ≡ true) ms
-    (schema_reads T W (members_list ms) g (from_list (λ t. conforms T a_schema t ≡ true) ms x))) h)
+    (item_reads T a_schema (object ms) (object_reads T a_schema ms (read_by_sort T W (members_list ms)) g) h)
   where
     flag_reads : (f : Form) → proper T (ref_to a_schema) f ≡ true → proper T flag_or_schema f ≡ true
     flag_reads (reference u) h = refl

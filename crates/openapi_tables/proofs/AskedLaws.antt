@@ -1,15 +1,15 @@
 -- What is asked of the values of a tree, part by part; of a tree that conforms, each value conforms to what is asked
 -- of it.
 use Rattle.std.proofs.Common.{ℕ, suc, Bool, true, false, cond, ◌&&◌, ◌||◌, List, [], ◌∷◌, Option, Some, None, ◌≡◌, refl}
-use Rattle.std.proofs.Common.{sym, ap, ◌∙◌, subst, codes}
-use Rattle.std.proofs.lemmas.Bool.{and_parts, both_ways}
+use Rattle.std.proofs.Common.{sym, ap, ◌∙◌, subst}
+use Rattle.std.proofs.lemmas.Bool.{and_parts}
 use Rattle.openapi_tables.specs.Prelude.{join, every, same_text, items_list, members_list, members_of, Entry, Seen}
-use Rattle.openapi_tables.specs.Prelude.{Shape, an_object, of_items, of_members, Kind, list_of, map_of, by, tagged}
+use Rattle.openapi_tables.specs.Prelude.{an_object, of_items, of_members, Kind, list_of, map_of, by, tagged}
 use Rattle.openapi_tables.specs.Prelude.{ref_to, flag_or_schema, a_schema, a_schema_kind, one_of, Case, Row, row}
 use Rattle.openapi_tables.specs.Prelude.{either, class, constant, required, takes, TableName, Tables, is_null, own}
 use Rattle.openapi_tables.specs.Prelude.{trees, held, first_tree, sort_of, Choice, plain, sort, any_sort, choice}
-use Rattle.openapi_tables.specs.Prelude.{checked_rows, is_case, skips_null, text_in, is_reference, reference_or}
-use Rattle.openapi_tables.specs.Prelude.{chosen_holds, object_holds, root_conforms, conforms, Asking, below, asks_items}
+use Rattle.openapi_tables.specs.Prelude.{checked_rows, is_case, skips_null, is_reference, reference_or}
+use Rattle.openapi_tables.specs.Prelude.{object_holds, root_conforms, conforms, Asking, below, asks_items}
 use Rattle.openapi_tables.specs.Prelude.{asks_members, asks_own, asks_rows, asks_row, asks_tag, here, words, tag_table}
 use Rattle.openapi_tables.specs.Prelude.{unless_reference, root_asks, asked}
 use Rattle.openapi_node.specs.Tree.{Tree, null, text, list, object, Items, no_items, item, Members}
@@ -19,13 +19,12 @@ use Rattle.openapi_tables.specs.Faults.{asks_inner}
 use Rattle.openapi_tables.proofs.ListLaws.{Each, Each-join, Each_within-only}
 use Rattle.openapi_tables.proofs.TreeLaws.{Inside, by_trees, of_members_lem, members_of-list, seen_root}
 use Rattle.openapi_tables.proofs.TreeLaws.{tree_of_root-seen}
-use Rattle.openapi_tables.proofs.Taken.{trees_of-members, ref_text}
+use Rattle.openapi_tables.proofs.Taken.{ref_text, reference_of}
 use Rattle.openapi_tables.proofs.FaultLaws.{judged, askeds, own_judged, has_words, rows_at_tag, seen_members}
 use Rattle.openapi_tables.proofs.RowWrites.{row_holds_own}
 use Rattle.openapi_tables.proofs.SortHolds.{AllHold, from_all_hold}
-use Rattle.openapi_tables.proofs.again.ObjectsBack.{tag_case}
 use Rattle.openapi_tables.proofs.Writes.{object_conforms}
-use Rattle.openapi_tables.proofs.AllReadProper.{held_of, from_list}
+use Rattle.openapi_tables.proofs.AllReadProper.{held_of, from_list, tag_of}
 
 -- P of each kind that is asked and of the value that it is asked of
 abbrev pub OfAsked : (Kind → Tree → Type 0) → List Asking → Type 0
@@ -44,19 +43,6 @@ of_below P s (a ∷ l) h = (h.0, of_below P s l h.1)
 pub to_below : (P : Kind → Tree → Type 0) (s : Step) (l : List Asking) → OfAsked P l → OfAsked P (below s l)
 to_below P s [] h = tt
 to_below P s (a ∷ l) h = (h.0, to_below P s l h.1)
-
--- the choice of rows for a tagged object that conforms
-pub tag_of : (T : Tables) (n : List ℕ) (cs : List Case) (es : List (Entry Tree))
-    → conforms T (tagged n cs) (object (members_of es)) ≡ true
-    → (s : List ℕ) × (choice (tagged n cs) es ≡ Some (tag s)) × (is_case cs s ≡ true) × (held n es ≡ text s)
-tag_of T n cs es h = at (choice (tagged n cs) es) refl
-  where
-    at : (o : Option Choice) → choice (tagged n cs) es ≡ o
-        → (s : List ℕ) × (choice (tagged n cs) es ≡ Some (tag s)) × (is_case cs s ≡ true) × (held n es ≡ text s)
-    at None e =
-        absurd (both_ways (object_holds T (tagged n cs) (of_members (root_conforms T) (members_of es)))
-        (object_conforms T (tagged n cs) es ∙ ap (λ o. chosen_holds T (tagged n cs) (judged T es) o) e) h)
-    at (Some c) e = let t = tag_case cs (held n es) c e in (t.0, e ∙ ap (λ d. Some d) t.1, t.2, t.3)
 
 -- of a tree that conforms to a kind, each value conforms to what is asked of it
 abbrev pub Meets : (T : Tables) → Kind → Tree → Type 0
@@ -203,11 +189,6 @@ map_met T k ms g h =
     (members_met T k (members_list ms) g
     (subst (λ l. every (λ (e : Entry (Seen (Kind → Bool))). e.value.answer k) l ≡ true)
     (of_members_lem (root_conforms T) ms) h))
-
--- whether a tree is a reference, by what is seen of it
-pub reference_of : {X : Type 0} → (f : Shape (Seen X) → X) (ms : Members)
-    → is_reference (an_object (of_members f ms)) ≡ ref_text (object ms)
-reference_of f ms = ap (λ l. text_in (held (codes "$ref") l)) (trees_of-members f ms)
 
 pub unless_met : (P : Kind → Tree → Type 0) (r : Option (List ℕ)) (b : Bool) (l : List Asking)
     → reference_or r b ≡ true → (b ≡ true → OfAsked P l)

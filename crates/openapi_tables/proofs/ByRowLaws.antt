@@ -7,14 +7,14 @@ use Rattle.std.proofs.Common.{ℕ, ◌≤◌, Bool, true, false, cond, ◌&&◌,
 use Rattle.std.proofs.Common.{ap, ◌∙◌, subst, arith, inl, inr, bytes_eq, true≢false}
 use Rattle.std.proofs.lemmas.Bool.{and_parts}
 use Rattle.openapi_node.specs.Place.{Step, Place, named}
-use Rattle.openapi_node.specs.Tree.{Tree, null, list, object, Members, no_members, member, size_of, find}
+use Rattle.openapi_node.specs.Tree.{Tree, list, object, Members, no_members, member, size_of, find}
 use Rattle.openapi_tables.specs.Prelude.{each, join, flat, every, same_text, Entry, on_entry, Seen, Shape, a_null}
-use Rattle.openapi_tables.specs.Prelude.{of_members, members_list, Kind, any_text, any_tree, format, by, ref_to}
+use Rattle.openapi_tables.specs.Prelude.{of_members, members_list, Kind, any_text, any_tree, by}
 use Rattle.openapi_tables.specs.Prelude.{a_schema, a_schema_kind, Mode, required, Row, row, takes, Tables, TableName}
 use Rattle.openapi_tables.specs.Prelude.{schema_data, any_rows, is_null, own, plain, rows_of, checked_rows}
 use Rattle.openapi_tables.specs.Prelude.{made_optional, root_conforms, row_holds, name_holds, conforms, may_miss}
 use Rattle.openapi_tables.specs.Prelude.{skips_null, Form, fields, forms_of, leaf, root_form, slot, name_slot, form}
-use Rattle.openapi_tables.specs.Prelude.{default_of, rows_apart, row_sound, refuses_null, never_misses, sound}
+use Rattle.openapi_tables.specs.Prelude.{default_of, rows_apart, row_sound, never_misses, sound}
 use Rattle.openapi_tables.specs.Prelude.{tables_sound, schema_rows, Asking, Cause, Asks, asked, causes, here, root_asks}
 use Rattle.openapi_tables.specs.Prelude.{below, asks_own, asks_row, asks_rows, misses, row_misses, Among, is_named}
 use Rattle.openapi_tables.specs.Prelude.{row_where, rows_asked, row_conforms, row_form, AreRows, weight, row_weight}
@@ -39,6 +39,7 @@ module _ (n : List ℕ) (m : Mode) (k : Kind) where
   abbrev taken : Members → List (Entry Tree)
   taken ms = own (row n m k) (members_list ms)
 
+  -- where a member of the name is found, it is the first that the row takes
   pub own-found : (ms : Members) (t : Tree) → find n ms ≡ Some t
       → Found n t (own (row n m k) (members_list ms))
   own-found no_members t e = cc
@@ -63,6 +64,7 @@ module _ (n : List ℕ) (m : Mode) (k : Kind) where
             is = ap (λ b. cond b (entry a u ∷ taken ms) (taken ms)) s ∙ r.is;
           }
 
+  -- where none is found, the row takes no member
   pub own-missing : (ms : Members) → find n ms ≡ None → own (row n m k) (members_list ms) ≡ []
   own-missing no_members e = refl
   own-missing (member a u ms) e = go (λ q. own-missing ms q) (bytes_eq n a) refl e
@@ -86,14 +88,17 @@ module _ (T : Tables) (n : List ℕ) (m : Mode) (k : Kind) (ms : Members) where
     seen-found f =
         own-members f (row n m k) ms ∙ ap (λ l. each (on_entry (see f)) l) (own-found n m k ms t there).is
 
+    -- the row holds where the member is a null that its mode skips, or conforms to its kind
     pub conforms-found : row_conforms T (row n m k) ms ≡ (skips_null m && is_null t || conforms T k t)
     unfolding row_conforms
     conforms-found = ap (λ l. name_holds m k l) (seen-found (root_conforms T))
 
+    -- the row reads the form of the member, or its default where the member is null
     pub form-found : row_form T (row n m k) ms ≡ cond (is_null t) (default_of m k) (form T k t)
     unfolding row_form
     form-found = ap (λ l. name_slot m k l) (seen-found (root_form T))
 
+    -- the member holds no more values than all members that the row takes
     pub weight-found : size_of t ≤ row_weight (row n m k) ms
     unfolding row_weight
     weight-found = subst (λ l. size_of t ≤ weight l) (sym (own-found n m k ms t there).is) (omega arith)
@@ -103,15 +108,17 @@ module _ (T : Tables) (n : List ℕ) (m : Mode) (k : Kind) (ms : Members) where
     seen-missing f =
         own-members f (row n m k) ms ∙ ap (λ l. each (on_entry (see f)) l) (own-missing n m k ms none)
 
+    -- without the member the row holds where its mode lets the member be missing
     pub conforms-missing : row_conforms T (row n m k) ms ≡ may_miss m
     unfolding row_conforms
     conforms-missing = ap (λ l. name_holds m k l) (seen-missing (root_conforms T))
 
+    -- without the member the row reads its default
     pub form-missing : row_form T (row n m k) ms ≡ default_of m k
     unfolding row_form
     form-missing = ap (λ l. name_slot m k l) (seen-missing (root_form T))
 
--- membership
+-- an element of the first of two lists is one of both in a row
 pub among_left : {A : Type 0} → (x : A) (xs ys : List A) → Among x xs → Among x (join xs ys)
 among_left x [] ys h = absurd h
 among_left x (y ∷ xs) ys (inl e) = inl e
@@ -142,7 +149,7 @@ among_flat x f q w (v ∷ ws) e h = go (λ p. among_flat x f q w ws p h) (q v) e
         among_left x (f v) (flat (each f ws)) (subst (λ u. Among x (f u)) s h)
     go more false p = among_right x (f v) (flat (each f ws)) (more p)
 
--- a row that passes a test is one of the rows
+-- what holds of each row holds of the first that passes a test
 pub where_each : (P : Row → Type 0) (q : Row → Bool) (ws : List Row) (w : Row)
     → Each P ws → row_where q ws ≡ Some w → P w
 where_each P q [] w h e = cc
@@ -216,13 +223,13 @@ asked_sound T W a_schema_kind =
     (every_behind (row_sound T) (T schema_data) (each made_optional any_rows) (checked T W).4)
 asked_sound T W o = tt
 
--- a row that has to be there is one of a table, and the object misses it
+-- no row that has to be there is found among rows that never miss
 schema_misses_none : (T : Tables) (q : Row → Bool) (n : List ℕ) (k : Kind) (ws : List Row)
     → every never_misses ws ≡ true → row_where q ws ≡ Some (row n required k) → ⊥
 schema_misses_none T q n k ws h e =
     true≢false (sym (where_each (λ w. never_misses w ≡ true) q ws (row n required k) (every_each never_misses ws h) e))
 
--- an object that lacks the member of a required row misses that name
+-- an object that lacks the member of a required row breaks a rule: it misses that name
 pub row_missing : (T : Tables) (W : tables_sound T ≡ true) (o : Kind) (n : List ℕ) (k : Kind) (ms : Members)
     → row_where (is_named n) (rows_asked T o) ≡ Some (row n required k) → find n ms ≡ None
     → Broken T o (object ms) [] (missing n)

@@ -1,5 +1,5 @@
 -- A form and its root; what a function gives of a form by its root.
-use Rattle.std.proofs.Common.{List, [], ◌∷◌, ◌≡◌, refl, ap}
+use Rattle.std.proofs.Common.{List, [], ◌∷◌, ◌≡◌, refl, ap, ◌∙◌}
 use Rattle.openapi_tables.specs.Prelude.{each, Form, absent, leaf, of_code, known, other, unset, reference, an_item}
 use Rattle.openapi_tables.specs.Prelude.{sequence, named, deciding, fields, Forms, no_forms, more, forms_list, forms_of}
 use Rattle.openapi_tables.specs.Prelude.{Named, no_named, under, named_list, named_of, Pair, of_forms, of_named}
@@ -24,17 +24,6 @@ pub named_list-of : (es : List (Pair Form)) → named_list (named_of es) ≡ es
 named_list-of [] = refl
 named_list-of (e ∷ es) = ap (λ l. e ∷ l) (named_list-of es)
 
--- what a function gives of forms made of a list, form by form
-pub of_forms-of : {X : Type 0} → (g : Face (Shown X) → X) (fs : List Form) → of_forms g (forms_of fs) ≡ each (show g) fs
-of_forms-of g [] = refl
-of_forms-of g (f ∷ fs) = ap (λ l. show g f ∷ l) (of_forms-of g fs)
-
--- what a function gives of a map or class made of a list, entry by entry
-pub of_named-of : {X : Type 0} → (g : Face (Shown X) → X) (es : List (Pair Form))
-    → of_named g (named_of es) ≡ each (on_pair (show g)) es
-of_named-of g [] = refl
-of_named-of g (e ∷ es) = ap (λ l. on_pair (show g) e ∷ l) (of_named-of g es)
-
 -- forms made of the list that forms are, are those forms
 pub forms_of-list : (fs : Forms) → forms_of (forms_list fs) ≡ fs
 forms_of-list no_forms = refl
@@ -56,6 +45,15 @@ pub of_named_lem : {X : Type 0} → (g : Face (Shown X) → X) (es : Named)
 of_named_lem g no_named = refl
 of_named_lem g (under n f es) = ap (λ l. on_pair (show g) (record { key = n; value = f }) ∷ l) (of_named_lem g es)
 
+-- what a function gives of forms made of a list, form by form
+pub of_forms-of : {X : Type 0} → (g : Face (Shown X) → X) (fs : List Form) → of_forms g (forms_of fs) ≡ each (show g) fs
+of_forms-of g fs = of_forms_lem g (forms_of fs) ∙ ap (each (show g)) (forms_list-of fs)
+
+-- what a function gives of a map or class made of a list, entry by entry
+pub of_named-of : {X : Type 0} → (g : Face (Shown X) → X) (es : List (Pair Form))
+    → of_named g (named_of es) ≡ each (on_pair (show g)) es
+of_named-of g es = of_named_lem g (named_of es) ∙ ap (each (on_pair (show g))) (named_list-of es)
+
 -- P holds of each form that stands directly inside
 abbrev pub Within : (Form → Type 0) → Form → Type 0
 Within P absent = Unit {0}
@@ -73,19 +71,14 @@ Within P (fields c fs) = Each P (forms_list fs)
 
 -- induction on forms
 mutual
+  -- what follows for a form from the same of the forms directly inside it holds of every form
   pub by_forms : (P : Form → Type 0) → ((f : Form) → Within P f → P f) → (f : Form) → P f
-  by_forms P h absent = h absent tt
-  by_forms P h (leaf t) = h (leaf t) tt
-  by_forms P h (of_code c) = h (of_code c) tt
-  by_forms P h (known s) = h (known s) tt
-  by_forms P h (other s) = h (other s) tt
-  by_forms P h unset = h unset tt
-  by_forms P h (reference s) = h (reference s) tt
   by_forms P h (an_item f) = h (an_item f) (by_forms P h f)
   by_forms P h (sequence fs) = h (sequence fs) (by_forms_all P h fs)
   by_forms P h (named es) = h (named es) (by_named P h es)
   by_forms P h (deciding n f) = h (deciding n f) (by_forms P h f)
   by_forms P h (fields c fs) = h (fields c fs) (by_forms_all P h fs)
+  by_forms P h f = h f tt
 
   pub by_forms_all : (P : Form → Type 0) → ((f : Form) → Within P f → P f) → (fs : Forms) → Each P (forms_list fs)
   by_forms_all P h no_forms = tt

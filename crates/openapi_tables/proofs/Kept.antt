@@ -22,14 +22,13 @@ use Rattle.openapi_tables.proofs.again.ObjectsBack.{checked, table_sound}
 use Rattle.openapi_tables.proofs.SortLaws.{Each_behind}
 use Rattle.openapi_tables.proofs.SoundLaws.{sound_pick}
 use Rattle.openapi_tables.proofs.TreeLaws.{Inside, by_trees, of_members_lem}
-use Rattle.openapi_tables.proofs.Taken.{ref_text}
+use Rattle.openapi_tables.proofs.Taken.{ref_text, reference_of}
 use Rattle.openapi_tables.proofs.FaultLaws.{judged, askeds, own_judged, rows_at_tag, seen_members}
 use Rattle.openapi_tables.proofs.RowWrites.{row_holds_own}
 use Rattle.openapi_tables.proofs.SortHolds.{AllHold, from_all_hold}
 use Rattle.openapi_tables.proofs.Writes.{object_conforms}
-use Rattle.openapi_tables.proofs.AllReadProper.{held_of, of_list, from_list}
-use Rattle.openapi_tables.proofs.AskedLaws.{OfAsked, Each_parts, of_below, tag_of, held_in, table_conforms}
-use Rattle.openapi_tables.proofs.AskedLaws.{reference_of}
+use Rattle.openapi_tables.proofs.AllReadProper.{held_of, of_list, from_list, tag_of}
+use Rattle.openapi_tables.proofs.AskedLaws.{OfAsked, Each_parts, of_below, held_in, table_conforms}
 
 -- Where kinds that change do so as C says, and P is given of what the second list asks: rows of the first list,
 -- beside the rows that hold of the same members. A row may be the same, be of another kind, be left out, or be added
@@ -275,6 +274,8 @@ module _ (T U : Tables) (W : tables_sound U ≡ true) (P : Kind → Tree → Typ
       (of_members_lem (root_conforms T) ms) h)
       (subst (λ l. OfAsked P (asks_members k l)) (of_members_lem (root_asks U) ms) o))
 
+  -- where a reference may stand: a reference still conforms, and any other object does where the
+  -- item is kept
   pub item_kept : (ms : Members) (b c : Bool) (l : List Asking)
       → reference_or (is_reference (an_object (of_members (root_conforms T) ms))) b ≡ true
       → OfAsked P (unless_reference (is_reference (an_object (of_members (root_asks U) ms))) l)

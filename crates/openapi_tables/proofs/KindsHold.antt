@@ -18,7 +18,8 @@ use Rattle.openapi_tables.proofs.RowLaws.{OwnWrites}
 use Rattle.openapi_tables.proofs.RowWrites.{row_holds_own}
 use Rattle.openapi_tables.proofs.SortLaws.{each_name, names_held}
 use Rattle.openapi_node.specs.Tree.{Items, Members, Tree, item, list, member, no_items, no_members, null, object}
-use Rattle.openapi_tables.proofs.SortHolds.{AllHold, Others, text_held}
+use Rattle.openapi_tables.proofs.SortShown.{Others}
+use Rattle.openapi_tables.proofs.SortHolds.{AllHold, text_held}
 
 -- kinds of which all that conforms to the one conforms to the other
 abbrev pub always : Kind → Kind → Bool

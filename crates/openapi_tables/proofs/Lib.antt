@@ -19,6 +19,7 @@ pub mod FaultLaws
 pub mod FaultLaw
 pub mod FaultFound
 pub mod RowWrites
+pub mod SortShown
 pub mod SortHolds
 pub mod KindsHold
 pub mod Writes

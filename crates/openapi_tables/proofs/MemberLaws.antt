@@ -25,60 +25,66 @@ pub kind_names_known : every (has kind_names) kind_names ≡ true
 unfolding kind_names any_rows
 kind_names_known = refl
 
-further_same : (s : Sort) (es ds : List (Entry Tree)) → SameKinds es ds → further s es ≡ further s ds
-unfolding kind_names any_rows
-further_same string_sort es ds h = ap (entries_pass is_null_or_text) (h (codes "enum") refl)
-further_same number_sort es ds h = ap (entries_pass is_null_or_whole) (h (codes "enum") refl)
+-- two lists of members are alike in what their sort depends on: which kind names are null or missing, the type, and
+-- what the further condition of a sort asks
+pub record AlikeKinds (es ds : List (Entry Tree)) : Type 0 where
+  pub nulls : Each (λ n. is_null (held n es) ≡ is_null (held n ds)) kind_names
+  pub type : held (codes "type") es ≡ held (codes "type") ds
+  pub enum : held (codes "enum") es ≡ held (codes "enum") ds
+  pub multiple_of : held (codes "multipleOf") es ≡ held (codes "multipleOf") ds
+  pub minimum : held (codes "minimum") es ≡ held (codes "minimum") ds
+  pub maximum : held (codes "maximum") es ≡ held (codes "maximum") ds
+
+further_same : (s : Sort) (es ds : List (Entry Tree)) → AlikeKinds es ds → further s es ≡ further s ds
+further_same string_sort es ds h = ap (entries_pass is_null_or_text) h.enum
+further_same number_sort es ds h = ap (entries_pass is_null_or_whole) h.enum
 further_same integer_sort es ds h =
-    ap (λ t. entries_pass is_null_or_signed t && is_null_or_signed (held (codes "multipleOf") es)
-    && is_null_or_signed (held (codes "minimum") es) && is_null_or_signed (held (codes "maximum") es))
-    (h (codes "enum") refl)
-    ∙ ap (λ t. entries_pass is_null_or_signed (held (codes "enum") ds) && is_null_or_signed t
-    && is_null_or_signed (held (codes "minimum") es) && is_null_or_signed (held (codes "maximum") es))
-    (h (codes "multipleOf") refl)
-    ∙ ap (λ t. entries_pass is_null_or_signed (held (codes "enum") ds)
-    && is_null_or_signed (held (codes "multipleOf") ds) && is_null_or_signed t
-    && is_null_or_signed (held (codes "maximum") es)) (h (codes "minimum") refl)
-    ∙ ap (λ t. entries_pass is_null_or_signed (held (codes "enum") ds)
-    && is_null_or_signed (held (codes "multipleOf") ds) && is_null_or_signed (held (codes "minimum") ds)
-    && is_null_or_signed t) (h (codes "maximum") refl)
-further_same boolean_sort es ds h = ap (entries_pass is_null_or_flag) (h (codes "enum") refl)
+    λ i. entries_pass is_null_or_signed (h.enum i) && is_null_or_signed (h.multiple_of i) && is_null_or_signed (h.minimum i)
+    && is_null_or_signed (h.maximum i)
+further_same boolean_sort es ds h = ap (entries_pass is_null_or_flag) h.enum
 further_same s es ds h = refl
 
-meets_same : (s : Sort) (es ds : List (Entry Tree)) → SameKinds es ds → meets s es ≡ meets s ds
+meets_same : (s : Sort) (es ds : List (Entry Tree)) → AlikeKinds es ds → meets s es ≡ meets s ds
 meets_same s es ds h =
     ap (λ b. b && further s es)
-    (every_same (λ n. has (allowed s) n || is_null (held n es))
-    (λ n. has (allowed s) n || is_null (held n ds)) kind_names
-    (each_under (λ n (x : has kind_names n ≡ true). ap (λ t. has (allowed s) n || is_null t) (h n x)) kind_names
-    (every_each (has kind_names) kind_names kind_names_known)))
+    (every_same (λ n. has (allowed s) n || is_null (held n es)) (λ n. has (allowed s) n || is_null (held n ds)) kind_names
+    (each_under {P = λ n. is_null (held n es) ≡ is_null (held n ds)}
+    (λ n x. ap (λ b. has (allowed s) n || b) x) kind_names h.nulls))
     ∙ ap (λ b. every (λ n. has (allowed s) n || is_null (held n ds)) kind_names && b) (further_same s es ds h)
 
-abbrev chain : Tree → Tree → Tree → Tree → Sort
-chain a b c d = cond (not (is_null a)) one_of_sort
-    (cond (not (is_null b)) all_of_sort (cond (not (is_null c)) any_of_sort (cond (not (is_null d)) not_sort any_sort)))
+abbrev chain : Bool → Bool → Bool → Bool → Sort
+chain a b c d = cond (not a) one_of_sort
+    (cond (not b) all_of_sort (cond (not c) any_of_sort (cond (not d) not_sort any_sort)))
 
-possible_same : (t : Tree) (es ds : List (Entry Tree)) → SameKinds es ds → possible_sort t es ≡ possible_sort t ds
+possible_same : (t : Tree) (es ds : List (Entry Tree)) → AlikeKinds es ds → possible_sort t es ≡ possible_sort t ds
 unfolding kind_names any_rows
 possible_same null es ds h =
-    ap (λ a. chain a (held (codes "allOf") es) (held (codes "anyOf") es) (held (codes "not") es))
-    (h (codes "oneOf") refl)
-    ∙ ap (λ a. chain (held (codes "oneOf") ds) a (held (codes "anyOf") es) (held (codes "not") es))
-    (h (codes "allOf") refl)
-    ∙ ap (λ a. chain (held (codes "oneOf") ds) (held (codes "allOf") ds) a (held (codes "not") es))
-    (h (codes "anyOf") refl)
-    ∙ ap (λ a. chain (held (codes "oneOf") ds) (held (codes "allOf") ds) (held (codes "anyOf") ds) a)
-    (h (codes "not") refl)
+    λ i. chain (h.nulls.1.1.1.1.1.1.1.1.1.1.1.1.1.1.1.1.1.1.1.1.0 i) (h.nulls.1.1.1.1.1.1.1.1.1.1.1.1.1.1.1.1.1.1.1.1.1.0 i)
+    (h.nulls.1.1.1.1.1.1.1.1.1.1.1.1.1.1.1.1.1.1.1.1.1.1.0 i) (h.nulls.1.1.1.1.1.1.1.1.1.1.1.1.1.1.1.1.1.1.1.1.1.1.1.0 i)
 possible_same t es ds h = refl
 
-sort_same : (es ds : List (Entry Tree)) → SameKinds es ds → sort_of es ≡ sort_of ds
-unfolding kind_names any_rows
-sort_same es ds h =
+-- members that are alike in what their sort depends on have the same sort
+pub same_sort : (es ds : List (Entry Tree)) → AlikeKinds es ds → sort_of es ≡ sort_of ds
+same_sort es ds h =
     let p : possible_sort (held (codes "type") es) es ≡ possible_sort (held (codes "type") ds) ds =
-    possible_same (held (codes "type") es) es ds h ∙ ap (λ t. possible_sort t ds) (h (codes "type") refl) in
+    possible_same (held (codes "type") es) es ds h ∙ ap (λ t. possible_sort t ds) h.type in
     ap (λ s. cond (meets s es) s any_sort) p
     ∙ ap (λ b. cond b (possible_sort (held (codes "type") ds) ds) any_sort)
     (meets_same (possible_sort (held (codes "type") ds) ds) es ds h)
+
+-- so it is with members that hold the same under each kind name
+sort_same : (es ds : List (Entry Tree)) → SameKinds es ds → sort_of es ≡ sort_of ds
+unfolding kind_names any_rows
+sort_same es ds h =
+    same_sort es ds (record {
+      nulls = each_under (λ n (x : has kind_names n ≡ true). ap is_null (h n x)) kind_names
+          (every_each (has kind_names) kind_names kind_names_known);
+      type = h (codes "type") refl;
+      enum = h (codes "enum") refl;
+      multiple_of = h (codes "multipleOf") refl;
+      minimum = h (codes "minimum") refl;
+      maximum = h (codes "maximum") refl;
+    })
 
 -- which rows an object is read by depends on the names that have a say in it
 pub choice_same : (k : Kind) (es ds : List (Entry Tree)) → ((n : List ℕ) → steers k n ≡ true → held n es ≡ held n ds)

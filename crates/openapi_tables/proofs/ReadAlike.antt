@@ -17,7 +17,7 @@ use Rattle.openapi_tables.proofs.ListLaws.{Each, Each-join, same_text-refl}
 use Rattle.openapi_tables.proofs.MemberLaws.{choice_same, form_same, only_skips, only_swaps, other_name, not_two}
 use Rattle.openapi_tables.proofs.ReadLaws.{form-reference}
 use Rattle.openapi_tables.proofs.RowWrites.{row_holds_own, row_holds_lem}
-use Rattle.openapi_tables.proofs.Taken.{trees_of-members}
+use Rattle.openapi_tables.proofs.Taken.{reference_of}
 use Rattle.openapi_tables.proofs.TreeLaws.{members_list-of}
 use Rattle.openapi_tables.proofs.Writes.{object_conforms}
 
@@ -102,8 +102,7 @@ alike_object T k c es ds h g o q = (form_same T k c es ds h g o, conforms_same T
 -- ---- references
 referred : {X : Type 0} (f : Shape (Seen X) → X) (es : List (Entry Tree))
     → is_reference (an_object (of_members f (members_of es))) ≡ text_in (held (codes "$ref") es)
-referred f es =
-    ap (λ l. text_in (held (codes "$ref") l)) (trees_of-members f (members_of es) ∙ members_list-of es)
+referred f es = reference_of f (members_of es) ∙ ap (λ l. text_in (held (codes "$ref") l)) (members_list-of es)
 
 referred_same : {X : Type 0} (f : Shape (Seen X) → X) (es ds : List (Entry Tree))
     → held (codes "$ref") es ≡ held (codes "$ref") ds

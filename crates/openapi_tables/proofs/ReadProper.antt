@@ -2,14 +2,14 @@
 use Rattle.std.proofs.Common.{ℕ, Bool, true, false, not, cond, ◌&&◌, ◌||◌, List, [], ◌∷◌, ◌≡◌, refl, sym, ap, ◌∙◌}
 use Rattle.std.proofs.Common.{eq-eqb, ⊎_elim}
 use Rattle.std.proofs.lemmas.Bool.{and_parts, and_from, or_left, or_right, or_cases}
-use Rattle.openapi_tables.specs.Prelude.{Kind, Tables, Row, Class, Code, Mode, any_tree, class, code, constant, either}
-use Rattle.openapi_tables.specs.Prelude.{flagged, format, formatted, in_class, list_of, listed, null_or, nullable}
-use Rattle.openapi_tables.specs.Prelude.{one_of, optional, range, ref_to, required, row, styled, conforms, either_holds}
+use Rattle.openapi_tables.specs.Prelude.{Kind, Tables, Row, Class, Code, Mode, class, code, constant, either}
+use Rattle.openapi_tables.specs.Prelude.{flagged, format, formatted, in_class, list_of, listed, nullable}
+use Rattle.openapi_tables.specs.Prelude.{one_of, optional, range, required, row, styled, conforms, either_holds}
 use Rattle.openapi_tables.specs.Prelude.{may_miss, name_holds, skips_null, Form, Key, Pair, coded, name, each, every}
 use Rattle.openapi_tables.specs.Prelude.{same_text, first_tree, is_null, own, text_of_key, Held, face_proper}
 use Rattle.openapi_tables.specs.Prelude.{is_written, may_be_absent, of_kind, proper, row_proper, rows_proper}
 use Rattle.openapi_tables.specs.Prelude.{class_form, default_of, form, gather, key_in, name_slot, same_code, same_key}
-use Rattle.openapi_tables.specs.Prelude.{slot_of_own, mode_fits, refuses_null, row_sound, sound, Entry, Seen}
+use Rattle.openapi_tables.specs.Prelude.{slot_of_own, mode_fits, row_sound, sound, Entry, Seen}
 use Rattle.openapi_tables.proofs.FaultLaws.{judged}
 use Rattle.openapi_tables.proofs.FormLaws.{of_named-of, on_pair, show}
 use Rattle.openapi_tables.proofs.KeyLaws.{Both, Both-gather}
@@ -19,7 +19,7 @@ use Rattle.openapi_tables.proofs.again.RowsBack.{Keyed, keyed}
 use Rattle.openapi_tables.proofs.RowLaws.{TakesAll}
 use Rattle.openapi_tables.proofs.RowWrites.{row_holds_own}
 use Rattle.openapi_tables.proofs.SortHolds.{AllHold, not_null_conforms, null_refused}
-use Rattle.openapi_node.specs.Tree.{Tree, null}
+use Rattle.openapi_node.specs.Tree.{Tree}
 use Rattle.openapi_tables.proofs.SoundLaws.{sound_pick}
 
 -- a tree that conforms is read as a proper form

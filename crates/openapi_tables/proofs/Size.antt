@@ -2,39 +2,37 @@
 use Rattle.std.proofs.Common.{ℕ, Bool, true, false, cond, ◌&&◌, List, [], ◌∷◌, Option, Some, None, ◌≡◌, refl, sym, ap}
 use Rattle.std.proofs.Common.{◌∙◌, subst, codes, ◌≤◌, ◌+◌, ◌*◌, arith, nat_le, leb-true, le-leb}
 use Rattle.std.proofs.lemmas.Bool.{and_parts, both_ways}
-use Rattle.openapi_tables.specs.Prelude.{Kind, Tables, Row, Case, Code, TableName, a_schema, a_schema_kind, any_flag}
+use Rattle.openapi_tables.specs.Prelude.{Kind, Tables, Row, Code, TableName, a_schema, a_schema_kind, any_flag}
 use Rattle.openapi_tables.specs.Prelude.{any_text, any_tree, by, code, code_of, constant, flag_or_schema, format}
-use Rattle.openapi_tables.specs.Prelude.{list_of, map_of, null_or, number, one_of, ref_to, schema_data, status_code}
-use Rattle.openapi_tables.specs.Prelude.{tagged, text_of, chosen_holds, conforms, is_reference, object_holds}
+use Rattle.openapi_tables.specs.Prelude.{list_of, map_of, null_or, number, one_of, ref_to, schema_data, signed}
+use Rattle.openapi_tables.specs.Prelude.{is_any, status_code, unlimited}
+use Rattle.openapi_tables.specs.Prelude.{tagged, text_of, conforms}
 use Rattle.openapi_tables.specs.Prelude.{reference_or, root_conforms, text_in, tag_table, Form, forms_of, known, leaf}
 use Rattle.openapi_tables.specs.Prelude.{name, named_of, of_code, of_forms, of_named, other, each, every, has, join}
 use Rattle.openapi_tables.specs.Prelude.{Choice, Sort, all_of_sort, any_of_sort, any_sort, array_sort, boolean_sort}
-use Rattle.openapi_tables.specs.Prelude.{checked_rows, choice, first_tree, held, integer_sort, is_present}
-use Rattle.openapi_tables.specs.Prelude.{made_optional, not_sort, number_sort, object_sort, one_of_sort, own, plain}
+use Rattle.openapi_tables.specs.Prelude.{choice, first_tree, held, integer_sort, is_present}
+use Rattle.openapi_tables.specs.Prelude.{not_sort, number_sort, object_sort, one_of_sort, own}
 use Rattle.openapi_tables.specs.Prelude.{possible_sort, rows_of, sort, sort_of, sort_rows, string_sort, case_rows}
 use Rattle.openapi_tables.specs.Prelude.{Prints, clean, face_print, pair_prints, print, code_form, form, pairs_as}
 use Rattle.openapi_tables.specs.Prelude.{reference_or_item, root_form, has_members, row_sound, rows_apart, sorts, sound}
 use Rattle.openapi_tables.specs.Prelude.{table_names, tables_sound, under_ref, any_rows, array_rows, boolean_rows}
-use Rattle.openapi_tables.specs.Prelude.{object_rows, string_rows, Entry, Seen, Shape, an_object, items_list}
+use Rattle.openapi_tables.specs.Prelude.{object_rows, string_rows, Entry, Seen, items_list}
 use Rattle.openapi_tables.specs.Prelude.{members_list, members_of, of_items, of_members}
 use Rattle.std.specs.Prelude.{suc, pos}
-use Rattle.openapi_tables.proofs.again.SchemasSettle.{front}
-use Rattle.openapi_tables.proofs.FaultLaws.{judged, rows_at_tag}
+use Rattle.openapi_tables.proofs.FaultLaws.{rows_at_tag}
 use Rattle.openapi_tables.proofs.ListLaws.{Each, Each-join, every_each}
 use Rattle.openapi_tables.proofs.again.ObjectsBack.{checked, every_table, rows_of_sound, tag_case}
 use Rattle.openapi_tables.proofs.PlainLaws.{clean-plain, is_plain}
 use Rattle.openapi_tables.proofs.PrintLaws.{print-flag_or_schema}
 use Rattle.openapi_tables.proofs.again.ReadAgain.{sort_in}
-use Rattle.openapi_tables.proofs.ReadProper.{AllRead, RowReads, all_read}
-use Rattle.openapi_tables.proofs.AllReadProper.{from_list, held_of, of_list}
-use Rattle.openapi_tables.proofs.SortReads.{sort_reads}
-use Rattle.openapi_tables.proofs.AllReadProper.{sound_rows_of}
+use Rattle.openapi_tables.proofs.AllReadProper.{ReadBy, from_list, of_list, read_by_kind, read_by_sort, read_by_table}
+use Rattle.openapi_tables.proofs.AllReadProper.{read_by_tag}
+use Rattle.openapi_tables.proofs.SortShown.{type_word}
 use Rattle.openapi_tables.proofs.RowSize.{AllFull, Full, Small, Smalls, object_small, size_positive, total}
 use Rattle.openapi_tables.proofs.again.SortsBack.{sort_meets}
-use Rattle.openapi_tables.proofs.Taken.{trees_of-members}
+use Rattle.openapi_tables.proofs.Taken.{reference_of}
 use Rattle.openapi_tables.proofs.TreeLaws.{Inside, by_trees}
-use Rattle.openapi_tables.proofs.Writes.{behind, object_conforms}
-use Rattle.openapi_tables.specs.Members.{tag}
+use Rattle.openapi_tables.specs.Tables.{integer_formats, number_formats, number_rows}
 use Rattle.openapi_tables.specs.Sound.{extras}
 use Rattle.openapi_tables.specs.Sound.{tables_small}
 use Rattle.openapi_node.specs.Tree.{Items, Members, Tree, flag, item, items_of, items_size, list, member, members_size}
@@ -82,67 +80,30 @@ typed_total s es [] t h =
     (is_present es (codes "anyOf")) (is_present es (codes "not"))) t)
 typed_total s es (e ∷ l) t h = let p = size_positive e.value in omega arith
 
+typed_full : (s : Sort) (es : List (Entry Tree)) → is_typed s ≡ true → is_any s ≡ false → sort_of es ≡ s
+    → 1 ≤ total (own (constant (codes "type") (type_word s)) es)
+typed_full s es t a e = typed_total s es (own (constant (codes "type") (type_word s)) es) t (sort_meets es s e a).0
+
 sort_full : (s : Sort) (es : List (Entry Tree)) → sort_of es ≡ s → AllFull es (sort_rows s)
 unfolding is_typed any_rows sort_rows string_rows object_rows array_rows boolean_rows
-sort_full string_sort es e = (
-  typed_total string_sort es (own (constant (codes "type") (codes "string")) es) refl
-      (sort_meets es string_sort e refl).0,
-  (tt, (tt, (tt, (tt, (tt, tt))))),
-)
+sort_full string_sort es e =
+    (typed_full string_sort es refl refl e, full_rows string_rows es (every_each has_members string_rows refl))
 sort_full number_sort es e = (
-  typed_total number_sort es (own (constant (codes "type") (codes "number")) es) refl
-      (sort_meets es number_sort e refl).0,
-  (tt, (tt, (tt, (tt, (tt, (tt, (tt, tt))))))),
+  typed_full number_sort es refl refl e,
+  full_rows (number_rows unlimited number_formats) es (every_each has_members (number_rows unlimited number_formats) refl),
 )
 sort_full integer_sort es e = (
-  typed_total integer_sort es (own (constant (codes "type") (codes "integer")) es) refl
-      (sort_meets es integer_sort e refl).0,
-  (tt, (tt, (tt, (tt, (tt, (tt, (tt, tt))))))),
+  typed_full integer_sort es refl refl e,
+  full_rows (number_rows signed integer_formats) es (every_each has_members (number_rows signed integer_formats) refl),
 )
-sort_full object_sort es e = (
-  typed_total object_sort es (own (constant (codes "type") (codes "object")) es) refl
-      (sort_meets es object_sort e refl).0,
-  (tt, (tt, (tt, (tt, (tt, tt))))),
-)
-sort_full array_sort es e = (
-  typed_total array_sort es (own (constant (codes "type") (codes "array")) es) refl
-      (sort_meets es array_sort e refl).0,
-  (tt, (tt, (tt, (tt, tt)))),
-)
-sort_full boolean_sort es e = (
-  typed_total boolean_sort es (own (constant (codes "type") (codes "boolean")) es) refl
-      (sort_meets es boolean_sort e refl).0,
-  (tt, tt),
-)
-sort_full one_of_sort es e = (tt, tt)
-sort_full all_of_sort es e = (tt, tt)
-sort_full any_of_sort es e = (tt, tt)
-sort_full not_sort es e = (tt, tt)
-sort_full any_sort es e = (
-  tt,
-  (
-    tt,
-    (
-      tt,
-      (
-        tt,
-        (
-          tt,
-          (
-            tt,
-            (
-              tt,
-              (
-                tt,
-                (tt, (tt, (tt, (tt, (tt, (tt, (tt, (tt, (tt, (tt, (tt, (tt, (tt, (tt, (tt, (tt, tt)))))))))))))))),
-              ),
-            ),
-          ),
-        ),
-      ),
-    ),
-  ),
-)
+sort_full object_sort es e =
+    (typed_full object_sort es refl refl e, full_rows object_rows es (every_each has_members object_rows refl))
+sort_full array_sort es e =
+    (typed_full array_sort es refl refl e, full_rows array_rows es (every_each has_members array_rows refl))
+sort_full boolean_sort es e =
+    (typed_full boolean_sort es refl refl e, full_rows boolean_rows es (every_each has_members boolean_rows refl))
+sort_full any_sort es e = full_rows any_rows es (every_each has_members any_rows refl)
+sort_full s es e = (tt, tt)
 
 sort_small : (T : Tables) → tables_small T ≡ true → (s : Sort)
     → nat_le (extras (join (T schema_data) (sort_rows s))) 1 ≡ true
@@ -175,70 +136,56 @@ rows_apart_of T W k c es s h =
 none_more : (ws : List Row) → nat_le (extras ws) 1 ≡ true → nat_le (0 + extras ws) 1 ≡ true
 none_more ws h = let p = leb-true (extras ws) 1 h in le-leb (0 + extras ws) 1 (omega arith)
 
-abbrev SmallObject : (T : Tables) → Kind → List (Entry Tree) → Type 0
-SmallObject T k es = size_of (clean T k (object (members_of es))) ≤ 2 * size_of (object (members_of es))
+-- the rows that an object is read by add at most one member to those that it has
+rows_add : (T : Tables) → tables_small T ≡ true → (k : Kind) (c : Choice) (es : List (Entry Tree)) → choice k es ≡ Some c
+    → nat_le (extras (rows_of T k c)) 1 ≡ true
+unfolding rows_of
+rows_add T x (by i) c es e = table_small T x i
+rows_add T x (tagged n cs) c es e =
+    let t = tag_case cs (held n es) c e in
+    subst (λ d. nat_le (extras (rows_of T (tagged n cs) d)) 1 ≡ true) (sym t.1)
+    (none_more (case_rows T cs t.0)
+    (subst (λ ws. nat_le (extras ws) 1 ≡ true) (sym (rows_at_tag T cs t.0 t.2)) (table_small T x (tag_table cs t.0))))
+rows_add T x a_schema c es e =
+    let p : sort (sort_of es) ≡ c = cc in
+    subst (λ d. nat_le (extras (rows_of T a_schema d)) 1 ≡ true) p (sort_small T x (sort_of es))
+rows_add T x a_schema_kind c es e =
+    let p : sort (sort_of es) ≡ c = cc in
+    subst (λ d. nat_le (extras (rows_of T a_schema_kind d)) 1 ≡ true) p (kind_small T x (sort_of es))
+rows_add T x k c es e = cc
 
-table_clean : (T : Tables) (W : tables_sound T ≡ true) → tables_small T ≡ true
-    → (i : TableName) (es : List (Entry Tree)) → Smalls T es → conforms T (by i) (object (members_of es)) ≡ true
-    → SmallObject T (by i) es
-unfolding rows_of checked_rows
-table_clean T W x i es d h =
-    let a = sound_rows_of T W (by i) plain es refl refl in
-    object_small T (by i) plain es refl (rows_apart_of T W (by i) plain es refl refl) a (table_small T x i) d
-    (all_read T es (T i) a (held_of T (by i) es plain refl h)) (full_table T W i es)
-
-tagged_clean : (T : Tables) (W : tables_sound T ≡ true) → tables_small T ≡ true
-    → (n : List ℕ) (cs : List Case) (es : List (Entry Tree)) → sound T (tagged n cs) ≡ true → Smalls T es
-    → conforms T (tagged n cs) (object (members_of es)) ≡ true
-    → SmallObject T (tagged n cs) es
-unfolding rows_of checked_rows
-tagged_clean T W x n cs es s d h = at (choice (tagged n cs) es) refl
-  where
-    at : (o : Option Choice) → choice (tagged n cs) es ≡ o → SmallObject T (tagged n cs) es
-    at None e =
-        absurd (both_ways (object_holds T (tagged n cs) (of_members (root_conforms T) (members_of es)))
-        (object_conforms T (tagged n cs) es ∙ ap (λ o. chosen_holds T (tagged n cs) (judged T es) o) e) h)
-    at (Some c) e =
-        let t = tag_case cs (held n es) c e in
-        let e' : choice (tagged n cs) es ≡ Some (tag t.0) = e ∙ ap (λ d. Some d) t.1 in
-        let a = sound_rows_of T W (tagged n cs) (tag t.0) es s e' in
-        let q = rows_at_tag T cs t.0 t.2 in
-        object_small T (tagged n cs) (tag t.0) es e' (rows_apart_of T W (tagged n cs) (tag t.0) es s e') a
-        (none_more (case_rows T cs t.0)
-        (subst (λ ws. nat_le (extras ws) 1 ≡ true) (sym q) (table_small T x (tag_table cs t.0)))) d
-        (all_read T es (rows_of T (tagged n cs) (tag t.0)) a (held_of T (tagged n cs) es (tag t.0) e' h)) (
-          text_total (own (constant n t.0) es) t.0 t.3,
-          subst (λ ws. AllFull es ws) (sym q)
-              (full_table T W (tag_table cs t.0) es),
-        )
-
-schema_clean : (T : Tables) (W : tables_sound T ≡ true) → tables_small T ≡ true → (es : List (Entry Tree))
-    → Smalls T es → conforms T a_schema (object (members_of es)) ≡ true → SmallObject T a_schema es
-unfolding rows_of checked_rows
-schema_clean T W x es d h =
-    let a : Each (λ w. row_sound T w ≡ true) (join (T schema_data) (sort_rows (sort_of es))) =
-    sound_rows_of T W a_schema (sort (sort_of es)) es refl refl in
-    let p = behind T es (T schema_data) (each made_optional any_rows)
-    (held_of T a_schema es (sort (sort_of es)) refl h) in
-    let r : AllRead T es (join (T schema_data) (sort_rows (sort_of es))) =
-    Each-join (λ w. RowReads T (own w es) w) (T schema_data) (sort_rows (sort_of es))
-    (all_read T es (T schema_data) (front (λ w. row_sound T w ≡ true) (T schema_data) (sort_rows (sort_of es)) a)
-    p.0) (sort_reads T (sort_of es) es p.1 refl) in
-    object_small T a_schema (sort (sort_of es)) es refl
-    (rows_apart_of T W a_schema (sort (sort_of es)) es refl refl) a (sort_small T x (sort_of es)) d r
+-- and none of them takes from nothing
+rows_full : (T : Tables) (W : tables_sound T ≡ true) (k : Kind) (c : Choice) (es : List (Entry Tree))
+    → choice k es ≡ Some c → AllFull es (rows_of T k c)
+unfolding rows_of
+rows_full T W (by i) c es e = full_table T W i es
+rows_full T W (tagged n cs) c es e =
+    let t = tag_case cs (held n es) c e in
+    subst (λ d. AllFull es (rows_of T (tagged n cs) d)) (sym t.1) (
+      text_total (own (constant n t.0) es) t.0 t.3,
+      subst (λ ws. AllFull es ws) (sym (rows_at_tag T cs t.0 t.2)) (full_table T W (tag_table cs t.0) es),
+    )
+rows_full T W a_schema c es e =
+    let p : sort (sort_of es) ≡ c = cc in
+    subst (λ d. AllFull es (rows_of T a_schema d)) p
     (Each-join (λ w. Full (own w es) w) (T schema_data) (sort_rows (sort_of es)) (full_table T W schema_data es)
     (sort_full (sort_of es) es refl))
+rows_full T W a_schema_kind c es e =
+    let p : sort (sort_of es) ≡ c = cc in
+    subst (λ d. AllFull es (rows_of T a_schema_kind d)) p (sort_full (sort_of es) es refl)
+rows_full T W k c es e = cc
 
-kind_clean : (T : Tables) (W : tables_sound T ≡ true) → tables_small T ≡ true → (es : List (Entry Tree))
-    → Smalls T es → conforms T a_schema_kind (object (members_of es)) ≡ true → SmallObject T a_schema_kind es
-unfolding rows_of checked_rows
-kind_clean T W x es d h =
-    let a : Each (λ w. row_sound T w ≡ true) (sort_rows (sort_of es)) =
-    sound_rows_of T W a_schema_kind (sort (sort_of es)) es refl refl in
-    object_small T a_schema_kind (sort (sort_of es)) es refl
-    (rows_apart_of T W a_schema_kind (sort (sort_of es)) es refl refl) a (kind_small T x (sort_of es)) d
-    (sort_reads T (sort_of es) es (held_of T a_schema_kind es (sort (sort_of es)) refl h) refl)
-    (sort_full (sort_of es) es refl)
+-- an object is cleaned to at most twice its size, where the values inside are
+whole_small : (T : Tables) (W : tables_sound T ≡ true) → tables_small T ≡ true → (k : Kind) (ms : Members)
+    → sound T k ≡ true → (conforms T k (object (members_of (members_list ms))) ≡ true → ReadBy T k (members_list ms))
+    → Smalls T (members_list ms) → conforms T k (object ms) ≡ true
+    → size_of (clean T k (object ms)) ≤ 2 * size_of (object ms)
+whole_small T W x k ms s read d h =
+    let es = members_list ms in
+    let r = read (from_list (λ t. conforms T k t ≡ true) ms h) in
+    of_list (λ t. size_of (clean T k t) ≤ 2 * size_of t) ms
+    (object_small T k r.by_choice es r.chosen (rows_apart_of T W k r.by_choice es s r.chosen) r.sound_rows
+    (rows_add T x k r.by_choice es r.chosen) d r.reads (rows_full T W k r.by_choice es r.chosen))
 
 double : (t : Tree) → size_of t ≤ 2 * size_of t
 double t = omega arith
@@ -283,20 +230,16 @@ item_small : (T : Tables) (k : Kind) (t : Tree) → (conforms T k t ≡ true →
     → conforms T (ref_to k) t ≡ true → size_of (clean T (ref_to k) t) ≤ 2 * size_of t
 item_small T k (object ms) g h = at (text_in (held (codes "$ref") (members_list ms))) refl
   where
-    same : (X : Type 0) (f : Shape (Seen X) → X)
-        → is_reference (an_object (of_members f ms)) ≡ text_in (held (codes "$ref") (members_list ms))
-    same X f = ap (λ l. text_in (held (codes "$ref") l)) (trees_of-members f ms)
-
     at : (r : Option (List ℕ)) → text_in (held (codes "$ref") (members_list ms)) ≡ r
         → size_of (clean T (ref_to k) (object ms)) ≤ 2 * size_of (object ms)
     at None e =
         subst (λ r. size_of (print T (ref_to k) (reference_or_item r (form T k (object ms))))
-        ≤ 2 * size_of (object ms)) (sym (same (Kind → Form) (root_form T) ∙ e))
-        (g (sym (ap (λ r. reference_or r (conforms T k (object ms))) (same (Kind → Bool) (root_conforms T) ∙ e)) ∙ h))
+        ≤ 2 * size_of (object ms)) (sym (reference_of (root_form T) ms ∙ e))
+        (g (sym (ap (λ r. reference_or r (conforms T k (object ms))) (reference_of (root_conforms T) ms ∙ e)) ∙ h))
     at (Some u) e =
         let p : 2 ≤ 2 * suc (members_size ms) = omega arith in
         subst (λ r. size_of (print T (ref_to k) (reference_or_item r (form T k (object ms))))
-        ≤ 2 * size_of (object ms)) (sym (same (Kind → Form) (root_form T) ∙ e)) p
+        ≤ 2 * size_of (object ms)) (sym (reference_of (root_form T) ms ∙ e)) p
 item_small T k t g h = g h
 
 small_step : (T : Tables) (W : tables_sound T ≡ true) → tables_small T ≡ true → (t : Tree) → Inside (Small T) t
@@ -332,24 +275,19 @@ small_step T W x (object ms) g (map_of k) s h = let p = map_small T k ms s g h i
     (pair_prints k (of_named (face_print T) (named_of (pairs_as name k (of_members (root_form T) ms)))))))
     ≤ 2 * suc (members_size ms) = omega arith in q
 small_step T W x (object ms) g (by i) s h =
-    of_list (λ t. size_of (clean T (by i) t) ≤ 2 * size_of t) ms
-    (table_clean T W x i (members_list ms) g (from_list (λ t. conforms T (by i) t ≡ true) ms h))
+    whole_small T W x (by i) ms s (read_by_table T W i (members_list ms)) g h
 small_step T W x (object ms) g (tagged n cs) s h =
-    of_list (λ t. size_of (clean T (tagged n cs) t) ≤ 2 * size_of t) ms
-    (tagged_clean T W x n cs (members_list ms) s g (from_list (λ t. conforms T (tagged n cs) t ≡ true) ms h))
+    whole_small T W x (tagged n cs) ms s (read_by_tag T W n cs (members_list ms) s) g h
 small_step T W x (object ms) g a_schema s h =
-    of_list (λ t. size_of (clean T a_schema t) ≤ 2 * size_of t) ms
-    (schema_clean T W x (members_list ms) g (from_list (λ t. conforms T a_schema t ≡ true) ms h))
+    whole_small T W x a_schema ms s (read_by_sort T W (members_list ms)) g h
 small_step T W x (object ms) g a_schema_kind s h =
-    of_list (λ t. size_of (clean T a_schema_kind t) ≤ 2 * size_of t) ms
-    (kind_clean T W x (members_list ms) g (from_list (λ t. conforms T a_schema_kind t ≡ true) ms h))
+    whole_small T W x a_schema_kind ms s (read_by_kind T W (members_list ms)) g h
 small_step T W x (flag b) g flag_or_schema s h = one_is_small (flag b) (flag b) refl
 small_step T W x (object ms) g flag_or_schema s h =
     subst (λ f. size_of f ≤ 2 * size_of (object ms))
     (sym (print-flag_or_schema T (form T (ref_to a_schema) (object ms))))
     (item_small T a_schema (object ms)
-    (λ y. of_list (λ t. size_of (clean T a_schema t) ≤ 2 * size_of t) ms
-    (schema_clean T W x (members_list ms) g (from_list (λ t. conforms T a_schema t ≡ true) ms y))) h)
+    (whole_small T W x a_schema ms refl (read_by_sort T W (members_list ms)) g) h)
 small_step T W x (text u) g status_code s h = at (code_of u)
   where
     at : (o : Option Code) → size_of (print T status_code (code_form (text u) o)) ≤ 2 * size_of (text u)

@@ -87,6 +87,7 @@ module _ (T : Tables) (ss : List Slot) (p : Row → Bool) (s : Slot) (at : slot_
 
   -- a name that the row takes is new
   module _ (apart : slots_apart ss ≡ true) where
+    -- it is not there yet: no slot before this one takes it
     pub is_new : (n : List ℕ) → takes s.0 n ≡ true → get n out ≡ None
     is_new n t = get_none (before p ss) out n done.names (not_taken p ss s n apart at t)
 
@@ -97,20 +98,24 @@ module _ (T : Tables) (ss : List Slot) (n : List ℕ) (m : Mode) (k : Kind) (f :
   abbrev the_slot : Slot
   the_slot = (row n m k, f)
 
+  -- its name is not there yet, where no two of the slots take the same name
   pub row_new : slots_apart ss ≡ true → get n out ≡ None
   row_new a = is_new T ss (is_named n) the_slot at out done a n (same_text-refl n)
 
+  -- where its value is put last and nothing of it is lost, the slots as far as it are written
   pub row_put : (new : Entries Tree) → is_silent m f ≡ false → unwritable T k f ≡ []
       → new ≡ out ++ (n, print T k f) ∷ [] → IsWritten T (through (is_named n) ss) new
   row_put new loud l e =
       one_put T ss (is_named n) the_slot at out done n (print T k f) new (same_text-refl n)
       (ap (λ b. cond b [] (one n (print T k f))) loud) (ap (λ ps. each_below (at_name n) ps) l) e
 
+  -- where it leaves its value out, the slots as far as it are written with no member more
   pub row_silent : is_silent m f ≡ true → unwritable T k f ≡ [] → IsWritten T (through (is_named n) ss) out
   row_silent quiet l =
       none_put T ss (is_named n) the_slot at out done (ap (λ b. cond b [] (one n (print T k f))) quiet)
       (ap (λ ps. each_below (at_name n) ps) l)
 
+  -- what is lost of its value is lost of the object, one step below at its name
   pub row_loses : (q : Place) → Among q (unwritable T k f) → Among (at_name n ∷ q) (slots_lost T ss)
   row_loses q h =
       slot_loses T ss (is_named n) the_slot at out done (at_name n ∷ q) (below_each (at_name n) q (unwritable T k f) h)
@@ -218,6 +223,7 @@ module _ (T : Tables) (c : Class) (k : Kind) where
     abbrev the_class : Slot
     the_class = (class c k, named (named_of es))
 
+    -- where all its entries are put last and none is lost, the slots as far as it are written
     pub class_put : (new : Entries Tree) → new ≡ out ++ prints es → every is_kept es ≡ true
         → IsWritten T (through (is_class c) ss) new
     class_put new e h =
@@ -235,6 +241,7 @@ module _ (T : Tables) (c : Class) (k : Kind) where
         (is_new T ss (is_class c) the_class at out done a (text_of_key e.key) h)
         (absent-next (prints es) j (text_of_key e.key, print T k e.value) d (slice-prints es j e g))
 
+    -- a key that would not be read again is lost of the object, at its name
     pub class_key_loses : (j : ℕ) (e : Pair Form) → slice_get es j ≡ Some e → is_written c e.key ≡ false
         → Among (at_name (text_of_key e.key) ∷ []) (slots_lost T ss)
     class_key_loses j e g h =
@@ -242,6 +249,7 @@ module _ (T : Tables) (c : Class) (k : Kind) where
         (among_left (at_name (text_of_key e.key) ∷ []) (lost_keys c (named_of es))
         (unwritable T (map_of k) (named (named_of es))) (key_lost es j e g h))
 
+    -- what is lost of the value under a key is lost of the object, one step below at its name
     pub class_value_loses : (j : ℕ) (e : Pair Form) (q : Place) → slice_get es j ≡ Some e
         → Among q (unwritable T k e.value) → Among (at_name (text_of_key e.key) ∷ q) (slots_lost T ss)
     class_value_loses j e q g h =

@@ -1,24 +1,24 @@
 -- Members of which the rows of a sort hold, and that have no other kind name, have that sort; and all kind names hold
 -- of them.
 use Rattle.openapi_tables.proofs.TreeLaws.{null_tree}
-use Rattle.std.proofs.Common.{ℕ, Bool, true, false, not, cond, ◌&&◌, ◌||◌, List, [], ◌∷◌, ◌≡◌, refl, sym, ap, ◌∙◌}
+use Rattle.std.proofs.Common.{ℕ, Bool, true, false, not, ◌&&◌, ◌||◌, List, [], ◌∷◌, ◌≡◌, refl, sym, ap, ◌∙◌}
 use Rattle.std.proofs.Common.{codes, ⊎_elim}
 use Rattle.std.proofs.lemmas.Bool.{and_parts, and_from, or_left, or_right, or_cases, both_ways}
 use Rattle.openapi_tables.specs.Prelude.{Kind, Tables, Row, Mode, any_flag, any_text, constant, list_of, listed}
 use Rattle.openapi_tables.specs.Prelude.{format, ref_to, refuses_null, null_or, number, optional, required, row, signed, unlimited, conforms}
 use Rattle.openapi_tables.specs.Prelude.{constant_holds, name_holds, root_conforms, row_holds, skips_null, every, has}
-use Rattle.openapi_tables.specs.Prelude.{Sort, all_of_sort, allowed, any_of_sort, any_sort, array_sort, boolean_sort}
+use Rattle.openapi_tables.specs.Prelude.{Sort, all_of_sort, allowed, any_of_sort, any_sort, boolean_sort}
 use Rattle.openapi_tables.specs.Prelude.{entries_pass, first_tree, further, held, integer_sort, is_null}
 use Rattle.openapi_tables.specs.Prelude.{is_null_or_flag, is_null_or_signed, is_null_or_text, is_null_or_whole}
-use Rattle.openapi_tables.specs.Prelude.{is_present, kind_names, not_sort, number_sort, object_sort, one_of_sort, own}
-use Rattle.openapi_tables.specs.Prelude.{possible_sort, sort_of, sort_rows, string_sort, is_any, any_rows, array_rows}
+use Rattle.openapi_tables.specs.Prelude.{kind_names, not_sort, number_sort, one_of_sort, own}
+use Rattle.openapi_tables.specs.Prelude.{sort_of, sort_rows, string_sort, is_any, any_rows, array_rows}
 use Rattle.openapi_tables.specs.Prelude.{boolean_rows, object_rows, schema_ref, string_rows, Entry, Seen, items_list}
 use Rattle.openapi_tables.specs.Prelude.{of_items}
 use Rattle.openapi_tables.proofs.FaultLaws.{judged, own_judged}
 use Rattle.openapi_tables.proofs.ListLaws.{Each, every_each, same_text_eq}
 use Rattle.openapi_tables.proofs.MemberLaws.{kind_names_known}
 use Rattle.openapi_tables.proofs.RowWrites.{row_holds_lem, row_holds_own}
-use Rattle.openapi_tables.proofs.again.SortsBack.{sort_from}
+use Rattle.openapi_tables.proofs.SortShown.{Others, Shows, possible_shown, sort_from, type_word}
 use Rattle.openapi_tables.specs.Conforms.{is_text}
 use Rattle.openapi_node.specs.Tree.{Items, Tree, flag, item, list, no_items, null, text, whole}
 
@@ -156,68 +156,24 @@ further_holds T boolean_sort es h =
     (entries_conform T is_null_or_flag (null_or any_flag) (flag_entry T))
 further_holds T s es h = refl
 
--- the kind names that a sort does not allow are absent
-abbrev pub Others : Sort → List (Entry Tree) → Type 0
-Others s es = (n : List ℕ) → has kind_names n ≡ true → has (allowed s) n ≡ false → held n es ≡ null
-
-abbrev chain : Bool → Bool → Bool → Bool → Sort
-chain a b c d = cond a one_of_sort (cond b all_of_sort (cond c any_of_sort (cond d not_sort any_sort)))
-
-possible_holds : (T : Tables) (s : Sort) (es : List (Entry Tree)) → AllHold T es (sort_rows s) → is_any s ≡ false
-    → Others s es → possible_sort (held (codes "type") es) es ≡ s
-unfolding any_rows sort_rows string_rows object_rows array_rows boolean_rows kind_names allowed
-possible_holds T string_sort es h a n =
-    ap (λ t. possible_sort t es)
-    (constant_held T (codes "string") (own (constant (codes "type") (codes "string")) es) h.0)
-possible_holds T number_sort es h a n =
-    ap (λ t. possible_sort t es)
-    (constant_held T (codes "number") (own (constant (codes "type") (codes "number")) es) h.0)
-possible_holds T integer_sort es h a n =
-    ap (λ t. possible_sort t es)
-    (constant_held T (codes "integer") (own (constant (codes "type") (codes "integer")) es) h.0)
-possible_holds T boolean_sort es h a n =
-    ap (λ t. possible_sort t es)
-    (constant_held T (codes "boolean") (own (constant (codes "type") (codes "boolean")) es) h.0)
-possible_holds T object_sort es h a n =
-    ap (λ t. possible_sort t es)
-    (constant_held T (codes "object") (own (constant (codes "type") (codes "object")) es) h.0)
-possible_holds T array_sort es h a n =
-    ap (λ t. possible_sort t es)
-    (constant_held T (codes "array") (own (constant (codes "type") (codes "array")) es) h.0)
-possible_holds T one_of_sort es h a n =
-    ap (λ t. possible_sort t es) (n (codes "type") refl refl)
-    ∙ ap (λ b. chain b (is_present es (codes "allOf")) (is_present es (codes "anyOf")) (is_present es (codes "not")))
-    (required_held T (list_of schema_ref) (own (row (codes "oneOf") required (list_of schema_ref)) es) refl h.0)
-possible_holds T all_of_sort es h a n =
-    ap (λ t. possible_sort t es) (n (codes "type") refl refl)
-    ∙ ap (λ t. chain (not (is_null t)) (is_present es (codes "allOf")) (is_present es (codes "anyOf"))
-    (is_present es (codes "not"))) (n (codes "oneOf") refl refl)
-    ∙ ap (λ b. chain false b (is_present es (codes "anyOf")) (is_present es (codes "not")))
-    (required_held T (list_of schema_ref) (own (row (codes "allOf") required (list_of schema_ref)) es) refl h.0)
-possible_holds T any_of_sort es h a n =
-    ap (λ t. possible_sort t es) (n (codes "type") refl refl)
-    ∙ ap (λ t. chain (not (is_null t)) (is_present es (codes "allOf")) (is_present es (codes "anyOf"))
-    (is_present es (codes "not"))) (n (codes "oneOf") refl refl)
-    ∙ ap (λ t. chain false (not (is_null t)) (is_present es (codes "anyOf")) (is_present es (codes "not")))
-    (n (codes "allOf") refl refl)
-    ∙ ap (λ b. chain false false b (is_present es (codes "not")))
-    (required_held T (list_of schema_ref) (own (row (codes "anyOf") required (list_of schema_ref)) es) refl h.0)
-possible_holds T not_sort es h a n =
-    ap (λ t. possible_sort t es) (n (codes "type") refl refl)
-    ∙ ap (λ t. chain (not (is_null t)) (is_present es (codes "allOf")) (is_present es (codes "anyOf"))
-    (is_present es (codes "not"))) (n (codes "oneOf") refl refl)
-    ∙ ap (λ t. chain false (not (is_null t)) (is_present es (codes "anyOf")) (is_present es (codes "not")))
-    (n (codes "allOf") refl refl)
-    ∙ ap (λ t. chain false false (not (is_null t)) (is_present es (codes "not"))) (n (codes "anyOf") refl refl)
-    ∙ ap (λ b. chain false false false b)
-    (required_held T schema_ref (own (row (codes "not") required schema_ref) es) refl h.0)
-possible_holds T any_sort es h a n = cc
+-- members of which the rows of a sort hold show the sort
+shown_held : (T : Tables) (s : Sort) (es : List (Entry Tree)) → AllHold T es (sort_rows s) → is_any s ≡ false → Shows s es
+unfolding any_rows sort_rows string_rows object_rows array_rows boolean_rows
+shown_held T one_of_sort es h a =
+    required_held T (list_of schema_ref) (own (row (codes "oneOf") required (list_of schema_ref)) es) refl h.0
+shown_held T all_of_sort es h a =
+    required_held T (list_of schema_ref) (own (row (codes "allOf") required (list_of schema_ref)) es) refl h.0
+shown_held T any_of_sort es h a =
+    required_held T (list_of schema_ref) (own (row (codes "anyOf") required (list_of schema_ref)) es) refl h.0
+shown_held T not_sort es h a = required_held T schema_ref (own (row (codes "not") required schema_ref) es) refl h.0
+shown_held T any_sort es h a = cc
+shown_held T s es h a = constant_held T (type_word s) (own (constant (codes "type") (type_word s)) es) h.0
 
 -- members of which the rows of a sort hold, and that have no other kind name, have that sort
 pub sort_holds : (T : Tables) (s : Sort) (es : List (Entry Tree)) → is_any s ≡ false → AllHold T es (sort_rows s)
     → Others s es → sort_of es ≡ s
 sort_holds T s es a h n =
-    sort_from es s (possible_holds T s es h a n)
+    sort_from es s (possible_shown s es (shown_held T s es h a) a n)
     (and_from (every (λ m. has (allowed s) m || is_null (held m es)) kind_names) (further s es)
     (names kind_names (every_each (has kind_names) kind_names kind_names_known)) (further_holds T s es h))
   where

@@ -8,14 +8,14 @@ use Rattle.openapi_tables.specs.Prelude.{list_of, null_or, number, optional, req
 use Rattle.openapi_tables.specs.Prelude.{name_holds, root_conforms, each, every, has, same_text, Sort, all_of_sort}
 use Rattle.openapi_tables.specs.Prelude.{allowed, any_of_sort, any_sort, array_sort, boolean_sort, entries_pass}
 use Rattle.openapi_tables.specs.Prelude.{first_tree, further, held, integer_sort, is_null, is_null_or_flag}
-use Rattle.openapi_tables.specs.Prelude.{is_null_or_signed, is_null_or_text, is_null_or_whole, is_present, kind_names}
+use Rattle.openapi_tables.specs.Prelude.{is_null_or_signed, is_null_or_text, is_null_or_whole, kind_names}
 use Rattle.openapi_tables.specs.Prelude.{made_optional, not_sort, number_sort, object_sort, one_of_sort, own, sort_of}
 use Rattle.openapi_tables.specs.Prelude.{sort_rows, string_sort, is_any, any_rows, array_rows, boolean_rows}
 use Rattle.openapi_tables.specs.Prelude.{object_rows, string_rows, Entry, Seen, items_list, of_items, never_misses}
 use Rattle.openapi_tables.specs.Prelude.{row_name}
 use Rattle.openapi_tables.proofs.FaultLaws.{judged}
 use Rattle.openapi_tables.proofs.RowWrites.{row_holds_own}
-use Rattle.openapi_tables.proofs.again.SortsBack.{picked, possible_picks, sort_meets}
+use Rattle.openapi_tables.proofs.again.SortsBack.{picks_of, sort_meets}
 use Rattle.openapi_tables.proofs.SortHolds.{AllHold}
 use Rattle.openapi_tables.specs.Tables.{integer_formats, number_formats}
 use Rattle.openapi_tables.specs.Tables.{string_formats}
@@ -86,13 +86,6 @@ further_of : (es : List (Entry Tree)) (s : Sort) → is_any s ≡ false → sort
 further_of es s a e =
     (and_parts (every (λ n. has (allowed s) n || is_null (held n es)) kind_names) (further s es)
     (sort_meets es s e a).1).1
-
-abbrev Picks : Sort → List (Entry Tree) → Type 0
-Picks s es = picked s (is_present es (codes "oneOf")) (is_present es (codes "allOf")) (is_present es (codes "anyOf"))
-    (is_present es (codes "not"))
-
-picks_of : (es : List (Entry Tree)) (s : Sort) → is_any s ≡ false → sort_of es ≡ s → Picks s es
-picks_of es s a e = subst (λ x. Picks x es) (sort_meets es s e a).0 (possible_picks (held (codes "type") es) es)
 
 -- an entry before others
 infixr 30 ◌⨾◌

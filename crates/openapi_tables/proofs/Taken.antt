@@ -7,7 +7,7 @@ use Rattle.openapi_tables.specs.Prelude.{flag_or_schema, a_schema, a_schema_kind
 use Rattle.openapi_tables.specs.Prelude.{Tables, trees, held, Choice, choice, rows_of, text_in, Form, leaf, of_code}
 use Rattle.openapi_tables.specs.Prelude.{known, other, unset, reference, an_item, sequence, fields, forms_of}
 use Rattle.openapi_tables.specs.Prelude.{tree_of_root, map_form, slot, root_form, form, chosen_form, reference_or_item}
-use Rattle.openapi_tables.specs.Prelude.{code_form}
+use Rattle.openapi_tables.specs.Prelude.{an_object, code_form, is_reference}
 use Rattle.openapi_node.specs.Tree.{Tree, null, flag, whole, text, list, object, Items, Members}
 use Rattle.openapi_tables.specs.Read.{object_form}
 use Rattle.openapi_tables.proofs.ListLaws.{each-each, each_id}
@@ -54,6 +54,11 @@ pub trees_of-members : {X : Type 0} → (f : Shape (Seen X) → X) (ms : Members
 trees_of-members f ms =
     ap trees (of_members_lem f ms) ∙ each-each (on_entry (λ x. x.tree)) (on_entry (see f)) (members_list ms)
     ∙ each_id (members_list ms)
+
+-- whether a tree is a reference, by what is seen of it
+pub reference_of : {X : Type 0} → (f : Shape (Seen X) → X) (ms : Members)
+    → is_reference (an_object (of_members f ms)) ≡ ref_text (object ms)
+reference_of f ms = ap (λ l. text_in (held (codes "$ref") l)) (trees_of-members f ms)
 
 taken_format : (T : Tables) (ws : List (List ℕ)) (b : Bool) (s : List ℕ) (c : Bool) → has ws s ≡ c
     → Taken T (format ws b) (text s) (cond c (known s) (other s))

@@ -1,5 +1,5 @@
 -- A tree and its root; what a function gives of a tree by its root; induction.
-use Rattle.std.proofs.Common.{List, [], ◌∷◌, ◌≡◌, refl, ap, true}
+use Rattle.std.proofs.Common.{List, [], ◌∷◌, ◌≡◌, refl, ap, ◌∙◌, true}
 use Rattle.openapi_tables.specs.Prelude.{each, Entry, Shape, a_null, a_flag, a_whole, a_text, a_list, an_object, Seen}
 use Rattle.openapi_tables.specs.Prelude.{items_list, members_list, members_of, on_entry, of_tree, of_items, of_members}
 use Rattle.openapi_tables.specs.Prelude.{tree_of_root, is_null}
@@ -7,6 +7,7 @@ use Rattle.openapi_node.specs.Tree.{Tree, null, flag, whole, text, list, object,
 use Rattle.openapi_node.specs.Tree.{no_members, member, items_of}
 use Rattle.openapi_tables.proofs.ListLaws.{Each}
 
+-- items made of a list, as a list again, are that list
 pub items_list-of : (ts : List Tree) → items_list (items_of ts) ≡ ts
 items_list-of [] = refl
 items_list-of (t ∷ ts) = ap (λ l. t ∷ l) (items_list-of ts)
@@ -41,16 +42,14 @@ pub of_members_lem : {X : Type 0} → (f : Shape (Seen X) → X) (ms : Members)
 of_members_lem f no_members = refl
 of_members_lem f (member n t ms) = ap (λ l. on_entry (see f) (record { name = n; value = t }) ∷ l) (of_members_lem f ms)
 
--- what a function gives of a list and an object that are made of lists
+-- what a function gives of items made of a list, one by one
 pub of_items-of : {X : Type 0} → (f : Shape (Seen X) → X) (ts : List Tree) → of_items f (items_of ts) ≡ each (see f) ts
-of_items-of f [] = refl
-of_items-of f (t ∷ ts) = ap (λ l. see f t ∷ l) (of_items-of f ts)
+of_items-of f ts = of_items_lem f (items_of ts) ∙ ap (each (see f)) (items_list-of ts)
 
 -- what a function gives of members made of a list, entry by entry
 pub of_members-of : {X : Type 0} → (f : Shape (Seen X) → X) (es : List (Entry Tree))
     → of_members f (members_of es) ≡ each (on_entry (see f)) es
-of_members-of f [] = refl
-of_members-of f (e ∷ es) = ap (λ l. on_entry (see f) e ∷ l) (of_members-of f es)
+of_members-of f es = of_members_lem f (members_of es) ∙ ap (each (on_entry (see f))) (members_list-of es)
 
 seen_items : {X : Type 0} → (f : Shape (Seen X) → X) (ts : Items) → items_of (each (λ x. x.tree) (of_items f ts)) ≡ ts
 seen_items f no_items = refl
@@ -92,13 +91,11 @@ Inside P (object ms) = Each (λ (e : Entry Tree). P e.value) (members_list ms)
 
 -- induction on trees
 mutual
+  -- what follows for a tree from the same of the trees directly inside it holds of every tree
   pub by_trees : (P : Tree → Type 0) → ((t : Tree) → Inside P t → P t) → (t : Tree) → P t
-  by_trees P h null = h null tt
-  by_trees P h (flag b) = h (flag b) tt
-  by_trees P h (whole z) = h (whole z) tt
-  by_trees P h (text s) = h (text s) tt
   by_trees P h (list ts) = h (list ts) (by_items P h ts)
   by_trees P h (object ms) = h (object ms) (by_members P h ms)
+  by_trees P h t = h t tt
 
   by_items : (P : Tree → Type 0) → ((t : Tree) → Inside P t → P t) → (ts : Items) → Each P (items_list ts)
   by_items P h no_items = tt

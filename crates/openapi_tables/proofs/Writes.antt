@@ -22,7 +22,8 @@ use Rattle.openapi_tables.proofs.PrintLaws.{members_for}
 use Rattle.openapi_tables.proofs.again.ReadAgain.{names_of_data, names_of_none, tag_again}
 use Rattle.openapi_tables.proofs.RowLaws.{Found, OwnWrites, found}
 use Rattle.openapi_tables.proofs.RowWrites.{SlotsProper, Writes, proper_writes, row_holds_own, rows_write, slots_proper}
-use Rattle.openapi_tables.proofs.SortHolds.{AllHold, Others, all_hold, from_all_hold}
+use Rattle.openapi_tables.proofs.SortShown.{Others}
+use Rattle.openapi_tables.proofs.SortHolds.{AllHold, all_hold, from_all_hold}
 use Rattle.openapi_tables.proofs.KindsHold.{kinds_hold, others_written}
 use Rattle.openapi_tables.proofs.TreeLaws.{of_members-of}
 use Rattle.openapi_tables.specs.Members.{tag}
@@ -137,19 +138,20 @@ schema_kind_writes T s fs w g =
     object_conforms T a_schema_kind l ∙ from_all_hold T l (each made_optional any_rows)
     (kinds_hold T s l (all_written T a_schema_kind (sort s) fs w g) o)
 
+-- the choice and the slots of fields that are proper
+pub proper_parts : (T : Tables) (c : Choice) (fs : Forms) (k : Kind)
+    → (choice_proper k c && rows_proper (rows_of T k c) (of_forms (face_proper T) fs)) ≡ true
+    → (choice_proper k c ≡ true) × (rows_proper (rows_of T k c) (each (show (face_proper T)) (forms_list fs)) ≡ true)
+proper_parts T c fs k h =
+    let p = and_parts (choice_proper k c) (rows_proper (rows_of T k c) (of_forms (face_proper T) fs)) h in
+    (p.0, subst (λ (l : List Held). rows_proper (rows_of T k c) l ≡ true) (of_forms_lem (face_proper T) fs) p.1)
+
 fields_write : (T : Tables) (W : tables_sound T ≡ true) (c : Choice) (fs : Forms)
     → Each (Deep (Writes T)) (forms_list fs) → (k : Kind) → sound T k ≡ true → proper T k (fields c fs) ≡ true
     → conforms T k (print T k (fields c fs)) ≡ true
 unfolding rows_of checked_rows
 fields_write T W c fs g k s h = at k s h
   where
-    parts : (k : Kind) → (choice_proper k c && rows_proper (rows_of T k c) (of_forms (face_proper T) fs)) ≡ true
-        → (choice_proper k c ≡ true)
-        × (rows_proper (rows_of T k c) (each (show (face_proper T)) (forms_list fs)) ≡ true)
-    parts k h =
-        let p = and_parts (choice_proper k c) (rows_proper (rows_of T k c) (of_forms (face_proper T) fs)) h in
-        (p.0, subst (λ (l : List Held). rows_proper (rows_of T k c) l ≡ true) (of_forms_lem (face_proper T) fs) p.1)
-
     tagged_at : (n : List ℕ) (cs : List Case) (c : Choice) → sound T (tagged n cs) ≡ true
         → choice_proper (tagged n cs) c ≡ true → Written T (tagged n cs) c (forms_list fs)
         → conforms T (tagged n cs) (object (members_of (members_for T (rows_of T (tagged n cs) c) (forms_list fs))))
@@ -175,20 +177,20 @@ fields_write T W c fs g k s h = at k s h
 
     at : (k : Kind) → sound T k ≡ true → proper T k (fields c fs) ≡ true → conforms T k (print T k (fields c fs)) ≡ true
     at (by i) s h =
-        let p = parts (by i) h in
+        let p = proper_parts T c fs (by i) h in
         let w = written T W (by i) c (forms_list fs) s p.0 p.1 in
         ap (conforms T (by i)) (print-proper T (by i) c fs p.0)
         ∙ table_writes T (by i) c (forms_list fs) w g (ap (λ x. Some x) (sym (plain_at i c p.0))) refl
     at (tagged n cs) s h =
-        let p = parts (tagged n cs) h in
+        let p = proper_parts T c fs (tagged n cs) h in
         ap (conforms T (tagged n cs)) (print-proper T (tagged n cs) c fs p.0)
         ∙ tagged_at n cs c s p.0 (written T W (tagged n cs) c (forms_list fs) s p.0 p.1)
     at a_schema s h =
-        let p = parts a_schema h in
+        let p = proper_parts T c fs a_schema h in
         ap (conforms T a_schema) (print-proper T a_schema c fs p.0)
         ∙ schema_at c p.0 (written T W a_schema c (forms_list fs) s p.0 p.1)
     at a_schema_kind s h =
-        let p = parts a_schema_kind h in
+        let p = proper_parts T c fs a_schema_kind h in
         ap (conforms T a_schema_kind) (print-proper T a_schema_kind c fs p.0)
         ∙ kind_at c p.0 (written T W a_schema_kind c (forms_list fs) s p.0 p.1)
     at (null_or any_text) s h = cc

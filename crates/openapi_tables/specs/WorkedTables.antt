@@ -139,6 +139,17 @@ OfPaths =
     × TableOf link_operation ("operationId" ⦂ str "o" ∷ []) (lacks_both "operationRef" "operationId" ∷ [])
     ("operationId" ∷ []) (expected.Text ∷ [])
 
+-- the parameters of a place that has no member of its own, in a style
+abbrev PlaceOf : TableName → String → Type 0
+PlaceOf i style =
+    TableOf i
+    ("name" ⦂ str "n" ∷ "description" ⦂ str "d" ∷ "required" ⦂ flag true ∷ "deprecated" ⦂ flag true
+    ∷ "schema" ⦂ obj [] ∷ "example" ⦂ num 1 ∷ "examples" ⦂ obj ("e" ⦂ obj [] ∷ []) ∷ "explode" ⦂ flag true
+    ∷ "x-a" ⦂ num 1 ∷ "style" ⦂ str style ∷ []) (lacks "name" ∷ lacks_both "schema" "content" ∷ [])
+    ("name" ∷ "required" ∷ "schema" ∷ "examples" ∷ "style" ∷ [])
+    (expected.Text ∷ expected.Text ∷ expected.Flag ∷ expected.Flag ∷ expected.Object ∷ expected.Object
+    ∷ expected.Flag ∷ expected.Text ∷ [])
+
 -- parameters, headers and bodies
 abbrev pub OfParameters : Type 0
 OfParameters =
@@ -157,27 +168,9 @@ OfParameters =
     ("name" ∷ "required" ∷ "schema" ∷ "examples" ∷ "allowReserved" ∷ "style" ∷ [])
     (expected.Text ∷ expected.Text ∷ expected.Flag ∷ expected.Flag ∷ expected.Object ∷ expected.Object
     ∷ expected.Flag ∷ expected.Flag ∷ expected.Text ∷ expected.Flag ∷ [])
-    × TableOf header_parameter
-    ("name" ⦂ str "n" ∷ "description" ⦂ str "d" ∷ "required" ⦂ flag true ∷ "deprecated" ⦂ flag true
-    ∷ "schema" ⦂ obj [] ∷ "example" ⦂ num 1 ∷ "examples" ⦂ obj ("e" ⦂ obj [] ∷ []) ∷ "explode" ⦂ flag true
-    ∷ "x-a" ⦂ num 1 ∷ "style" ⦂ str "simple" ∷ []) (lacks "name" ∷ lacks_both "schema" "content" ∷ [])
-    ("name" ∷ "required" ∷ "schema" ∷ "examples" ∷ "style" ∷ [])
-    (expected.Text ∷ expected.Text ∷ expected.Flag ∷ expected.Flag ∷ expected.Object ∷ expected.Object
-    ∷ expected.Flag ∷ expected.Text ∷ [])
-    × TableOf path_parameter
-    ("name" ⦂ str "n" ∷ "description" ⦂ str "d" ∷ "required" ⦂ flag true ∷ "deprecated" ⦂ flag true
-    ∷ "schema" ⦂ obj [] ∷ "example" ⦂ num 1 ∷ "examples" ⦂ obj ("e" ⦂ obj [] ∷ []) ∷ "explode" ⦂ flag true
-    ∷ "x-a" ⦂ num 1 ∷ "style" ⦂ str "matrix" ∷ []) (lacks "name" ∷ lacks_both "schema" "content" ∷ [])
-    ("name" ∷ "required" ∷ "schema" ∷ "examples" ∷ "style" ∷ [])
-    (expected.Text ∷ expected.Text ∷ expected.Flag ∷ expected.Flag ∷ expected.Object ∷ expected.Object
-    ∷ expected.Flag ∷ expected.Text ∷ [])
-    × TableOf cookie_parameter
-    ("name" ⦂ str "n" ∷ "description" ⦂ str "d" ∷ "required" ⦂ flag true ∷ "deprecated" ⦂ flag true
-    ∷ "schema" ⦂ obj [] ∷ "example" ⦂ num 1 ∷ "examples" ⦂ obj ("e" ⦂ obj [] ∷ []) ∷ "explode" ⦂ flag true
-    ∷ "x-a" ⦂ num 1 ∷ "style" ⦂ str "form" ∷ []) (lacks "name" ∷ lacks_both "schema" "content" ∷ [])
-    ("name" ∷ "required" ∷ "schema" ∷ "examples" ∷ "style" ∷ [])
-    (expected.Text ∷ expected.Text ∷ expected.Flag ∷ expected.Flag ∷ expected.Object ∷ expected.Object
-    ∷ expected.Flag ∷ expected.Text ∷ [])
+    × PlaceOf header_parameter "simple"
+    × PlaceOf path_parameter "matrix"
+    × PlaceOf cookie_parameter "form"
     × TableOf schema_or_content ("content" ⦂ obj [] ∷ []) (lacks_both "schema" "content" ∷ []) ("content" ∷ [])
     (expected.Object ∷ [])
     × TableOf header

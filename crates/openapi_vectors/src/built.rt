@@ -123,7 +123,8 @@ fn extensions_are_looked_at_deep_inside(rt: HostRuntime) -> Result<(), Fail> {
     let refused = Err("name not writable at #/components/schemas/S/properties/p/foo");
     check_built(&rt, document_with(&rt, "foo"), refused)?;
     check_taken(&rt, document_with(&rt, "foo"), refused)?;
-    let wanted = r#"{"openapi":"","info":{"title":"","version":""},"paths":{},"components":{"schemas":{"S":{"type":"object","properties":{"p":{"x-a":null}}}}}}"#;
+    let wanted =
+        r#"{"openapi":"","info":{"title":"","version":""},"paths":{},"components":{"schemas":{"S":{"type":"object","properties":{"p":{"x-a":null}}}}}}"#;
     check_built(&rt, document_with(&rt, "x-a"), Ok(wanted))
 }
 

@@ -1,5 +1,5 @@
 -- What is read of what a proper form is written as stays: objects, and the whole.
-use Rattle.std.proofs.Common.{ℕ, true, ◌&&◌, List, Option, Some, None, ◌≡◌, refl, sym, ap, ◌∙◌, subst}
+use Rattle.std.proofs.Common.{ℕ, true, ◌&&◌, List, Option, Some, None, ◌≡◌, refl, sym, ap, ◌∙◌}
 use Rattle.std.proofs.lemmas.Bool.{and_parts, and_from}
 use Rattle.openapi_tables.specs.Prelude.{Kind, Tables, Case, Code, TableName, a_schema, a_schema_kind, any_text}
 use Rattle.openapi_tables.specs.Prelude.{any_tree, by, code_of, flag_or_schema, format, list_of, map_of, null_or}
@@ -7,13 +7,13 @@ use Rattle.openapi_tables.specs.Prelude.{ref_to, status_code, tagged, text_of, F
 use Rattle.openapi_tables.specs.Prelude.{fields, forms_list, known, leaf, more, name, named, named_list, no_forms}
 use Rattle.openapi_tables.specs.Prelude.{no_named, of_code, of_forms, of_named, other, sequence, under, each, every}
 use Rattle.openapi_tables.specs.Prelude.{Choice, choice, plain, rows_of, sort, again, print, Held, choice_proper}
-use Rattle.openapi_tables.specs.Prelude.{face_proper, is_name, of_kind, proper, rows_proper, code_form, form, sound}
+use Rattle.openapi_tables.specs.Prelude.{face_proper, is_name, of_kind, proper, code_form, form, sound}
 use Rattle.openapi_tables.specs.Prelude.{tables_sound, under_ref, choice_stays, face_stays, rows_stay, stays}
 use Rattle.openapi_tables.specs.Prelude.{members_of}
 use Rattle.openapi_tables.proofs.again.KindsBack.{stays-flag_or_schema}
 use Rattle.openapi_tables.proofs.again.RowsSettle.{Calm, format_stays, from_stay_all, list_stays, plain_stays, rows_calm}
 use Rattle.openapi_tables.proofs.again.RowsStay.{stays_values}
-use Rattle.openapi_tables.proofs.FormLaws.{Deep, Within, by_deep, forms_of-list, named_of-list, of_forms_lem, show}
+use Rattle.openapi_tables.proofs.FormLaws.{Deep, Within, by_deep, forms_of-list, named_of-list, show}
 use Rattle.openapi_tables.proofs.ListLaws.{Each, each_under}
 use Rattle.openapi_tables.proofs.again.ObjectsBack.{stays-fields}
 use Rattle.openapi_tables.proofs.PrintLaws.{entry_of, members_for, print-list, print-map}
@@ -21,7 +21,7 @@ use Rattle.openapi_tables.proofs.again.ReadAgain.{tag_again}
 use Rattle.openapi_tables.proofs.ReadLaws.{form-fields, form-flag_or_schema, form-item, form-list, form-map}
 use Rattle.openapi_tables.proofs.ReadLaws.{form-reference, pair_of, slot_in}
 use Rattle.openapi_tables.proofs.Taken.{ref_text}
-use Rattle.openapi_tables.proofs.Writes.{Written, print-proper, written}
+use Rattle.openapi_tables.proofs.Writes.{Written, print-proper, proper_parts, written}
 use Rattle.openapi_tables.specs.Members.{tag}
 use Rattle.openapi_node.specs.Tree.{Tree, object, text, null}
 use Rattle.openapi_tables.proofs.again.SchemasSettle.{schema_form_calm, kind_form_calm}
@@ -42,13 +42,6 @@ fields_calm : (T : Tables) (W : tables_sound T ≡ true) (c : Choice) (fs : Form
     → stays T k (again T k (fields c fs)) ≡ true
 fields_calm T W c fs g k s h = at k s h
   where
-    parts : (k : Kind) → (choice_proper k c && rows_proper (rows_of T k c) (of_forms (face_proper T) fs)) ≡ true
-        → (choice_proper k c ≡ true)
-        × (rows_proper (rows_of T k c) (each (show (face_proper T)) (forms_list fs)) ≡ true)
-    parts k h =
-        let p = and_parts (choice_proper k c) (rows_proper (rows_of T k c) (of_forms (face_proper T) fs)) h in
-        (p.0, subst (λ (l : List Held). rows_proper (rows_of T k c) l ≡ true) (of_forms_lem (face_proper T) fs) p.1)
-
     tagged_at : (n : List ℕ) (cs : List Case) (c : Choice) → choice_proper (tagged n cs) c ≡ true
         → Written T (tagged n cs) c (forms_list fs)
         → stays T (tagged n cs)
@@ -78,19 +71,19 @@ fields_calm T W c fs g k s h = at k s h
 
     at : (k : Kind) → sound T k ≡ true → proper T k (fields c fs) ≡ true → stays T k (again T k (fields c fs)) ≡ true
     at (by i) s h =
-        let p = parts (by i) h in
+        let p = proper_parts T c fs (by i) h in
         ap (λ t. stays T (by i) (form T (by i) t)) (print-proper T (by i) c fs p.0)
         ∙ plain_at i c p.0 (written T W (by i) c (forms_list fs) s p.0 p.1)
     at (tagged n cs) s h =
-        let p = parts (tagged n cs) h in
+        let p = proper_parts T c fs (tagged n cs) h in
         ap (λ t. stays T (tagged n cs) (form T (tagged n cs) t)) (print-proper T (tagged n cs) c fs p.0)
         ∙ tagged_at n cs c p.0 (written T W (tagged n cs) c (forms_list fs) s p.0 p.1)
     at a_schema s h =
-        let p = parts a_schema h in
+        let p = proper_parts T c fs a_schema h in
         ap (λ t. stays T a_schema (form T a_schema t)) (print-proper T a_schema c fs p.0)
         ∙ schema_at c p.0 (written T W a_schema c (forms_list fs) s p.0 p.1)
     at a_schema_kind s h =
-        let p = parts a_schema_kind h in
+        let p = proper_parts T c fs a_schema_kind h in
         ap (λ t. stays T a_schema_kind (form T a_schema_kind t)) (print-proper T a_schema_kind c fs p.0)
         ∙ kind_at c p.0 (written T W a_schema_kind c (forms_list fs) s p.0 p.1)
     at (null_or any_text) s h = cc

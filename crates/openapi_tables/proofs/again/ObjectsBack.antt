@@ -19,7 +19,7 @@ use Rattle.openapi_tables.proofs.ListLaws.{Each, each-each, each_id, every_each,
 use Rattle.openapi_tables.proofs.FormLaws.{show, of_forms-of}
 use Rattle.openapi_tables.proofs.ReadLaws.{reads, slot_in}
 use Rattle.openapi_tables.proofs.PrintLaws.{printed}
-use Rattle.openapi_tables.proofs.RowLaws.{OwnWrites, Found}
+use Rattle.openapi_tables.proofs.RowLaws.{Found}
 use Rattle.openapi_tables.proofs.SlotLaws.{Good, Settled}
 use Rattle.openapi_tables.proofs.again.RowsBack.{settled_row}
 

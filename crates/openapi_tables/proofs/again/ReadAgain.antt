@@ -8,8 +8,8 @@ use Rattle.openapi_tables.specs.Prelude.{Case, Row, constant, takes, Tables, Tab
 use Rattle.openapi_tables.specs.Prelude.{held, Sort, any_sort, sort_rows, sort_of, Choice, sort, is_case, case_rows}
 use Rattle.openapi_tables.specs.Prelude.{tag_choice, choice, rows_of, text_in, Form, fields, forms_of, name, root_form}
 use Rattle.openapi_tables.specs.Prelude.{slot, form, map_form, print, members_in, row_print, sound, sorts, rows_apart}
-use Rattle.openapi_tables.specs.Prelude.{row_sound, under_ref, names_fit, tables_sound, stays, face_stays, is_any}
-use Rattle.openapi_tables.specs.Prelude.{choice_stays, rows_stay}
+use Rattle.openapi_tables.specs.Prelude.{row_sound, under_ref, names_fit, tables_sound, stays, is_any}
+use Rattle.openapi_tables.specs.Prelude.{choice_stays}
 use Rattle.openapi_node.specs.Tree.{Tree}
 use Rattle.openapi_tables.specs.Members.{tag}
 use Rattle.openapi_tables.specs.Sound.{spares_ref}
@@ -17,14 +17,13 @@ use Rattle.openapi_tables.specs.Sound.{keeps_ref}
 use Rattle.openapi_tables.proofs.ListLaws.{Each, each-each, only-each, every_each, only-join, same_text_eq, only_none}
 use Rattle.openapi_tables.proofs.ListLaws.{each_under}
 use Rattle.openapi_tables.proofs.TreeLaws.{by_trees, members_list-of, of_members_lem}
-use Rattle.openapi_tables.proofs.FormLaws.{show}
 use Rattle.openapi_tables.proofs.Taken.{Taken, as_leaf, as_map, as_fields, taken, ref_text}
 use Rattle.openapi_tables.proofs.ReadLaws.{slot_in, slots-reads, pair_of, map_form-reads, class_form-reads}
 use Rattle.openapi_tables.proofs.PrintLaws.{printed, members_for, entry_of, print-fields, print-map}
 use Rattle.openapi_tables.proofs.RowLaws.{OwnWrites, found, TakesAll, not_both}
 use Rattle.openapi_tables.proofs.SlotLaws.{Good}
 use Rattle.openapi_tables.proofs.again.RowsStay.{writes_own}
-use Rattle.openapi_tables.proofs.again.ObjectsBack.{each_sort, schema_sound, sort_sound, stays-fields}
+use Rattle.openapi_tables.proofs.again.ObjectsBack.{each_sort, schema_sound, sort_sound}
 use Rattle.openapi_tables.proofs.again.ObjectsBack.{rows_of_sound, tag_case, schema_spares_ref, checked}
 use Rattle.openapi_tables.proofs.SortLaws.{rewrites, Each_behind, names_fit_none}
 use Rattle.openapi_tables.proofs.again.SortsBack.{sort_again}

@@ -1,7 +1,7 @@
 -- What is read of what a proper form is written as stays: schemas.
 use Rattle.std.proofs.Common.{true, false, List, [], ◌∷◌, Some, ◌≡◌, refl, sym, ap, ◌∙◌, subst}
 use Rattle.std.proofs.lemmas.Bool.{and_parts, and_from, both_ways}
-use Rattle.openapi_tables.specs.Prelude.{Tables, Row, a_schema, a_schema_kind, schema_data, row_holds, Form, Pair}
+use Rattle.openapi_tables.specs.Prelude.{Kind, Tables, Row, a_schema, a_schema_kind, choice, schema_data, row_holds, Form, Pair}
 use Rattle.openapi_tables.specs.Prelude.{an_item, deciding, fields, forms_list, named, named_list, sequence, each}
 use Rattle.openapi_tables.specs.Prelude.{every, join, Choice, Sort, any_sort, own, rows_of, sort, sort_of, sort_rows}
 use Rattle.openapi_tables.specs.Prelude.{members_in, form, names_fit, row_sound, rows_apart, tables_sound, choice_stays}
@@ -119,29 +119,36 @@ pub kept : (T : Tables) (W : tables_sound T ≡ true) (pre : List Row) (s : Sort
 kept T W pre any_sort fs g f = any_kept_too T W pre fs g f
 kept T W pre s fs g f = typed_kept T W pre s fs refl g f
 
-pub schema_choice : (T : Tables) (l : List (Entry Tree)) (s : Sort) → sort_of l ≡ s → Kept T (T schema_data) l
-    → choice_stays T a_schema (sort s) (each (slot_in T l) (rows_of T a_schema (sort s))) ≡ true
-unfolding rows_of
-schema_choice T l any_sort e h =
-    ap (λ x. is_any (sort_of x))
-    (ap members_in
-    (print-fields T a_schema (sort any_sort) l (each (slot_in T l) (rows_of T a_schema (sort any_sort)))
-    (ap (λ x. Some (sort x)) e))
-    ∙ members_list-of
-    (members_for T (rows_of T a_schema (sort any_sort)) (each (slot_in T l) (rows_of T a_schema (sort any_sort)))))
-    ∙ h.1 (ap is_any e)
-schema_choice T l s e h = refl
+-- what is read by the sort of members stays where its slots do, if members of the sort that holds anything are written as
+-- members of that sort
+sort_calm : (T : Tables) (k : Kind) (l : List (Entry Tree)) → choice k l ≡ Some (sort (sort_of l))
+    → StayAll T l (rows_of T k (sort (sort_of l)))
+    → (is_any (sort_of l) ≡ true
+    → is_any
+    (sort_of (members_for T (rows_of T k (sort any_sort)) (each (slot_in T l) (rows_of T k (sort any_sort))))) ≡ true)
+    → stays T k (form T k (object (members_of l))) ≡ true
+sort_calm T k l e g h =
+    let c : Choice = sort (sort_of l) in
+    let fs : List Form = each (slot_in T l) (rows_of T k c) in
+    ap (stays T k) (form-fields T k c l e) ∙ stays-fields T k c l fs e
+    ∙ and_from (choice_stays T k c fs) (rows_stay (rows_of T k c) (each (show (face_stays T)) fs)) (kept_any (sort_of l) e h)
+    (from_stay_all T l (rows_of T k c) g)
+  where
+    written : List (Entry Tree)
+    written = members_for T (rows_of T k (sort any_sort)) (each (slot_in T l) (rows_of T k (sort any_sort)))
+
+    kept_any : (s : Sort) → choice k l ≡ Some (sort s) → (is_any s ≡ true → is_any (sort_of written) ≡ true)
+        → choice_stays T k (sort s) (each (slot_in T l) (rows_of T k (sort s))) ≡ true
+    kept_any any_sort e h =
+        ap (λ x. is_any (sort_of x))
+        (ap members_in (print-fields T k (sort any_sort) l (each (slot_in T l) (rows_of T k (sort any_sort))) e)
+        ∙ members_list-of written) ∙ h refl
+    kept_any s e h = refl
 
 pub schema_calm : (T : Tables) (l : List (Entry Tree)) → Kept T (T schema_data) l
     → stays T a_schema (form T a_schema (object (members_of l))) ≡ true
 unfolding rows_of
-schema_calm T l h =
-    let c : Choice = sort (sort_of l) in
-    let fs : List Form = each (slot_in T l) (rows_of T a_schema (sort (sort_of l))) in
-    ap (stays T a_schema) (form-fields T a_schema (sort (sort_of l)) l refl)
-    ∙ stays-fields T a_schema (sort (sort_of l)) l (each (slot_in T l) (rows_of T a_schema (sort (sort_of l)))) refl
-    ∙ and_from (choice_stays T a_schema c fs) (rows_stay (rows_of T a_schema c) (each (show (face_stays T)) fs))
-    (schema_choice T l (sort_of l) refl h) (from_stay_all T l (rows_of T a_schema c) h.0)
+schema_calm T l h = sort_calm T a_schema l refl h.0 h.1
 
 -- what is read of what a proper form of `a_schema` is written as stays, if the forms in its slots are calm
 pub schema_form_calm : (T : Tables) (W : tables_sound T ≡ true) (s : Sort) (fs : List Form)
@@ -151,32 +158,10 @@ unfolding rows_of
 schema_form_calm T W s fs w g = schema_calm T (members_for T (rows_of T a_schema (sort s)) fs)
     (kept T W (T schema_data) s fs g (names_of_data T W s, w.apart_rows, w.sound_rows, w.slots, w.writes, w.finds))
 
-pub kind_choice : (T : Tables) (l : List (Entry Tree)) (s : Sort) → sort_of l ≡ s → Kept T [] l
-    → choice_stays T a_schema_kind (sort s) (each (slot_in T l) (rows_of T a_schema_kind (sort s))) ≡ true
-unfolding rows_of
-kind_choice T l any_sort e h =
-    ap (λ x. is_any (sort_of x))
-    (ap members_in
-    (print-fields T a_schema_kind (sort any_sort) l
-    (each (slot_in T l) (rows_of T a_schema_kind (sort any_sort))) (ap (λ x. Some (sort x)) e))
-    ∙ members_list-of
-    (members_for T (rows_of T a_schema_kind (sort any_sort))
-    (each (slot_in T l) (rows_of T a_schema_kind (sort any_sort)))))
-    ∙ h.1 (ap is_any e)
-kind_choice T l s e h = refl
-
 pub kind_calm : (T : Tables) (l : List (Entry Tree)) → Kept T [] l
     → stays T a_schema_kind (form T a_schema_kind (object (members_of l))) ≡ true
 unfolding rows_of
-kind_calm T l h =
-    let c : Choice = sort (sort_of l) in
-    let fs : List Form = each (slot_in T l) (rows_of T a_schema_kind (sort (sort_of l))) in
-    ap (stays T a_schema_kind) (form-fields T a_schema_kind (sort (sort_of l)) l refl)
-    ∙ stays-fields T a_schema_kind (sort (sort_of l)) l
-    (each (slot_in T l) (rows_of T a_schema_kind (sort (sort_of l)))) refl
-    ∙ and_from (choice_stays T a_schema_kind c fs)
-    (rows_stay (rows_of T a_schema_kind c) (each (show (face_stays T)) fs)) (kind_choice T l (sort_of l) refl h)
-    (from_stay_all T l (rows_of T a_schema_kind c) h.0)
+kind_calm T l h = sort_calm T a_schema_kind l refl h.0 h.1
 
 -- what is read of what a proper form of `a_schema_kind` is written as stays, if the forms in its slots are calm
 pub kind_form_calm : (T : Tables) (W : tables_sound T ≡ true) (s : Sort) (fs : List Form)

@@ -6,8 +6,8 @@ use Rattle.std.proofs.lemmas.Bool.{and_parts, and_from, not_from_false, both_way
 use Rattle.openapi_tables.specs.Prelude.{join, every, same_text, has, Entry, Kind, list_of, required, Row, row}
 use Rattle.openapi_tables.specs.Prelude.{constant, Tables, any_rows, schema_ref, string_rows, object_rows, array_rows}
 use Rattle.openapi_tables.specs.Prelude.{boolean_rows, names_fit, untaken, is_null, own, first_tree, held, is_present}
-use Rattle.openapi_tables.specs.Prelude.{Sort, string_sort, number_sort, integer_sort, boolean_sort, object_sort}
-use Rattle.openapi_tables.specs.Prelude.{array_sort, one_of_sort, all_of_sort, any_of_sort, not_sort, any_sort}
+use Rattle.openapi_tables.specs.Prelude.{Sort}
+use Rattle.openapi_tables.specs.Prelude.{one_of_sort, all_of_sort, any_of_sort, not_sort, any_sort}
 use Rattle.openapi_tables.specs.Prelude.{kind_names, sort_rows, allowed, further, named_sort, possible_sort, meets}
 use Rattle.openapi_tables.specs.Prelude.{sort_of, Form, absent, slot_of_own, form, row_print, is_any}
 use Rattle.openapi_node.specs.Tree.{Tree, null, text}
@@ -18,6 +18,7 @@ use Rattle.openapi_tables.proofs.PrintLaws.{printed, members_for}
 use Rattle.openapi_tables.proofs.RowLaws.{OwnWrites}
 use Rattle.openapi_tables.proofs.SlotLaws.{not_null}
 use Rattle.openapi_tables.proofs.SortLaws.{Rewrites, further_again, names_held, each_name}
+use Rattle.openapi_tables.proofs.SortShown.{Others, Shows, chain, possible_shown, sort_from, type_word}
 
 -- a sort but the one that holds anything is the possible one, and meets its conditions
 sort_parts : (b : Bool) (c s : Sort) → cond b c any_sort ≡ s → is_any s ≡ false → (c ≡ s) × (b ≡ true)
@@ -31,12 +32,6 @@ sort_meets es s h g =
     let p = sort_parts (meets (possible_sort (held (codes "type") es) es) es)
     (possible_sort (held (codes "type") es) es) s h g in
     (p.0, subst (λ c. meets c es ≡ true) p.0 p.1)
-
--- members that meet their possible sort have that sort
-pub sort_from : (l : List (Entry Tree)) (s : Sort) → possible_sort (held (codes "type") l) l ≡ s → meets s l ≡ true
-    → sort_of l ≡ s
-sort_from l s h g =
-    ap (λ c. cond (meets c l) c any_sort) h ∙ ap (λ b. cond b s any_sort) g
 
 is_named : Sort → Bool
 is_named one_of_sort = false
@@ -57,9 +52,6 @@ named_is s =
     (either_named (same_text s (codes "boolean")) _ _ refl
     (either_named (same_text s (codes "object")) _ _ refl
     (either_named (same_text s (codes "array")) _ _ refl refl)))))
-
-abbrev chain : Bool → Bool → Bool → Bool → Sort
-chain a b c d = cond a one_of_sort (cond b all_of_sort (cond c any_of_sort (cond d not_sort any_sort)))
 
 -- which of the four names is present, by the sort
 abbrev pub picked : Sort → Bool → Bool → Bool → Bool → Type 0
@@ -85,13 +77,22 @@ named_picks not_sort a b c d h = cc
 named_picks s a b c d h = tt
 
 -- where the possible sort is that of one of the four names, a member of that name is present
-pub possible_picks : (t : Tree) (es : List (Entry Tree))
+possible_picks : (t : Tree) (es : List (Entry Tree))
     → picked (possible_sort t es) (is_present es (codes "oneOf")) (is_present es (codes "allOf"))
     (is_present es (codes "anyOf")) (is_present es (codes "not"))
 possible_picks null es = chain_picks (is_present es (codes "oneOf")) (is_present es (codes "allOf"))
     (is_present es (codes "anyOf")) (is_present es (codes "not"))
 possible_picks (text s) es = named_picks (named_sort s) _ _ _ _ (named_is s)
 possible_picks t es = tt
+
+-- which of the four names is present among members, by their sort
+abbrev pub Picks : Sort → List (Entry Tree) → Type 0
+Picks s es = picked s (is_present es (codes "oneOf")) (is_present es (codes "allOf")) (is_present es (codes "anyOf"))
+    (is_present es (codes "not"))
+
+-- where members have the sort of one of the four names, a member of that name is present
+pub picks_of : (es : List (Entry Tree)) (s : Sort) → is_any s ≡ false → sort_of es ≡ s → Picks s es
+picks_of es s a e = subst (λ x. Picks x es) (sort_meets es s e a).0 (possible_picks (held (codes "type") es) es)
 
 -- what a required row writes for a member that is present is present
 required_value : (T : Tables) (n : List ℕ) (k : Kind) (t : Tree) (b : Bool) → is_null t ≡ b → not b ≡ true
@@ -117,57 +118,16 @@ type_again : (T : Tables) (w : List ℕ) (es l : List (Entry Tree))
     (printed T (slot_in T es (constant (codes "type") w))) → held (codes "type") l ≡ text w
 type_again T w es l e = ap first_tree e
 
--- the sort that is possible for what the rows of a sort write
-possible_again : (T : Tables) (s : Sort) (es l : List (Entry Tree)) → Rewrites T es l (sort_rows s)
-    → is_any s ≡ false → possible_sort (held (codes "type") es) es ≡ s
-    → ((n : List ℕ) → has kind_names n ≡ true → has (allowed s) n ≡ false → held n l ≡ null)
-    → possible_sort (held (codes "type") l) l ≡ s
-unfolding sort_rows any_rows kind_names allowed string_rows object_rows array_rows boolean_rows
-possible_again T string_sort es l h a e n = ap (λ t. possible_sort t l) (type_again T (codes "string") es l h.0)
-possible_again T number_sort es l h a e n = ap (λ t. possible_sort t l) (type_again T (codes "number") es l h.0)
-possible_again T integer_sort es l h a e n = ap (λ t. possible_sort t l) (type_again T (codes "integer") es l h.0)
-possible_again T boolean_sort es l h a e n = ap (λ t. possible_sort t l) (type_again T (codes "boolean") es l h.0)
-possible_again T object_sort es l h a e n = ap (λ t. possible_sort t l) (type_again T (codes "object") es l h.0)
-possible_again T array_sort es l h a e n = ap (λ t. possible_sort t l) (type_again T (codes "array") es l h.0)
-possible_again T one_of_sort es l h a e n =
-    let p : is_present es (codes "oneOf") ≡ true =
-    subst (λ s. picked s (is_present es (codes "oneOf")) (is_present es (codes "allOf"))
-    (is_present es (codes "anyOf")) (is_present es (codes "not"))) e (possible_picks (held (codes "type") es) es) in
-    ap (λ t. possible_sort t l) (n (codes "type") refl refl)
-    ∙ ap (λ a. chain a (is_present l (codes "allOf")) (is_present l (codes "anyOf")) (is_present l (codes "not")))
-    (present_again T (codes "oneOf") (list_of schema_ref) es l p h.0)
-possible_again T all_of_sort es l h a e n =
-    let p : is_present es (codes "allOf") ≡ true =
-    subst (λ s. picked s (is_present es (codes "oneOf")) (is_present es (codes "allOf"))
-    (is_present es (codes "anyOf")) (is_present es (codes "not"))) e (possible_picks (held (codes "type") es) es) in
-    ap (λ t. possible_sort t l) (n (codes "type") refl refl)
-    ∙ ap (λ t. chain (not (is_null t)) (is_present l (codes "allOf")) (is_present l (codes "anyOf"))
-    (is_present l (codes "not"))) (n (codes "oneOf") refl refl)
-    ∙ ap (λ b. chain false b (is_present l (codes "anyOf")) (is_present l (codes "not")))
-    (present_again T (codes "allOf") (list_of schema_ref) es l p h.0)
-possible_again T any_of_sort es l h a e n =
-    let p : is_present es (codes "anyOf") ≡ true =
-    subst (λ s. picked s (is_present es (codes "oneOf")) (is_present es (codes "allOf"))
-    (is_present es (codes "anyOf")) (is_present es (codes "not"))) e (possible_picks (held (codes "type") es) es) in
-    ap (λ t. possible_sort t l) (n (codes "type") refl refl)
-    ∙ ap (λ t. chain (not (is_null t)) (is_present l (codes "allOf")) (is_present l (codes "anyOf"))
-    (is_present l (codes "not"))) (n (codes "oneOf") refl refl)
-    ∙ ap (λ t. chain false (not (is_null t)) (is_present l (codes "anyOf")) (is_present l (codes "not")))
-    (n (codes "allOf") refl refl)
-    ∙ ap (λ b. chain false false b (is_present l (codes "not")))
-    (present_again T (codes "anyOf") (list_of schema_ref) es l p h.0)
-possible_again T not_sort es l h a e n =
-    let p : is_present es (codes "not") ≡ true =
-    subst (λ s. picked s (is_present es (codes "oneOf")) (is_present es (codes "allOf"))
-    (is_present es (codes "anyOf")) (is_present es (codes "not"))) e (possible_picks (held (codes "type") es) es) in
-    ap (λ t. possible_sort t l) (n (codes "type") refl refl)
-    ∙ ap (λ t. chain (not (is_null t)) (is_present l (codes "allOf")) (is_present l (codes "anyOf"))
-    (is_present l (codes "not"))) (n (codes "oneOf") refl refl)
-    ∙ ap (λ t. chain false (not (is_null t)) (is_present l (codes "anyOf")) (is_present l (codes "not")))
-    (n (codes "allOf") refl refl)
-    ∙ ap (λ t. chain false false (not (is_null t)) (is_present l (codes "not"))) (n (codes "anyOf") refl refl)
-    ∙ ap (λ b. chain false false false b) (present_again T (codes "not") schema_ref es l p h.0)
-possible_again T any_sort es l h a e n = cc
+-- what a schema of a sort is written as shows the sort
+shown_again : (T : Tables) (s : Sort) (es l : List (Entry Tree)) → Rewrites T es l (sort_rows s) → is_any s ≡ false
+    → Picks s es → Shows s l
+unfolding sort_rows any_rows string_rows object_rows array_rows boolean_rows
+shown_again T one_of_sort es l h a p = present_again T (codes "oneOf") (list_of schema_ref) es l p h.0
+shown_again T all_of_sort es l h a p = present_again T (codes "allOf") (list_of schema_ref) es l p h.0
+shown_again T any_of_sort es l h a p = present_again T (codes "anyOf") (list_of schema_ref) es l p h.0
+shown_again T not_sort es l h a p = present_again T (codes "not") schema_ref es l p h.0
+shown_again T any_sort es l h a p = cc
+shown_again T s es l h a p = type_again T (type_word s) es l h.0
 
 -- what a schema of a sort with rows of its own is written as has that sort
 pub sort_again : (T : Tables) (pre : List Row) (s : Sort) (es : List (Entry Tree)) (fs : List Form)
@@ -175,7 +135,7 @@ pub sort_again : (T : Tables) (pre : List Row) (s : Sort) (es : List (Entry Tree
     → Rewrites T es (members_for T (join pre (sort_rows s)) fs) (sort_rows s) → is_any s ≡ false → sort_of es ≡ s
     → sort_of (members_for T (join pre (sort_rows s)) fs) ≡ s
 sort_again T pre s es fs n g h a e =
-    sort_from l s (possible_again T s es l h a facts.0 gone)
+    sort_from l s (possible_shown s l (shown_again T s es l h a (picks_of es s a e)) a gone)
     (and_from (every (λ m. has (allowed s) m || is_null (held m l)) kind_names) (further s l)
     (every_from (λ m. has (allowed s) m || is_null (held m l)) kind_names gone_names)
     (further_again T s es l h met.1))
@@ -198,7 +158,7 @@ sort_again T pre s es fs n g h a e =
     or_right_part true y p q = cc
     or_right_part false y p q = p
 
-    gone : (m : List ℕ) → has kind_names m ≡ true → has (allowed s) m ≡ false → held m l ≡ null
+    gone : Others s l
     gone m p q = null_tree (held m l)
         (or_right_part (has (allowed s) m) (is_null (held m l))
         (each_name (λ u. has (allowed s) u || is_null (held u l)) kind_names m gone_names p) q)

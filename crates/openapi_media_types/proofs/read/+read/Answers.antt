@@ -249,7 +249,7 @@ pub header_of-returns-in_err-format-clause-reads : goal.header_of-returns-in_err
 unfolding final_tables tables_with
 header_of-returns-in_err-format-clause-reads t c =
     let p = err_from_is_err_and c.from_residual-in_err-format.result c.from_residual-in_err-format.ensures.1 in
-    rw (p.1, p.2) (c.in_err-format.ensures.reads (by header) refl refl)
+    rw (p.1, p.2) (c.in_err-format.ensures.reads header refl)
 
 pub header_of-returns-clause-reads : goal.header_of-returns-clause-reads
 unfolding final_tables tables_with
@@ -272,7 +272,7 @@ header_of-returns-clause-reads t c =
           (
             c.in_ok-deprecated.ensures.reads,
             (
-              c.in_ok-format.ensures.reads (by header) refl refl,
+              c.in_ok-format.ensures.reads header refl,
               (c.in_ok-example.ensures.reads, (c.in_ok-examples.ensures.reads, (c.in_ok-extensions.ensures.reads, tt))),
             ),
           ),

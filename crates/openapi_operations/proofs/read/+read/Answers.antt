@@ -1,6 +1,5 @@
 use Rattle.std.proofs.Common.{◌≡◌, ◌∙◌, Ok, Err, Some, not, None, refl, rules, sym, ap, subst, arith, codes}
 use Rattle.std.proofs.Common.{string_bytes}
-use Rattle.std.proofs.lemmas.List.{take_all}
 use Rattle.openapi_node.specs.Tree.{members_of, size_of}
 use Rattle.openapi_node.specs.View.{shown}
 use Rattle.openapi_node.proofs.TreeLemmas.{next_member}
@@ -8,23 +7,20 @@ use Rattle.openapi_tables.specs.Prelude.{AreRows, RowGives, is_named, row_where,
 use Rattle.openapi_tables.specs.Prelude.{callback_names, callback_object, in_class, operation, optional, path_item, row}
 use Rattle.openapi_tables.specs.Prelude.{callback_ref, final_tables, tables_with}
 use Rattle.openapi_values.specs.Reference.{reference_form}
-use Rattle.openapi_fields.specs.Entries.{chosen, entries_size}
 use Rattle.openapi_fields.specs.Forms.{optional_form}
 use Rattle.openapi_fields.specs.Returned.{ReadAs}
 use Rattle.openapi_fields.proofs.Below.{memory_fails}
 use Rattle.openapi_fields.proofs.Referring.{reads_reference}
-use Rattle.openapi_fields.proofs.Chosen.{next_size, next_skipped, next_within}
-use Rattle.openapi_fields.proofs.Classed.{class_count, class_gives}
+use Rattle.openapi_fields.proofs.Classed.{class_read}
 use Rattle.openapi_fields.proofs.RowReading.{weight_of_name}
 use Rattle.openapi_fields.proofs.RecursiveReading.{all_so_far, map_at, next_refused, next_so_far, no_map, no_map_at}
 use Rattle.openapi_fields.proofs.RecursiveReading.{none_so_far, object_read}
 use Rattle.openapi_fields.proofs.EntryReading.{name_unread}
 use Rattle.openapi_fields.proofs.PresentRows.{row_gone, row_read}
+use Rattle.openapi_fields.proofs.Taking.{looked_into, name_untaken, none_yet, passed_over, taken_all, taken_next, taken_refused}
 use Rattle.openapi_operations.specs.OperationForms.{callback_form, callback_rows, operation_form, operation_rows}
 use Rattle.openapi_operations.specs.OperationForms.{path_item_form, path_item_rows}
 use Rattle.openapi_operations.specs.Fields.{callback_fields, operation_fields, path_item_fields}
-use Rattle.openapi_operations.proofs.ClassReading.{AreTaken, all_taken, name_untaken, none_passed, none_taken}
-use Rattle.openapi_operations.proofs.ClassReading.{one_refused, one_taken}
 use Rattle.openapi_operations.proofs.Opened.{callback_same, callback_read, operation_same, path_item_same}
 use Rattle.openapi_operations.proofs.PartRows.{methods_read, path_item_weight}
 use Rattle.openapi_operations.proofs.read.+read.Goals as goal
@@ -176,107 +172,42 @@ read_requests-put_read-requires t c =
 
 pub read_requests-loop-i-init : goal.read_requests-loop-i-init
 read_requests-loop-i-init t c =
-    record {
-      read = none_taken (in_class callback_names) path_item_form (by path_item) c.new-values.result c.new-values.ensures;
-      rises = omega arith;
-      counted = omega arith;
-    }
+    none_yet (in_class callback_names) path_item_form (by path_item) c.args.members.now c.args.steps.now c.new-values.result
+    c.new-values.ensures
 
 pub read_requests-loop-i-preserved-then-contains : goal.read_requests-loop-i-preserved-then-contains
 read_requests-loop-i-preserved-then-contains t c =
-    let ms = c.args.members.now in
-    let n = c.entry_at.result.0.now in
-    let u = c.entry_at.result.1.now in
-    let no = ap not (sym c.contains.ensures ∙ c.if-contains.true) in
-    let skip = next_skipped (in_class callback_names) ms c.loop-i.i n u c.entry_at.ensures no in
-    record {
-      read = none_passed (in_class callback_names) path_item_form (by path_item) ms c.loop-i.i n u c.entry_at.ensures
-          c.loop-i.values no c.loop-i.invariant.read;
-      rises = c.loop-i.invariant.rises;
-      counted = omega (arith, c.loop-i.invariant.counted, ap entries_size skip);
-    }
+    passed_over (in_class callback_names) path_item_form (by path_item) c.args.members.now c.args.steps.now c.loop-i.i
+    c.entry_at.ensures c.loop-i.invariant (ap not (sym c.contains.ensures ∙ c.if-contains.true))
 
-pub read_requests-returns-in-Err-clause-reads : goal.read_requests-returns-in-Err-clause-reads
+pub read_requests-returns-in-Err : goal.read_requests-returns-in-Err
 unfolding final_tables tables_with
-read_requests-returns-in-Err-clause-reads t c =
-    let ms = c.args.members.now in
-    let n = c.entry_at.result.0.now in
-    let u = c.entry_at.result.1.now in
-    let yes = ap not (sym c.contains.ensures ∙ c.if-contains.false) in
-    let given = subst (λ v. ReadAs path_item_form c.read_path_item.result (by path_item) v)
-    c.open-entry.ensures.shown c.read_path_item.ensures.reads in
-    class_gives callback_names (by path_item) (in_class callback_names) (λ m. refl) (λ m. refl) path_item_form
-    (Err c.in-Err.fault) (by callback_object) ms refl
-    (one_refused (in_class callback_names) path_item_form (by path_item) ms c.loop-i.i n u c.entry_at.ensures
-    c.loop-i.values yes c.in-Err.fault c.put_read.new.values
-    (rw c.in-Err.is at (c.put_read.ensures path_item_form (by path_item) u given)))
-
-pub read_requests-returns-in-Err-clause-count : goal.read_requests-returns-in-Err-clause-count
-read_requests-returns-in-Err-clause-count t c =
-    let ms = c.args.members.now in
-    let yes = ap not (sym c.contains.ensures ∙ c.if-contains.false) in (
-      omega (arith, c.open-entry.ensures.counted, c.read_path_item.ensures.count.0, c.loop-i.invariant.rises),
-      omega (
-        arith,
-        next_within (in_class callback_names) ms c.loop-i.i c.entry_at.result.0.now c.entry_at.result.1.now
-            c.entry_at.ensures yes,
-        class_count callback_names (by path_item) (in_class callback_names) (λ m. refl) (λ m. refl) path_item_form ms,
-        ap size_of c.open-entry.ensures.shown,
-        c.open-entry.ensures.counted,
-        c.read_path_item.ensures.count.1,
-        c.loop-i.invariant.counted,
-      ),
-    )
+read_requests-returns-in-Err t c =
+    class_read callback_names (by path_item) (in_class callback_names) (λ m. refl) (λ m. refl) path_item_form
+    (Err c.in-Err.fault) (by callback_object) c.args.members.now refl
+    (taken_refused (in_class callback_names) path_item_form (by path_item) c.args.members.now c.args.steps.now c.loop-i.i
+    c.entry_at.ensures c.loop-i.invariant (ap not (sym c.contains.ensures ∙ c.if-contains.false)) c.put_read.new.values
+    (looked_into c.open-entry.ensures c.read_path_item.ensures.count) c.in-Err.fault (rw c.in-Err.is at
+    (c.put_read.ensures path_item_form (by path_item) c.entry_at.result.1.now
+    (subst (λ v. ReadAs path_item_form c.read_path_item.result (by path_item) v) c.open-entry.ensures.shown
+    c.read_path_item.ensures.reads))))
 
 pub read_requests-loop-i-preserved : goal.read_requests-loop-i-preserved
 read_requests-loop-i-preserved t c =
-    let ms = c.args.members.now in
-    let n = c.entry_at.result.0.now in
-    let u = c.entry_at.result.1.now in
-    let yes = ap not (sym c.contains.ensures ∙ c.if-contains.false) in
-    let given = subst (λ v. ReadAs path_item_form c.read_path_item.result (by path_item) v)
-    c.open-entry.ensures.shown c.read_path_item.ensures.reads in
-    record {
-      read = one_taken (in_class callback_names) path_item_form (by path_item) ms c.loop-i.i n u c.entry_at.ensures
-          c.loop-i.values yes c.put_read.new.values c.loop-i.invariant.read
-          (rw c.in-Ok.is at (c.put_read.ensures path_item_form (by path_item) u given));
-      rises = omega (
-        arith,
-        c.open-entry.ensures.counted,
-        c.read_path_item.ensures.count.0,
-        c.loop-i.invariant.rises,
-      );
-      counted = omega (
-        arith,
-        next_size (in_class callback_names) ms c.loop-i.i n u c.entry_at.ensures yes,
-        ap size_of c.open-entry.ensures.shown,
-        c.open-entry.ensures.counted,
-        c.read_path_item.ensures.count.1,
-        c.loop-i.invariant.counted,
-      );
-    }
+    taken_next (in_class callback_names) path_item_form (by path_item) c.args.members.now c.args.steps.now c.loop-i.i
+    c.entry_at.ensures c.loop-i.invariant (ap not (sym c.contains.ensures ∙ c.if-contains.false)) c.put_read.new.values
+    (looked_into c.open-entry.ensures c.read_path_item.ensures.count) (rw c.in-Ok.is at
+    (c.put_read.ensures path_item_form (by path_item) c.entry_at.result.1.now
+    (subst (λ v. ReadAs path_item_form c.read_path_item.result (by path_item) v) c.open-entry.ensures.shown
+    c.read_path_item.ensures.reads)))
 
-pub read_requests-returns-clause-reads : goal.read_requests-returns-clause-reads
+pub read_requests-returns : goal.read_requests-returns
 unfolding final_tables tables_with
-read_requests-returns-clause-reads t c =
-    let ms = c.args.members.now in
-    let all = take_all c.loop-i.i ms (omega arith) in
-    class_gives callback_names (by path_item) (in_class callback_names) (λ m. refl) (λ m. refl) path_item_form
-    (Ok c.loop-i.values) (by callback_object) ms refl
-    (all_taken (in_class callback_names) path_item_form (by path_item) ms c.loop-i.values
-    (subst (λ es. AreTaken (in_class callback_names) path_item_form (by path_item) es c.loop-i.values) all
-    c.loop-i.invariant.read))
-
-pub read_requests-returns-clause-count : goal.read_requests-returns-clause-count
-read_requests-returns-clause-count t c =
-    let ms = c.args.members.now in
-    let all = take_all c.loop-i.i ms ((omega arith, omega arith)) in
-    omega (
-      arith,
-      ap (λ es. entries_size (chosen (in_class callback_names) es)) all,
-      class_count callback_names (by path_item) (in_class callback_names) (λ m. refl) (λ m. refl) path_item_form ms,
-      c.loop-i.invariant.counted,
-    )
+read_requests-returns t c =
+    class_read callback_names (by path_item) (in_class callback_names) (λ m. refl) (λ m. refl) path_item_form
+    (Ok c.loop-i.values) (by callback_object) c.args.members.now refl
+    (taken_all (in_class callback_names) path_item_form (by path_item) c.args.members.now c.args.steps.now c.loop-i.i c.loop-i.values
+    c.loop-i.steps (omega arith) c.loop-i.invariant)
 
 pub callback_of-returns-clause-reads : goal.callback_of-returns-clause-reads
 unfolding final_tables tables_with

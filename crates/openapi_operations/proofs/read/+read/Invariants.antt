@@ -4,7 +4,7 @@ use Rattle.openapi_values.specs.Reference.{reference_form}
 use Rattle.openapi_fields.specs.Entries.{chosen, entries_size}
 use Rattle.openapi_fields.proofs.RecursiveReading.{SoFar}
 use Rattle.openapi_operations.specs.OperationForms.{callback_form, path_item_form}
-use Rattle.openapi_operations.proofs.ClassReading.{AreTaken}
+use Rattle.openapi_fields.proofs.Taking.{TakenSoFar}
 use Rattle.openapi_fields.proofs.Measures.{members_left, view_left}
 use Rattle.openapi_operations.proofs.read.+read.Given as goal
 
@@ -50,9 +50,4 @@ invariant-callbacks_of-loop-i l = SoFar (reference_form callback_form) callback_
 
 abbrev pub invariant-read_requests-loop-i : goal.invariant-read_requests-loop-i
 invariant-read_requests-loop-i l =
-    let done = take l.i l.members in
-    record {
-      read : AreTaken (in_class callback_names) path_item_form (by path_item) done l.values;
-      rises : l.initial.steps ≤ l.steps;
-      counted : l.steps ≤ l.initial.steps + 3 * entries_size (chosen (in_class callback_names) done);
-    }
+    TakenSoFar (in_class callback_names) path_item_form (by path_item) l.members l.initial.steps l.i l.values l.steps

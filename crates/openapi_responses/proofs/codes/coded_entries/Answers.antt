@@ -104,10 +104,12 @@ returns-clause-reads g c =
 pub returns-clause-count : goal.returns-clause-count
 returns-clause-count g c =
     let ms = c.args.members.now in
-    let all = take_all c.loop-i.i ms ((omega arith, omega arith)) in
-    omega (
-      arith,
-      c.loop-i.invariant.counted,
-      ap (λ l. entries_size (statuses l)) all,
-      class_size status_names g.T.FromNode.kind ms,
+    let all = take_all c.loop-i.i ms (omega arith) in (
+      omega (arith, c.loop-i.invariant.rises),
+      omega (
+        arith,
+        c.loop-i.invariant.counted,
+        ap (λ l. entries_size (statuses l)) all,
+        class_size status_names g.T.FromNode.kind ms,
+      ),
     )

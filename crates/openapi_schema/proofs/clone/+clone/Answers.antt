@@ -1,18 +1,18 @@
 use Rattle.std.proofs.Common.{◌∙◌, ◌∷◌, [], sym, ap, arith, take, string_bytes}
 use Rattle.openapi_map.specs.Entries.{get}
 use Rattle.openapi_map.proofs.EntryLemmas.{absent-next}
-use Rattle.openapi_tables.specs.Prelude.{absent, leaf, each, join, string_sort, number_sort, integer_sort, boolean_sort}
-use Rattle.openapi_tables.specs.Prelude.{object_sort, one_of_sort, all_of_sort, any_of_sort, any_sort}
+use Rattle.openapi_tables.specs.Prelude.{absent, leaf, each, join}
 use Rattle.openapi_fields.specs.Forms.{text_form, flag_form, number_form, size_form, optional_form, list_form}
 use Rattle.openapi_schema.specs.KindNames.{any_last_rows}
 use Rattle.openapi_schema.specs.Reading.{ref_form, inner_box_form}
-use Rattle.openapi_schema.specs.SchemaForms.{Sorted, schema_kind_rows, schema_type_rows}
+use Rattle.openapi_schema.specs.SchemaForms.{schema_kind_rows, schema_type_rows}
 use Rattle.openapi_schema.specs.declared.any_schema.AnySchema.{out-AnySchema}
 use Rattle.openapi_schema.specs.declared.composite_types.ObjectType.{out-ObjectType}
 use Rattle.openapi_schema.specs.declared.schema.Schema.{out-Schema}
 use Rattle.openapi_fields.proofs.CloneForms.{IsSame, IsTextClone, get-absent, list-clone, pairs-next, text-clone}
 use Rattle.openapi_schema.proofs.CombinedForms.{one_of_rows-kind, all_of_rows-kind, any_of_rows-kind}
 use Rattle.openapi_fields.proofs.FormSizes.{element_smaller, rows_size, value_smaller}
+use Rattle.openapi_schema.proofs.GivenRows.{clone_given, size_given}
 use Rattle.openapi_schema.proofs.KindForms.{any_rows-kind, object_rows-roll}
 use Rattle.openapi_schema.proofs.OpenedForms.{any_rows-out, object_rows-out, object_rows-type, schema-same}
 use Rattle.openapi_schema.proofs.OpenedForms.{string_rows-type, number_rows-type, integer_rows-type, boolean_rows-type}
@@ -22,69 +22,55 @@ use Rattle.openapi_schema.proofs.clone.+clone.Goals as goal
 
 pub clone_kind-clone_refs-requires : goal.clone_kind-clone_refs-requires
 clone_kind-clone_refs-requires t c =
-    let size = ap (λ k. rows_size (schema_kind_rows k).1) c.in-OneOf.is
-    ∙ ap (λ (s : Sorted). rows_size s.1) (one_of_rows-kind c.in-OneOf.one_of) in
-    (omega (arith, size, c.decreases), tt)
+    (omega (arith, size_given schema_kind_rows c.in-OneOf.is (one_of_rows-kind c.in-OneOf.one_of), c.decreases), tt)
 
 pub clone_kind-clone_refs-requires-in-AllOf : goal.clone_kind-clone_refs-requires-in-AllOf
 clone_kind-clone_refs-requires-in-AllOf t c =
-    let size = ap (λ k. rows_size (schema_kind_rows k).1) c.in-AllOf.is
-    ∙ ap (λ (s : Sorted). rows_size s.1) (all_of_rows-kind c.in-AllOf.all_of) in
-    (omega (arith, size, c.decreases), tt)
+    (omega (arith, size_given schema_kind_rows c.in-AllOf.is (all_of_rows-kind c.in-AllOf.all_of), c.decreases), tt)
 
 pub clone_kind-clone_refs-requires-in-AnyOf : goal.clone_kind-clone_refs-requires-in-AnyOf
 clone_kind-clone_refs-requires-in-AnyOf t c =
-    let size = ap (λ k. rows_size (schema_kind_rows k).1) c.in-AnyOf.is
-    ∙ ap (λ (s : Sorted). rows_size s.1) (any_of_rows-kind c.in-AnyOf.any_of) in
-    (omega (arith, size, c.decreases), tt)
+    (omega (arith, size_given schema_kind_rows c.in-AnyOf.is (any_of_rows-kind c.in-AnyOf.any_of), c.decreases), tt)
 
 pub clone_kind-clone_any-requires : goal.clone_kind-clone_any-requires
 clone_kind-clone_any-requires t c =
-    let size = ap (λ k. rows_size (schema_kind_rows k).1) c.in-Any.is
-    ∙ ap (λ (s : Sorted). rows_size s.1) (any_rows-kind c.in-Any.any) ∙ ap rows_size (any_rows-out c.in-Any.any) in
-    (omega (arith, size, c.decreases), tt)
+    let size = size_given schema_kind_rows c.in-Any.is (any_rows-kind c.in-Any.any) in
+    (omega (arith, size, ap rows_size (any_rows-out c.in-Any.any), c.decreases), tt)
 
 pub clone_kind-returns-in_ok-clone_refs-in-OneOf : goal.clone_kind-returns-in_ok-clone_refs-in-OneOf
 clone_kind-returns-in_ok-clone_refs-in-OneOf t c =
-    one_of_rows-kind c.in_ok-clone_refs-in-OneOf.field-0
-    ∙ ap (λ f. (one_of_sort, f ∷ [])) c.in_ok-clone_refs-in-OneOf.ensures
-    ∙ sym (one_of_rows-kind c.in-OneOf.one_of) ∙ sym (ap schema_kind_rows c.in-OneOf.is)
+    clone_given schema_kind_rows (one_of_rows-kind c.in_ok-clone_refs-in-OneOf.field-0)
+    (ap (λ f. f ∷ []) c.in_ok-clone_refs-in-OneOf.ensures) (one_of_rows-kind c.in-OneOf.one_of) c.in-OneOf.is
 
 pub clone_kind-returns-in_ok-clone_refs-in-AllOf : goal.clone_kind-returns-in_ok-clone_refs-in-AllOf
 clone_kind-returns-in_ok-clone_refs-in-AllOf t c =
-    all_of_rows-kind c.in_ok-clone_refs-in-AllOf.field-0
-    ∙ ap (λ f. (all_of_sort, f ∷ [])) c.in_ok-clone_refs-in-AllOf.ensures
-    ∙ sym (all_of_rows-kind c.in-AllOf.all_of) ∙ sym (ap schema_kind_rows c.in-AllOf.is)
+    clone_given schema_kind_rows (all_of_rows-kind c.in_ok-clone_refs-in-AllOf.field-0)
+    (ap (λ f. f ∷ []) c.in_ok-clone_refs-in-AllOf.ensures) (all_of_rows-kind c.in-AllOf.all_of) c.in-AllOf.is
 
 pub clone_kind-returns-in_ok-clone_refs-in-AnyOf : goal.clone_kind-returns-in_ok-clone_refs-in-AnyOf
 clone_kind-returns-in_ok-clone_refs-in-AnyOf t c =
-    any_of_rows-kind c.in_ok-clone_refs-in-AnyOf.field-0
-    ∙ ap (λ f. (any_of_sort, f ∷ [])) c.in_ok-clone_refs-in-AnyOf.ensures
-    ∙ sym (any_of_rows-kind c.in-AnyOf.any_of) ∙ sym (ap schema_kind_rows c.in-AnyOf.is)
+    clone_given schema_kind_rows (any_of_rows-kind c.in_ok-clone_refs-in-AnyOf.field-0)
+    (ap (λ f. f ∷ []) c.in_ok-clone_refs-in-AnyOf.ensures) (any_of_rows-kind c.in-AnyOf.any_of) c.in-AnyOf.is
 
 pub clone_kind-returns-in_ok-clone_any-in-Any : goal.clone_kind-returns-in_ok-clone_any-in-Any
 clone_kind-returns-in_ok-clone_any-in-Any t c =
     let x = c.in-Any.any in
     let y = c.in_ok-clone_any-in-Any.field-0 in
-    any_rows-kind y
-    ∙ ap (λ fs. (any_sort, fs)) (any_rows-out y ∙ c.in_ok-clone_any-in-Any.ensures ∙ sym (any_rows-out x))
-    ∙ sym (any_rows-kind x) ∙ sym (ap schema_kind_rows c.in-Any.is)
+    clone_given schema_kind_rows (any_rows-kind y) (any_rows-out y ∙ c.in_ok-clone_any-in-Any.ensures ∙ sym (any_rows-out x))
+    (any_rows-kind x) c.in-Any.is
 
 pub clone_type-clone_object-requires : goal.clone_type-clone_object-requires
 clone_type-clone_object-requires t c =
-    let size = ap (λ y. rows_size (schema_type_rows y).1) c.in-Object.is
-    ∙ ap (λ (s : Sorted). rows_size s.1) (object_rows-type c.in-Object.typ)
-    ∙ ap (λ fs. rows_size (absent ∷ fs)) (object_rows-out c.in-Object.typ) in
-    (omega (arith, size, c.decreases), tt)
+    let size = size_given schema_type_rows c.in-Object.is (object_rows-type c.in-Object.typ) in
+    (omega (arith, size, ap (λ fs. rows_size (absent ∷ fs)) (object_rows-out c.in-Object.typ), c.decreases), tt)
 
 pub clone_type-returns-in_ok-clone_object-in-Object : goal.clone_type-returns-in_ok-clone_object-in-Object
 clone_type-returns-in_ok-clone_object-in-Object t c =
     let x = c.in-Object.typ in
     let y = c.in_ok-clone_object-in-Object.field-0 in
-    object_rows-type y
-    ∙ ap (λ fs. (object_sort, absent ∷ fs))
-    (object_rows-out y ∙ c.in_ok-clone_object-in-Object.ensures ∙ sym (object_rows-out x))
-    ∙ sym (object_rows-type x) ∙ sym (ap schema_type_rows c.in-Object.is)
+    clone_given schema_type_rows (object_rows-type y)
+    (ap (λ fs. absent ∷ fs) (object_rows-out y ∙ c.in_ok-clone_object-in-Object.ensures ∙ sym (object_rows-out x)))
+    (object_rows-type x) c.in-Object.is
 
 pub clone_refs-clone_ref-requires : goal.clone_refs-clone_ref-requires
 clone_refs-clone_ref-requires t c =
@@ -175,32 +161,24 @@ clone_schema-returns t c =
 
 pub clone_type-returns-in_ok-clone-in-String : goal.clone_type-returns-in_ok-clone-in-String
 clone_type-returns-in_ok-clone-in-String t c =
-    let x = c.in-String.typ in
-    let y = c.in_ok-clone-in-String.field-0 in
-    string_rows-type y
-    ∙ ap (λ fs. (string_sort, absent ∷ fs)) (string-clone x y c.in_ok-clone-in-String.ensures.cases)
-    ∙ sym (string_rows-type x) ∙ sym (ap schema_type_rows c.in-String.is)
+    clone_given schema_type_rows (string_rows-type c.in_ok-clone-in-String.field-0)
+    (ap (λ fs. absent ∷ fs) (string-clone c.in-String.typ c.in_ok-clone-in-String.field-0 c.in_ok-clone-in-String.ensures.cases))
+    (string_rows-type c.in-String.typ) c.in-String.is
 
 pub clone_type-returns-in_ok-clone-in-Number : goal.clone_type-returns-in_ok-clone-in-Number
 clone_type-returns-in_ok-clone-in-Number t c =
-    let x = c.in-Number.typ in
-    let y = c.in_ok-clone-in-Number.field-0 in
-    number_rows-type y
-    ∙ ap (λ fs. (number_sort, absent ∷ fs)) (number-clone x y c.in_ok-clone-in-Number.ensures.cases)
-    ∙ sym (number_rows-type x) ∙ sym (ap schema_type_rows c.in-Number.is)
+    clone_given schema_type_rows (number_rows-type c.in_ok-clone-in-Number.field-0)
+    (ap (λ fs. absent ∷ fs) (number-clone c.in-Number.typ c.in_ok-clone-in-Number.field-0 c.in_ok-clone-in-Number.ensures.cases))
+    (number_rows-type c.in-Number.typ) c.in-Number.is
 
 pub clone_type-returns-in_ok-clone-in-Integer : goal.clone_type-returns-in_ok-clone-in-Integer
 clone_type-returns-in_ok-clone-in-Integer t c =
-    let x = c.in-Integer.typ in
-    let y = c.in_ok-clone-in-Integer.field-0 in
-    integer_rows-type y
-    ∙ ap (λ fs. (integer_sort, absent ∷ fs)) (integer-clone x y c.in_ok-clone-in-Integer.ensures.cases)
-    ∙ sym (integer_rows-type x) ∙ sym (ap schema_type_rows c.in-Integer.is)
+    clone_given schema_type_rows (integer_rows-type c.in_ok-clone-in-Integer.field-0)
+    (ap (λ fs. absent ∷ fs) (integer-clone c.in-Integer.typ c.in_ok-clone-in-Integer.field-0 c.in_ok-clone-in-Integer.ensures.cases))
+    (integer_rows-type c.in-Integer.typ) c.in-Integer.is
 
 pub clone_type-returns-in_ok-clone-in-Boolean : goal.clone_type-returns-in_ok-clone-in-Boolean
 clone_type-returns-in_ok-clone-in-Boolean t c =
-    let x = c.in-Boolean.typ in
-    let y = c.in_ok-clone-in-Boolean.field-0 in
-    boolean_rows-type y
-    ∙ ap (λ fs. (boolean_sort, absent ∷ fs)) (boolean-clone x y c.in_ok-clone-in-Boolean.ensures.cases)
-    ∙ sym (boolean_rows-type x) ∙ sym (ap schema_type_rows c.in-Boolean.is)
+    clone_given schema_type_rows (boolean_rows-type c.in_ok-clone-in-Boolean.field-0)
+    (ap (λ fs. absent ∷ fs) (boolean-clone c.in-Boolean.typ c.in_ok-clone-in-Boolean.field-0 c.in_ok-clone-in-Boolean.ensures.cases))
+    (boolean_rows-type c.in-Boolean.typ) c.in-Boolean.is

@@ -1,4 +1,4 @@
-use Rattle.std.proofs.Common.{◌≡◌, ◌∙◌, ◌∷◌, Result, length, sym, ap, subst, arith, rules}
+use Rattle.std.proofs.Common.{◌≡◌, ◌∙◌, ◌∷◌, length, sym, ap, subst, arith, rules}
 use Rattle.std.specs.Prelude.{◌==◌}
 use Rattle.std.proofs.lemmas.List.{take_all}
 use Rattle.openapi_tables.specs.Prelude.{a_schema, flag_or_schema, list_of, listed, map_of, optional, ref_to, each}
@@ -13,20 +13,16 @@ use Rattle.openapi_fields.proofs.Elements.{written, is_whole, list_written, item
 use Rattle.openapi_fields.proofs.Losing.{none_listed, none_mapped, not_silent}
 use Rattle.openapi_schema.specs.Present.{additional_there, ref_there}
 use Rattle.openapi_schema.specs.Reading.{ref_form, inner_box_form, outer_box_form}
-use Rattle.openapi_schema.specs.SchemaForms.{Sorted, additional_form, schema_form, schema_kind_rows, schema_type_rows}
-use Rattle.openapi_fields.specs.Writing.{RowsWritten}
-use Rattle.openapi_schema.specs.Writing.{sorted_slots, untagged}
+use Rattle.openapi_schema.specs.SchemaForms.{additional_form, schema_form, schema_kind_rows, schema_type_rows}
 use Rattle.openapi_schema.proofs.CombinedForms.{one_of_rows-kind, all_of_rows-kind, any_of_rows-kind, not_rows-kind}
 use Rattle.openapi_fields.proofs.FormSizes.{element_smaller, rows_size, value_smaller}
+use Rattle.openapi_schema.proofs.GivenRows.{rows_given, size_given}
 use Rattle.openapi_schema.proofs.KindForms.{any_rows-kind}
 use Rattle.openapi_schema.proofs.OpenedForms.{any_rows-out, array_rows-out, object_rows-out}
 use Rattle.openapi_schema.proofs.OpenedForms.{array_rows-type, boolean_rows-type, integer_rows-type, number_rows-type, object_rows-type}
 use Rattle.openapi_schema.proofs.OpenedForms.{string_rows-type}
 use Rattle.openapi_schema.proofs.WholeSchemas.{data_loses}
 use Rattle.openapi_schema.proofs.WrittenForms.{kind_loses}
-use Rattle.openapi_map.specs.Entries.{Entries}
-use Rattle.openapi_node.specs.Tree.{Tree}
-use Rattle.openapi_node.specs.declared.fault.Fault.{Fault}
 use Rattle.openapi_schema.proofs.write.+write.Goals as goal
 
 pub write_named-put_written-requires : goal.write_named-put_written-requires
@@ -61,109 +57,95 @@ pub object_rows-put_row-requires-clause-before : goal.object_rows-put_row-requir
 unfolding final_tables tables_with object_rows
 object_rows-put_row-requires-clause-before t c = none_written final_tables c.new-out.result c.new-out.ensures
 
--- what was written of the rows of a kind or a type, where it is known which one it is
-rows_given : {X : Type 0} → (rows : X → Sorted) (x y : X) (s : Sorted) (w : Result (Entries Tree) Fault) → x ≡ y → rows y ≡ s
-    → RowsWritten (untagged (sorted_slots s)) w → RowsWritten (untagged (sorted_slots (rows x))) w
-rows_given rows x y s w e h = subst (λ ss. RowsWritten ss w)
-    (sym (ap (λ z. untagged (sorted_slots (rows z))) e ∙ ap (λ (r : Sorted). untagged (sorted_slots r)) h))
-
--- the size of these rows
-size_given : {X : Type 0} → (rows : X → Sorted) (x y : X) (s : Sorted) → x ≡ y → rows y ≡ s
-    → rows_size (rows x).1 ≡ rows_size s.1
-size_given rows x y s e h = ap (λ z. rows_size (rows z).1) e ∙ ap (λ (r : Sorted). rows_size r.1) h
-
 pub kind_rows-write_refs-requires : goal.kind_rows-write_refs-requires
 kind_rows-write_refs-requires t c =
-    let size = size_given schema_kind_rows _ _ _ c.in-OneOf.is (one_of_rows-kind c.in-OneOf.one_of) in
-    (omega (arith, size, c.decreases), tt)
+    (omega (arith, size_given schema_kind_rows c.in-OneOf.is (one_of_rows-kind c.in-OneOf.one_of), c.decreases), tt)
 
 pub kind_rows-returns-in-OneOf : goal.kind_rows-returns-in-OneOf
 unfolding sort_rows
 kind_rows-returns-in-OneOf t c =
-    rows_given schema_kind_rows _ _ _ c.only_row.result c.in-OneOf.is (one_of_rows-kind c.in-OneOf.one_of)
+    rows_given schema_kind_rows c.only_row.result c.in-OneOf.is (one_of_rows-kind c.in-OneOf.one_of)
     (c.only_row.ensures (list_of (ref_to a_schema)) (list_form ref_form c.in-OneOf.one_of) c.write_refs.ensures)
 
 pub kind_rows-write_refs-requires-in-AllOf : goal.kind_rows-write_refs-requires-in-AllOf
 kind_rows-write_refs-requires-in-AllOf t c =
-    let size = size_given schema_kind_rows _ _ _ c.in-AllOf.is (all_of_rows-kind c.in-AllOf.all_of) in
-    (omega (arith, size, c.decreases), tt)
+    (omega (arith, size_given schema_kind_rows c.in-AllOf.is (all_of_rows-kind c.in-AllOf.all_of), c.decreases), tt)
 
 pub kind_rows-returns-in-AllOf : goal.kind_rows-returns-in-AllOf
 unfolding sort_rows
 kind_rows-returns-in-AllOf t c =
-    rows_given schema_kind_rows _ _ _ c.only_row-in-AllOf.result c.in-AllOf.is (all_of_rows-kind c.in-AllOf.all_of)
+    rows_given schema_kind_rows c.only_row-in-AllOf.result c.in-AllOf.is (all_of_rows-kind c.in-AllOf.all_of)
     (c.only_row-in-AllOf.ensures (list_of (ref_to a_schema)) (list_form ref_form c.in-AllOf.all_of) c.write_refs-in-AllOf.ensures)
 
 pub kind_rows-write_refs-requires-in-AnyOf : goal.kind_rows-write_refs-requires-in-AnyOf
 kind_rows-write_refs-requires-in-AnyOf t c =
-    let size = size_given schema_kind_rows _ _ _ c.in-AnyOf.is (any_of_rows-kind c.in-AnyOf.any_of) in
-    (omega (arith, size, c.decreases), tt)
+    (omega (arith, size_given schema_kind_rows c.in-AnyOf.is (any_of_rows-kind c.in-AnyOf.any_of), c.decreases), tt)
 
 pub kind_rows-returns-in-AnyOf : goal.kind_rows-returns-in-AnyOf
 unfolding sort_rows
 kind_rows-returns-in-AnyOf t c =
-    rows_given schema_kind_rows _ _ _ c.only_row-in-AnyOf.result c.in-AnyOf.is (any_of_rows-kind c.in-AnyOf.any_of)
+    rows_given schema_kind_rows c.only_row-in-AnyOf.result c.in-AnyOf.is (any_of_rows-kind c.in-AnyOf.any_of)
     (c.only_row-in-AnyOf.ensures (list_of (ref_to a_schema)) (list_form ref_form c.in-AnyOf.any_of) c.write_refs-in-AnyOf.ensures)
 
 pub kind_rows-returns-in-Not : goal.kind_rows-returns-in-Not
 unfolding sort_rows
 kind_rows-returns-in-Not t c =
     let unboxed : c.deref.result.now ≡ c.in-Not.not.value = search rules in
-    rows_given schema_kind_rows _ _ _ c.only_row-in-Not.result c.in-Not.is (not_rows-kind c.in-Not.not)
+    rows_given schema_kind_rows c.only_row-in-Not.result c.in-Not.is (not_rows-kind c.in-Not.not)
     (c.only_row-in-Not.ensures (ref_to a_schema) (outer_box_form c.in-Not.not)
     (subst (λ y. WrittenAs (ref_to a_schema) (ref_form y) c.schema_ref_to_node.result) unboxed
     c.schema_ref_to_node.ensures))
 
 pub kind_rows-any_rows-requires : goal.kind_rows-any_rows-requires
 kind_rows-any_rows-requires t c =
-    let size = size_given schema_kind_rows _ _ _ c.in-Any.is (any_rows-kind c.in-Any.any) in
+    let size = size_given schema_kind_rows c.in-Any.is (any_rows-kind c.in-Any.any) in
     (omega (arith, size, ap rows_size (any_rows-out c.in-Any.any), c.decreases), tt)
 
 pub kind_rows-returns-in-Any : goal.kind_rows-returns-in-Any
 unfolding sort_rows any_rows final_tables tables_with
 kind_rows-returns-in-Any t c =
-    rows_given schema_kind_rows _ _ _ c.any_rows.result c.in-Any.is
+    rows_given schema_kind_rows c.any_rows.result c.in-Any.is
     (any_rows-kind c.in-Any.any ∙ ap (λ fs. (any_sort, fs)) (any_rows-out c.in-Any.any)) c.any_rows.ensures
 
 pub type_rows-returns-in-String : goal.type_rows-returns-in-String
 unfolding sort_rows string_rows final_tables tables_with
 type_rows-returns-in-String t c =
-    rows_given schema_type_rows _ _ _ c.record_rows.result c.in-String.is (string_rows-type c.in-String.typ)
+    rows_given schema_type_rows c.record_rows.result c.in-String.is (string_rows-type c.in-String.typ)
     c.record_rows.ensures
 
 pub type_rows-returns-in-Number : goal.type_rows-returns-in-Number
 unfolding sort_rows final_tables tables_with
 type_rows-returns-in-Number t c =
-    rows_given schema_type_rows _ _ _ c.record_rows-in-Number.result c.in-Number.is (number_rows-type c.in-Number.typ)
+    rows_given schema_type_rows c.record_rows-in-Number.result c.in-Number.is (number_rows-type c.in-Number.typ)
     c.record_rows-in-Number.ensures
 
 pub type_rows-returns-in-Integer : goal.type_rows-returns-in-Integer
 unfolding sort_rows final_tables tables_with
 type_rows-returns-in-Integer t c =
-    rows_given schema_type_rows _ _ _ c.record_rows-in-Integer.result c.in-Integer.is (integer_rows-type c.in-Integer.typ)
+    rows_given schema_type_rows c.record_rows-in-Integer.result c.in-Integer.is (integer_rows-type c.in-Integer.typ)
     c.record_rows-in-Integer.ensures
 
 pub type_rows-returns-in-Boolean : goal.type_rows-returns-in-Boolean
 unfolding sort_rows boolean_rows final_tables tables_with
 type_rows-returns-in-Boolean t c =
-    rows_given schema_type_rows _ _ _ c.record_rows-in-Boolean.result c.in-Boolean.is (boolean_rows-type c.in-Boolean.typ)
+    rows_given schema_type_rows c.record_rows-in-Boolean.result c.in-Boolean.is (boolean_rows-type c.in-Boolean.typ)
     c.record_rows-in-Boolean.ensures
 
 pub type_rows-object_rows-requires : goal.type_rows-object_rows-requires
 type_rows-object_rows-requires t c =
-    let size = size_given schema_type_rows _ _ _ c.in-Object.is (object_rows-type c.in-Object.typ) in
+    let size = size_given schema_type_rows c.in-Object.is (object_rows-type c.in-Object.typ) in
     (omega (arith, size, ap (λ fs. rows_size (absent ∷ fs)) (object_rows-out c.in-Object.typ), c.decreases), tt)
 
 pub type_rows-returns-in-Object : goal.type_rows-returns-in-Object
 unfolding sort_rows object_rows final_tables tables_with
 type_rows-returns-in-Object t c =
-    rows_given schema_type_rows _ _ _ c.object_rows.result c.in-Object.is
+    rows_given schema_type_rows c.object_rows.result c.in-Object.is
     (object_rows-type c.in-Object.typ ∙ ap (λ fs. (object_sort, absent ∷ fs)) (object_rows-out c.in-Object.typ)) c.object_rows.ensures
 
 pub type_rows-returns-in-Array : goal.type_rows-returns-in-Array
 unfolding sort_rows array_rows final_tables tables_with
 type_rows-returns-in-Array t c =
-    rows_given schema_type_rows _ _ _ c.array_rows.result c.in-Array.is
+    rows_given schema_type_rows c.array_rows.result c.in-Array.is
     (array_rows-type c.in-Array.typ ∙ ap (λ fs. (array_sort, absent ∷ fs)) (array_rows-out c.in-Array.typ)) c.array_rows.ensures
 
 pub write_additional-returns-in-Some : goal.write_additional-returns-in-Some

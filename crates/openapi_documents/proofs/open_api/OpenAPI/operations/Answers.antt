@@ -1,6 +1,7 @@
 use Rattle.std.proofs.Common.{ap, ◌∙◌}
+use Rattle.openapi_map.proofs.IterLemmas.{shows_in_order}
 use Rattle.openapi_documents.specs.AllOperations.{lent_operation, operations_under, placed_forms}
-use Rattle.openapi_documents.proofs.AllOperations.{document_forms, shows_in_order}
+use Rattle.openapi_documents.proofs.AllOperations.{document_forms}
 use Rattle.openapi_documents.proofs.open_api.OpenAPI.operations.Goals as goal
 
 pub returns-clause-rest : goal.returns-clause-rest

@@ -3,7 +3,7 @@ use Rattle.openapi_node.specs.Tree.{members_of}
 use Rattle.openapi_node.specs.View.{shown}
 use Rattle.openapi_node.specs.declared.fault.Expected.TheVariants as words
 use Rattle.openapi_tables.specs.Kind.{by}
-use Rattle.openapi_fields.proofs.Below.{wrong_here, not_object, size-positive}
+use Rattle.openapi_fields.proofs.Below.{wrong_view, not_object}
 use Rattle.openapi_fields.proofs.Records.{record_gives, record_weight}
 use Rattle.openapi_fields.proofs.object.AnyFromNode.from_view.Goals as goal
 
@@ -23,10 +23,7 @@ returns-in-Object-clause-count g c =
       ),
     ))
 
-pub returns-in_default-clause-reads : goal.returns-in_default-clause-reads
-returns-in_default-clause-reads g c =
-    wrong_here c.new.result words.Object (by g.T.Object.table) (shown c.args.view.now) c.new.ensures.place
+pub returns-in_default : goal.returns-in_default
+returns-in_default g c =
+    wrong_view c.new.result words.Object (by g.T.Object.table) (shown c.args.view.now) _ c.new.ensures.place
     c.new.ensures.cause (not_object g.T.Object.table c.args.view.now c.in_default.not-Object)
-
-pub returns-in_default-clause-count : goal.returns-in_default-clause-count
-returns-in_default-clause-count g c = (omega arith, omega (arith, size-positive (shown c.args.view.now)))

@@ -1,14 +1,10 @@
-use Rattle.std.proofs.Common.{arith}
 use Rattle.openapi_node.specs.View.{shown}
 use Rattle.openapi_node.specs.declared.fault.Expected.TheVariants as words
 use Rattle.openapi_tables.specs.Kind.{any_flag}
-use Rattle.openapi_fields.proofs.Below.{wrong_here, not_flag, size-positive}
+use Rattle.openapi_fields.proofs.Below.{wrong_view, not_flag}
 use Rattle.openapi_fields.proofs.scalars.BoolFromNode.from_view.Goals as goal
 
-pub returns-in_default-clause-reads : goal.returns-in_default-clause-reads
-returns-in_default-clause-reads c =
-    wrong_here c.new.result words.Flag any_flag (shown c.args.view.now) c.new.ensures.place c.new.ensures.cause
-    (not_flag c.args.view.now c.in_default.not-Flag)
-
-pub returns-in_default-clause-count : goal.returns-in_default-clause-count
-returns-in_default-clause-count c = (omega arith, omega (arith, size-positive (shown c.args.view.now)))
+pub returns-in_default : goal.returns-in_default
+returns-in_default c =
+    wrong_view c.new.result words.Flag any_flag (shown c.args.view.now) _ c.new.ensures.place
+    c.new.ensures.cause (not_flag c.args.view.now c.in_default.not-Flag)

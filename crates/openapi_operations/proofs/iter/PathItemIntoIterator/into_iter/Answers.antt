@@ -1,6 +1,7 @@
 use Rattle.std.proofs.Common.{refl}
+use Rattle.openapi_map.proofs.IterLemmas.{shows_in_order, shows_values_in_order}
 use Rattle.openapi_operations.specs.Present.{owned_method}
-use Rattle.openapi_operations.proofs.PresentForms.{present_forms, shows_in_order, shows_values_in_order}
+use Rattle.openapi_operations.proofs.PresentForms.{present_forms}
 use Rattle.openapi_operations.proofs.iter.PathItemIntoIterator.into_iter.Goals as goal
 
 pub returns : goal.returns

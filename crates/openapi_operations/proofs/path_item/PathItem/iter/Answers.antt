@@ -1,9 +1,10 @@
 use Rattle.std.proofs.Common.{◌∷◌, [], ◌∙◌, ap}
 use Rattle.std.specs.Map.Iter.{deref_pair}
+use Rattle.openapi_map.proofs.IterLemmas.{shows_in_order, shows_values_in_order}
 use Rattle.openapi_tables.specs.Operations.{methods}
 use Rattle.openapi_operations.specs.OperationForms.{operation_form}
 use Rattle.openapi_operations.specs.Present.{forms_under, those_held}
-use Rattle.openapi_operations.proofs.PresentForms.{lent_held, present_forms, shows_in_order, shows_values_in_order}
+use Rattle.openapi_operations.proofs.PresentForms.{lent_held, present_forms}
 use Rattle.openapi_operations.proofs.path_item.PathItem.iter.Goals as goal
 
 pub returns-clause-rest : goal.returns-clause-rest

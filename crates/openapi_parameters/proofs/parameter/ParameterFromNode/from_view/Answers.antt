@@ -3,20 +3,17 @@ use Rattle.openapi_node.specs.Tree.{text, members_of}
 use Rattle.openapi_node.specs.View.{shown}
 use Rattle.openapi_node.specs.declared.fault.Expected.TheVariants as words
 use Rattle.openapi_tables.specs.Prelude.{one_of, parameter}
-use Rattle.openapi_fields.proofs.Below.{wrong_here, size-positive}
+use Rattle.openapi_fields.proofs.Below.{wrong_view}
 use Rattle.openapi_fields.proofs.Tagging.{not_tagged, parameter_sound, tag_weight, tagged_read}
 use Rattle.openapi_parameters.specs.Parameters.{parameter_cases, parameter_location_word, parameter_locations}
 use Rattle.openapi_parameters.specs.Parameters.{parameter_rows, parameter_word}
 use Rattle.openapi_parameters.specs.declared.location.ParameterLocation.TheVariants as locations
 use Rattle.openapi_parameters.proofs.parameter.ParameterFromNode.from_view.Goals as goal
 
-pub returns-in_default-clause-reads : goal.returns-in_default-clause-reads
-returns-in_default-clause-reads c =
-    wrong_here c.new.result words.Object parameter (shown c.args.view.now) c.new.ensures.place c.new.ensures.cause
-    (not_tagged (codes "in") parameter_cases c.args.view.now c.in_default.not-Object)
-
-pub returns-in_default-clause-count : goal.returns-in_default-clause-count
-returns-in_default-clause-count c = (omega arith, omega (arith, size-positive (shown c.args.view.now)))
+pub returns-in_default : goal.returns-in_default
+returns-in_default c =
+    wrong_view c.new.result words.Object parameter (shown c.args.view.now) _ c.new.ensures.place
+    c.new.ensures.cause (not_tagged (codes "in") parameter_cases c.args.view.now c.in_default.not-Object)
 
 pub returns-in-Err-clause-count : goal.returns-in-Err-clause-count
 returns-in-Err-clause-count c =

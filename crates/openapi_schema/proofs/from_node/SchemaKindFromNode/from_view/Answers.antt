@@ -3,7 +3,7 @@ use Rattle.openapi_node.specs.View.{shown}
 use Rattle.openapi_node.specs.declared.fault.Expected.TheVariants as words
 use Rattle.openapi_node.specs.Tree.{members_of}
 use Rattle.openapi_tables.specs.Kind.{a_schema_kind}
-use Rattle.openapi_fields.proofs.Below.{wrong_here, size-positive}
+use Rattle.openapi_fields.proofs.Below.{wrong_view}
 use Rattle.openapi_schema.proofs.KindGives.{schema_weight-le}
 use Rattle.openapi_schema.proofs.Refusals.{not_schema_kind}
 use Rattle.openapi_schema.proofs.SchemaReads.{kind_given}
@@ -17,10 +17,7 @@ pub returns-in-Object-clause-count : goal.returns-in-Object-clause-count
 returns-in-Object-clause-count c =
     rw c.in-Object.is ((omega (arith, c.read_kind.ensures.count.0), omega (arith, c.read_kind.ensures.count.1, schema_weight-le (members_of c.in-Object.members.now))))
 
-pub returns-in_default-clause-reads : goal.returns-in_default-clause-reads
-returns-in_default-clause-reads c =
-    wrong_here c.new.result words.Object a_schema_kind (shown c.args.view.now) c.new.ensures.place c.new.ensures.cause
-    (not_schema_kind c.args.view.now c.in_default.not-Object)
-
-pub returns-in_default-clause-count : goal.returns-in_default-clause-count
-returns-in_default-clause-count c = (omega arith, omega (arith, size-positive (shown c.args.view.now)))
+pub returns-in_default : goal.returns-in_default
+returns-in_default c =
+    wrong_view c.new.result words.Object a_schema_kind (shown c.args.view.now) _ c.new.ensures.place
+    c.new.ensures.cause (not_schema_kind c.args.view.now c.in_default.not-Object)

@@ -5,7 +5,7 @@ use Rattle.openapi_node.specs.declared.fault.Expected.TheVariants as words
 use Rattle.openapi_tables.specs.Kind as kinds
 use Rattle.openapi_tables.specs.Members.{is_case}
 use Rattle.openapi_tables.specs.Tables.{schema_type}
-use Rattle.openapi_fields.proofs.Below.{wrong_here, size-positive}
+use Rattle.openapi_fields.proofs.Below.{wrong_view}
 use Rattle.openapi_fields.proofs.Tagging.{tagged_read, tag_weight, not_tagged}
 use Rattle.openapi_schema_types.specs.TypeNames.{type_words, type_name_word}
 use Rattle.openapi_schema_types.specs.declared.type_name.TypeName.{TypeName}
@@ -18,13 +18,10 @@ known : (n : TypeName) → is_case type_cases (type_name_word n) ≡ true
 known names.String = refl
 known n = refl
 
-pub returns-in_default-clause-reads : goal.returns-in_default-clause-reads
-returns-in_default-clause-reads c =
-    wrong_here c.new.result words.Object schema_type (shown c.args.view.now) c.new.ensures.place c.new.ensures.cause
-    (not_tagged (codes "type") type_cases c.args.view.now c.in_default.not-Object)
-
-pub returns-in_default-clause-count : goal.returns-in_default-clause-count
-returns-in_default-clause-count c = (omega arith, omega (arith, size-positive (shown c.args.view.now)))
+pub returns-in_default : goal.returns-in_default
+returns-in_default c =
+    wrong_view c.new.result words.Object schema_type (shown c.args.view.now) _ c.new.ensures.place
+    c.new.ensures.cause (not_tagged (codes "type") type_cases c.args.view.now c.in_default.not-Object)
 
 pub returns-in-Err-clause-count : goal.returns-in-Err-clause-count
 returns-in-Err-clause-count c =

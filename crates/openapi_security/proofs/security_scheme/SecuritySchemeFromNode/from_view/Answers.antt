@@ -4,19 +4,16 @@ use Rattle.openapi_node.specs.View.{shown}
 use Rattle.openapi_node.specs.declared.fault.Expected.TheVariants as words
 use Rattle.openapi_tables.specs.Kind as kinds
 use Rattle.openapi_tables.specs.Tables.{security_scheme}
-use Rattle.openapi_fields.proofs.Below.{wrong_here, size-positive}
+use Rattle.openapi_fields.proofs.Below.{wrong_view}
 use Rattle.openapi_fields.proofs.Tagging.{tagged_read, tag_weight, not_tagged, security_scheme_sound}
 use Rattle.openapi_security.specs.Schemes.{scheme_cases, scheme_types, scheme_type_word, security_scheme_word}
 use Rattle.openapi_security.specs.Schemes.{security_scheme_rows}
 use Rattle.openapi_security.proofs.security_scheme.SecuritySchemeFromNode.from_view.Goals as goal
 
-pub returns-in_default-clause-reads : goal.returns-in_default-clause-reads
-returns-in_default-clause-reads c =
-    wrong_here c.new.result words.Object security_scheme (shown c.args.view.now) c.new.ensures.place
+pub returns-in_default : goal.returns-in_default
+returns-in_default c =
+    wrong_view c.new.result words.Object security_scheme (shown c.args.view.now) _ c.new.ensures.place
     c.new.ensures.cause (not_tagged (codes "type") scheme_cases c.args.view.now c.in_default.not-Object)
-
-pub returns-in_default-clause-count : goal.returns-in_default-clause-count
-returns-in_default-clause-count c = (omega arith, omega (arith, size-positive (shown c.args.view.now)))
 
 pub returns-in-Err-clause-count : goal.returns-in-Err-clause-count
 returns-in-Err-clause-count c =

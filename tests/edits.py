@@ -317,9 +317,13 @@ def compare():
 
 
 def owner_in(head):
-    """Returns what the prover calls an impl by its head: the type, and the trait where there is one; or nothing."""
-    found = re.match(r"impl(?:<[^>]*>)? (?:(?:\w+::)*(\w+)(?:<.*>)? for )?(?:\w+::)*(\w+)", head)
-    return f"{found[2]}{found[1] or ''}" if found else ""
+    """Returns what the prover calls an impl by its head: the type, and the trait where there is one; or nothing. It calls a
+    type parameter `Any`."""
+    found = re.match(r"impl(?:<([^>]*)>)? (?:(?:\w+::)*(\w+)(?:<.*>)? for )?(?:\w+::)*(\w+)", head)
+    if not found:
+        return ""
+    of_any = re.search(rf"\b{found[3]}:", found[1] or "")
+    return ("Any" if of_any else found[3]) + (found[2] or "")
 
 
 class Function:

@@ -1,4 +1,3 @@
 pub mod Documents
-pub mod Parts
 pub mod AllOperations
 pub mod Headline

@@ -1,16 +1,10 @@
 #![tactic(auto, unfolding(openapi_tables::specs::Tables::final_tables, openapi_tables::specs::Tables::tables_with))]
 //! The Components Object.
-ghost use Rattle.std.specs.Prelude.{◌≡◌, ◌+◌, ◌≤◌, ◌*◌, []};
-ghost use Rattle.openapi_node.specs.Tree.{members_of};
-ghost use Rattle.openapi_tables.specs.ByRow.{rows_weight};
+ghost use Rattle.std.specs.Prelude.{◌≡◌, []};
 ghost use Rattle.openapi_tables.specs.Kind as kinds;
-ghost use Rattle.openapi_tables.specs.Kind.{by};
-ghost use Rattle.openapi_fields.specs.Returned.{RisesBy};
-ghost use Rattle.openapi_fields.specs.Reading.{PartReadAs};
 ghost use Rattle.openapi_documents.specs.Documents.{components_rows};
-ghost use Rattle.openapi_documents.specs.Parts.{first_forms, first_rows, last_forms, last_rows};
 
-use openapi_fields::{Object, Record, extensions, or_implied, put_extensions, put_implied};
+use openapi_fields::{Object, Record, extensions, join, or_implied, put_extensions, put_implied};
 use openapi_media_types::Header;
 use openapi_metadata::{Example, Link};
 use openapi_node::{Members, Node, OrderedMap, Result, Steps};
@@ -77,54 +71,6 @@ impl Components {
     }
 }
 
-/// The components whose rows stand first.
-#[derive(Drop)]
-struct FirstComponents {
-    schemas: OrderedMap<ReferenceOr<Schema>>,
-    responses: OrderedMap<ReferenceOr<Response>>,
-    parameters: OrderedMap<ReferenceOr<Parameter>>,
-    examples: OrderedMap<ReferenceOr<Example>>,
-    request_bodies: OrderedMap<ReferenceOr<RequestBody>>,
-}
-
-/// The components whose rows stand last, and the extensions.
-#[derive(Drop)]
-struct LastComponents {
-    headers: OrderedMap<ReferenceOr<Header>>,
-    security_schemes: OrderedMap<ReferenceOr<SecurityScheme>>,
-    links: OrderedMap<ReferenceOr<Link>>,
-    callbacks: OrderedMap<ReferenceOr<Callback>>,
-    extensions: OrderedMap<Node>,
-}
-
-/// Reads the components whose rows stand first.
-fn read_first(alloc: Global, members: &Members, steps: &mut Steps) -> Result<FirstComponents>
-    ensures reads { PartReadAs first_forms result (by kinds.components) first_rows (members_of members.now) }
-    ensures count { RisesBy steps.old steps.new (3 * rows_weight first_rows (members_of members.now)) }
-{
-    Ok(FirstComponents {
-        schemas: or_implied::<Components, _>(alloc, members, "schemas", steps)?,
-        responses: or_implied::<Components, _>(alloc, members, "responses", steps)?,
-        parameters: or_implied::<Components, _>(alloc, members, "parameters", steps)?,
-        examples: or_implied::<Components, _>(alloc, members, "examples", steps)?,
-        request_bodies: or_implied::<Components, _>(alloc, members, "requestBodies", steps)?,
-    })
-}
-
-/// Reads the components whose rows stand last, and the extensions.
-fn read_last(alloc: Global, members: &Members, steps: &mut Steps) -> Result<LastComponents>
-    ensures reads { PartReadAs last_forms result (by kinds.components) last_rows (members_of members.now) }
-    ensures count { RisesBy steps.old steps.new (3 * rows_weight last_rows (members_of members.now)) }
-{
-    Ok(LastComponents {
-        headers: or_implied::<Components, _>(alloc, members, "headers", steps)?,
-        security_schemes: or_implied::<Components, _>(alloc, members, "securitySchemes", steps)?,
-        links: or_implied::<Components, _>(alloc, members, "links", steps)?,
-        callbacks: or_implied::<Components, _>(alloc, members, "callbacks", steps)?,
-        extensions: extensions::<Components>(alloc, members, steps)?,
-    })
-}
-
 impl Object for Components {
     ghost table = { kinds.components };
 
@@ -133,19 +79,34 @@ impl Object for Components {
 
 impl Record for Components {
     fn from_members(alloc: Global, members: &Members, steps: &mut Steps) -> Result<Self> {
-        let first = read_first(alloc, members, steps)?;
-        let last = read_last(alloc, members, steps)?;
+        let schemas = or_implied::<Self, _>(alloc, members, "schemas", steps);
+        let responses = or_implied::<Self, _>(alloc, members, "responses", steps);
+        let parameters = or_implied::<Self, _>(alloc, members, "parameters", steps);
+        let examples = or_implied::<Self, _>(alloc, members, "examples", steps);
+        let ((schemas, responses), (parameters, examples)) = join(
+            join(schemas, responses),
+            join(parameters, examples),
+        )?;
+        let bodies = or_implied::<Self, _>(alloc, members, "requestBodies", steps);
+        let headers = or_implied::<Self, _>(alloc, members, "headers", steps);
+        let schemes = or_implied::<Self, _>(alloc, members, "securitySchemes", steps);
+        let links = or_implied::<Self, _>(alloc, members, "links", steps);
+        let callbacks = or_implied::<Self, _>(alloc, members, "callbacks", steps);
+        let extensions = extensions::<Self>(alloc, members, steps);
+        let named = join(join(bodies, headers), join(schemes, links));
+        let (((request_bodies, headers), (security_schemes, links)), (callbacks, extensions)) =
+            join(named, join(callbacks, extensions))?;
         Ok(Components {
-            schemas: first.schemas,
-            responses: first.responses,
-            parameters: first.parameters,
-            examples: first.examples,
-            request_bodies: first.request_bodies,
-            headers: last.headers,
-            security_schemes: last.security_schemes,
-            links: last.links,
-            callbacks: last.callbacks,
-            extensions: last.extensions,
+            schemas,
+            responses,
+            parameters,
+            examples,
+            request_bodies,
+            headers,
+            security_schemes,
+            links,
+            callbacks,
+            extensions,
         })
     }
 

@@ -1,17 +1,11 @@
 //! The OpenAPI Object.
-ghost use Rattle.std.specs.Prelude.{◌≡◌, ◌+◌, ◌≤◌, ◌*◌, [], None, string_bytes};
-ghost use Rattle.openapi_node.specs.Tree.{members_of};
-ghost use Rattle.openapi_tables.specs.ByRow.{rows_weight};
+ghost use Rattle.std.specs.Prelude.{◌≡◌, [], None, string_bytes};
 ghost use Rattle.openapi_tables.specs.Kind as kinds;
-ghost use Rattle.openapi_tables.specs.Kind.{by};
-ghost use Rattle.openapi_fields.specs.Returned.{RisesBy};
-ghost use Rattle.openapi_fields.specs.Reading.{PartReadAs};
 ghost use Rattle.openapi_documents.specs.Documents.{open_api_rows};
-ghost use Rattle.openapi_documents.specs.Parts.{facts_forms, facts_rows};
 
 use crate::components::Components;
 use openapi_fields::{
-    IntoNode, Object, Record, extensions, optional, or_implied, put_extensions, put_implied,
+    IntoNode, Object, Record, extensions, join, optional, or_implied, put_extensions, put_implied,
     put_optional, put_required, required,
 };
 use openapi_metadata::{Info, Server, Tag};
@@ -79,31 +73,6 @@ impl OpenAPI {
     }
 }
 
-/// What a document says of itself and of its servers and tags.
-#[derive(Drop)]
-struct Facts {
-    openapi: String,
-    info: Info,
-    servers: Vec<Server>,
-    tags: Vec<Tag>,
-    external_docs: Option<ExternalDocumentation>,
-}
-
-/// Reads what a document says of itself and of its servers and tags.
-#[tactic(auto, unfolding(openapi_tables::specs::Tables::final_tables, openapi_tables::specs::Tables::tables_with))]
-fn read_facts(alloc: Global, members: &Members, steps: &mut Steps) -> Result<Facts>
-    ensures reads { PartReadAs facts_forms result (by kinds.open_api) facts_rows (members_of members.now) }
-    ensures count { RisesBy steps.old steps.new (3 * rows_weight facts_rows (members_of members.now)) }
-{
-    Ok(Facts {
-        openapi: required::<OpenAPI, _>(alloc, members, "openapi", steps)?,
-        info: required::<OpenAPI, _>(alloc, members, "info", steps)?,
-        servers: or_implied::<OpenAPI, _>(alloc, members, "servers", steps)?,
-        tags: or_implied::<OpenAPI, _>(alloc, members, "tags", steps)?,
-        external_docs: optional::<OpenAPI, _>(alloc, members, "externalDocs", steps)?,
-    })
-}
-
 impl Object for OpenAPI {
     ghost table = { kinds.open_api };
 
@@ -113,20 +82,32 @@ impl Object for OpenAPI {
 #[tactic(auto, unfolding(openapi_tables::specs::Tables::final_tables, openapi_tables::specs::Tables::tables_with))]
 impl Record for OpenAPI {
     fn from_members(alloc: Global, members: &Members, steps: &mut Steps) -> Result<Self> {
-        let facts = read_facts(alloc, members, steps)?;
-        let security = optional::<Self, _>(alloc, members, "security", steps)?;
-        let extensions = extensions::<Self>(alloc, members, steps)?;
-        let paths = required::<Self, _>(alloc, members, "paths", steps)?;
-        let components = optional::<Self, _>(alloc, members, "components", steps)?;
+        let openapi = required::<Self, _>(alloc, members, "openapi", steps)?;
+        let info = required::<Self, _>(alloc, members, "info", steps);
+        let servers = or_implied::<Self, _>(alloc, members, "servers", steps);
+        let tags = or_implied::<Self, _>(alloc, members, "tags", steps);
+        let docs = optional::<Self, _>(alloc, members, "externalDocs", steps);
+        let told = join(join(info, servers), join(tags, docs));
+        let security = optional::<Self, _>(alloc, members, "security", steps);
+        let extensions = extensions::<Self>(alloc, members, steps);
+        let paths = required::<Self, _>(alloc, members, "paths", steps);
+        let components = optional::<Self, _>(alloc, members, "components", steps);
+        let (
+            ((info, servers), (tags, external_docs)),
+            ((security, extensions), (paths, components)),
+        ) = join(
+            told,
+            join(join(security, extensions), join(paths, components)),
+        )?;
         Ok(OpenAPI {
-            openapi: facts.openapi,
-            info: facts.info,
-            servers: facts.servers,
+            openapi,
+            info,
+            servers,
             paths,
             components,
             security,
-            tags: facts.tags,
-            external_docs: facts.external_docs,
+            tags,
+            external_docs,
             extensions,
         })
     }

@@ -124,6 +124,7 @@ fn gives_its_entries(rt: HostRuntime) -> Result<(), Fail> {
     );
     let names = map.keys().collect::<Vec<&str>>(*map.allocator())?;
     assert_eq!(rt; names.as_slice(), ["b", "a", "c"].as_slice());
+    drop(names);
     let values = map.values().copied().collect::<Vec<u8>>(alloc)?;
     assert_eq!(rt; values.as_slice(), [1, 4, 3].as_slice());
     assert!(rt; map == copied(alloc, &map)? && map == map.clone()?);

@@ -1,8 +1,15 @@
 use Rattle.openapi_tables.specs.Tables.{final_tables, tables_with}
+use Rattle.openapi_fields.proofs.Joining.{joined_ok}
 use Rattle.openapi_documents.proofs.open_api.OpenAPIRecord.from_members.Goals as goal
 
 pub returns-clause-reads : goal.returns-clause-reads
 unfolding final_tables tables_with
 returns-clause-reads c =
-    let facts = c.in_ok-facts.ensures.reads in
-    (facts.0, (facts.1.0, (facts.1.1.0, (c.in_ok-paths.ensures.reads, (c.in_ok-components.ensures.reads, (c.in_ok-security.ensures.reads, (facts.1.1.1.0, (facts.1.1.1.1.0, (c.in_ok-extensions.ensures.reads, tt)))))))))
+    let all = joined_ok c.join-6.ensures c.in_ok-info.was in
+    let told = joined_ok c.join-told.ensures all.0 in
+    let named = joined_ok c.join.ensures told.0 in
+    let listed = joined_ok c.join-2.ensures told.1 in
+    let called = joined_ok c.join-5.ensures all.1 in
+    let beside = joined_ok c.join-3.ensures called.0 in
+    let held = joined_ok c.join-4.ensures called.1 in
+    (c.in_ok-openapi.ensures.reads, (rw named.0 at c.required-info.ensures.reads, (rw named.1 at c.or_implied-servers.ensures.reads, (rw held.0 at c.required-paths.ensures.reads, (rw held.1 at c.optional-components.ensures.reads, (rw beside.0 at c.optional-security.ensures.reads, (rw listed.0 at c.or_implied-tags.ensures.reads, (rw listed.1 at c.optional-docs.ensures.reads, (rw beside.1 at c.extensions-extensions.ensures.reads, tt)))))))))

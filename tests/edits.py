@@ -389,7 +389,7 @@ def refusals(said, functions):
 
 
 # A line that tells a place in a proof that is not one any more, or of which it is not proved what it has to be.
-PLACE = re.compile(r"(?:note: )?(?:\./)?(?:proofs/\S+?:\d+:\d+: |\S+?:\d+:\d+: it is not proved)")
+PLACE = re.compile(r"(?:note: )?(?:\./)?(?:proofs/\S+?:\d+:\d+: error|\S+?:\d+:\d+: it is not proved)")
 # What the prover says where it meets a limit of its own, which it meets wherever it checks the same.
 LIMIT = re.compile(r"antt ran out of (stack|the (steps|memory) that the check)|outgrew the memory limit|stopped at the step limit")
 

@@ -102,7 +102,7 @@ read_method-returns-in-None-clause-reads t c =
 
 pub read_method-returns-in-None-clause-count : goal.read_method-returns-in-None-clause-count
 read_method-returns-in-None-clause-count t c = (
-  omega (arith, c.in-None.ensures.counted),
+  omega (arith, c.in-None.ensures.rises),
   omega (
     arith,
     c.in-None.ensures.counted,

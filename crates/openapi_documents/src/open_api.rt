@@ -87,17 +87,17 @@ impl Record for OpenAPI {
         let servers = or_implied::<Self, _>(alloc, members, "servers", steps);
         let tags = or_implied::<Self, _>(alloc, members, "tags", steps);
         let docs = optional::<Self, _>(alloc, members, "externalDocs", steps);
-        let told = join(join(info, servers), join(tags, docs));
+        let ((info, servers), (tags, external_docs)) = join(
+            join(info, servers),
+            join(tags, docs),
+        )?;
         let security = optional::<Self, _>(alloc, members, "security", steps);
         let extensions = extensions::<Self>(alloc, members, steps);
         let paths = required::<Self, _>(alloc, members, "paths", steps);
         let components = optional::<Self, _>(alloc, members, "components", steps);
-        let (
-            ((info, servers), (tags, external_docs)),
-            ((security, extensions), (paths, components)),
-        ) = join(
-            told,
-            join(join(security, extensions), join(paths, components)),
+        let ((security, extensions), (paths, components)) = join(
+            join(security, extensions),
+            join(paths, components),
         )?;
         Ok(OpenAPI {
             openapi,

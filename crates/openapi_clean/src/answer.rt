@@ -22,6 +22,7 @@ use openapi_metadata::Tag;
 use openapi_node::{Cause, Fault, Node, Steps};
 use openapi_schema::Schema;
 use std::alloc::Global;
+use std::mem;
 
 /// The text that answers the bytes.
 pub fn answer(
@@ -81,7 +82,9 @@ fn lines_of_object<T: Lines + Drop>(
     ensures err { IfErr result (Explains T.FromNode.kind bytes.now) }
 {
     let object = read_object::<T>(alloc, bytes, steps)?;
-    object.lines(alloc)
+    let lines = object.lines(alloc);
+    mem::forget(object);
+    lines
 }
 
 /// The cleaned tree.
@@ -195,6 +198,8 @@ fn line_of_tree(alloc: Global, node: Node, steps: &mut Steps) -> Result<String, 
     ensures err { IfErr result (λ e. e ≡ RunFault.Memory) }
 {
     let mut line = json_from_node(alloc, &node, steps)?;
+    // The program ends with this line, so nothing needs the room of the tree again.
+    mem::forget(node);
     line.push('\n')?;
     Ok(line)
 }

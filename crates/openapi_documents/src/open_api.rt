@@ -87,10 +87,7 @@ impl Record for OpenAPI {
         let servers = or_implied::<Self, _>(alloc, members, "servers", steps);
         let tags = or_implied::<Self, _>(alloc, members, "tags", steps);
         let docs = optional::<Self, _>(alloc, members, "externalDocs", steps);
-        let ((info, servers), (tags, external_docs)) = join(
-            join(info, servers),
-            join(tags, docs),
-        )?;
+        let ((info, servers), (tags, external_docs)) = join(join(info, servers), join(tags, docs))?;
         let security = optional::<Self, _>(alloc, members, "security", steps);
         let extensions = extensions::<Self>(alloc, members, steps);
         let paths = required::<Self, _>(alloc, members, "paths", steps);

@@ -1,11 +1,13 @@
 -- Members in the order of their names.
 use Rattle.std.proofs.Common.{◌≡◌, ℕ, List, [], ◌∷◌, ◌++◌, map, length, suc, zero, Some, None, Bool, true, false, cond, ◌||◌}
-use Rattle.std.proofs.Common.{String, Global, slice_get, Ordering, Less, Equal, Greater, nat_cmp, string_bytes, string_cmp, is_eq, bytes_eq, refl, sym, ap, ◌∙◌, subst, arith}
+use Rattle.std.proofs.Common.{String, Global, append-nil, drop, option_map, slice_get, slice_index_or, ◌<◌, ◌≤◌, ◌-◌, slice_set, take, Ordering, Less, Equal, Greater, nat_cmp, string_bytes, string_cmp, is_eq, bytes_eq, refl, sym, ap, ◌∙◌, subst, arith}
 use Rattle.std.proofs.lemmas.Cmp.{nat_list_cmp_total}
 use Rattle.std.proofs.lemmas.Map.Text.{is_eq-slice_cmp}
 use Rattle.std.specs.BTreeMap.{insert_entry}
-use Rattle.std.specs.Cmp.Lexicographic.{slice_cmp}
-use Rattle.std.specs.List.{AllByRecursion}
+use Rattle.std.specs.Cmp.Lexicographic.{same_text, slice_cmp}
+use Rattle.std.specs.List.{AllByRecursion, insert}
+use Rattle.std.proofs.lemmas.List.{drop-map, map-append, take-append-drop, take-map}
+use Rattle.std.proofs.lemmas.Option.{slice_get-map, slice_get_read}
 use Rattle.std.specs.List.Sorted.{IsStrictlySortedBy}
 use Rattle.std.specs.Map.{keys_of}
 use Rattle.std.specs.Ordering.{match_ordering, ordering_reverse}
@@ -18,46 +20,120 @@ use Rattle.openapi_json.specs.Gathered.{AllBelow, Ascends, Rises}
 use Rattle.openapi_json.specs.Reading.{Pair, pairs_data, tree_pair}
 use Rattle.openapi_json.proofs.Sorted.{some_same}
 
--- a name that is above all others is none of them, and goes last
-above : (n : List ℕ) (e : List ℕ × Tree) → slice_cmp nat_cmp e.0 n ≡ Less → slice_cmp nat_cmp n e.0 ≡ Greater
-above n e b = nat_list_cmp_total.antisymm n e.0 ∙ ap ordering_reverse b
+-- two names compared the other way round
+pub turned : (n m : List ℕ) {o : Ordering} → slice_cmp nat_cmp n m ≡ o → slice_cmp nat_cmp m n ≡ ordering_reverse o
+turned n m is = nat_list_cmp_total.antisymm m n ∙ ap ordering_reverse is
+
+equal_names : (n m : List ℕ) → slice_cmp nat_cmp n m ≡ Equal → n ≡ m
+equal_names n m e = same_text n m (sym (ap is_eq e) ∙ is_eq-slice_cmp n m)
+
+rises_ascends : (k : List ℕ) (es : Entries Tree) → Rises k es → Ascends es
+rises_ascends k [] r = tt
+rises_ascends k (e ∷ es) r = r.1
 
 -- a name that is above all others is none of them
 pub absent_below : (n : List ℕ) (es : Entries Tree) → AllBelow n es → get n es ≡ None
 absent_below n [] b = refl
 absent_below n (e ∷ es) b =
-    let apart : bytes_eq n e.0 ≡ false = sym (is_eq-slice_cmp n e.0) ∙ ap is_eq (above n e b.0) in
+    let apart : bytes_eq n e.0 ≡ false = sym (is_eq-slice_cmp n e.0) ∙ ap is_eq (turned e.0 n b.0) in
     ap (λ c. cond c (Some e.1) (get n es)) apart ∙ absent_below n es b.1
+
+-- an entry goes behind those whose names are below its own
+insert_behind : (n : List ℕ) (t : Tree) (before after : Entries Tree) → AllBelow n before
+    → insert_entry (slice_cmp nat_cmp) (before ++ after) n t ≡ before ++ insert_entry (slice_cmp nat_cmp) after n t
+insert_behind n t [] after b = refl
+insert_behind n t (e ∷ es) after b =
+    ap (λ o. match_ordering o ((n, t) ∷ e ∷ es ++ after) ((e.0, t) ∷ es ++ after)
+    (e ∷ insert_entry (slice_cmp nat_cmp) (es ++ after) n t)) (turned e.0 n b.0)
+    ∙ ap (λ l. e ∷ l) (insert_behind n t es after b.1)
 
 -- an entry whose name is above all others goes last when it is inserted
 pub insert_last : (n : List ℕ) (t : Tree) (es : Entries Tree) → AllBelow n es
     → insert_entry (slice_cmp nat_cmp) es n t ≡ es ++ (n, t) ∷ []
-insert_last n t [] b = refl
-insert_last n t (e ∷ es) b =
-    ap (λ o. match_ordering o ((n, t) ∷ e ∷ es) ((e.0, t) ∷ es) (e ∷ insert_entry (slice_cmp nat_cmp) es n t))
-    (above n e b.0)
-    ∙ ap (λ l. e ∷ l) (insert_last n t es b.1)
+insert_last n t es b = ap (λ l. insert_entry (slice_cmp nat_cmp) l n t) (sym (append-nil es)) ∙ insert_behind n t es [] b
 
--- and all stand in order then
-rises-push : (k n : List ℕ) (t : Tree) (es : Entries Tree) → Rises k es → AllBelow n es → slice_cmp nat_cmp k n ≡ Less
-    → Rises k (es ++ (n, t) ∷ [])
-rises-push k n t [] r b h = (h, tt)
-rises-push k n t (e ∷ es) r b h = (r.0, rises-push e.0 n t es r.1 b.1 b.0)
+-- a name is below that of the first entry, if there is one
+abbrev pub IsFirst : List ℕ → Entries Tree → Type 0
+IsFirst n [] = Unit {0}
+IsFirst n (e ∷ es) = slice_cmp nat_cmp n e.0 ≡ Less
 
--- entries in order, with one more at the end whose name is above all others, are in order
+insert_first : (n : List ℕ) (t : Tree) (es : Entries Tree) → IsFirst n es
+    → insert_entry (slice_cmp nat_cmp) es n t ≡ (n, t) ∷ es
+insert_first n t [] f = refl
+insert_first n t (e ∷ es) f =
+    ap (λ o. match_ordering o ((n, t) ∷ e ∷ es) ((e.0, t) ∷ es) (e ∷ insert_entry (slice_cmp nat_cmp) es n t)) f
+
+-- an entry goes to the place between the names below its own and those above it
+pub insert_between : (n : List ℕ) (t : Tree) (es : Entries Tree) (i : ℕ) → AllBelow n (take i es) → IsFirst n (drop i es)
+    → insert_entry (slice_cmp nat_cmp) es n t ≡ insert es i (n, t)
+insert_between n t es i b f =
+    ap (λ l. insert_entry (slice_cmp nat_cmp) l n t) (sym (take-append-drop i es))
+    ∙ insert_behind n t (take i es) (drop i es) b ∙ ap (λ l. take i es ++ l) (insert_first n t (drop i es) f)
+
+rises_at : (k : List ℕ) (es : Entries Tree) (i : ℕ) (e : List ℕ × Tree) → Rises k es → slice_get es i ≡ Some e
+    → slice_cmp nat_cmp k e.0 ≡ Less
+rises_at k [] i e r at = cc
+rises_at k (x ∷ es) zero e r at = subst (λ (y : List ℕ × Tree). slice_cmp nat_cmp k y.0 ≡ Less) (some_same at) r.0
+rises_at k (x ∷ es) (suc i) e r at = nat_list_cmp_total.trans k x.0 e.0 r.0 (rises_at x.0 es i e r.1 at)
+
+-- an entry takes the place of the one of its name
+pub insert_same : (n : List ℕ) (t : Tree) (es : Entries Tree) (i : ℕ) (e : List ℕ × Tree) → Ascends es
+    → slice_get es i ≡ Some e → slice_cmp nat_cmp n e.0 ≡ Equal
+    → insert_entry (slice_cmp nat_cmp) es n t ≡ slice_set es i (n, t)
+insert_same n t [] i e r at same = cc
+insert_same n t (x ∷ es) zero e r at same =
+    let here = subst (λ (y : List ℕ × Tree). slice_cmp nat_cmp n y.0 ≡ Equal) (some_same (sym at)) same in
+    ap (λ o. match_ordering o ((n, t) ∷ x ∷ es) ((x.0, t) ∷ es) (x ∷ insert_entry (slice_cmp nat_cmp) es n t)) here
+    ∙ ap (λ m. (m, t) ∷ es) (sym (equal_names n x.0 here))
+insert_same n t (x ∷ es) (suc i) e r at same =
+    let below = subst (λ m. slice_cmp nat_cmp x.0 m ≡ Less) (sym (equal_names n e.0 same)) (rises_at x.0 es i e r at) in
+    ap (λ o. match_ordering o ((n, t) ∷ x ∷ es) ((x.0, t) ∷ es) (x ∷ insert_entry (slice_cmp nat_cmp) es n t))
+    (turned x.0 n below)
+    ∙ ap (λ l. x ∷ l) (insert_same n t es i e (rises_ascends x.0 es r) at same)
+
+-- entries in order still are once one more is inserted
+rises-case : (k n : List ℕ) (t : Tree) (e : List ℕ × Tree) (es more : Entries Tree) (o : Ordering)
+    → slice_cmp nat_cmp n e.0 ≡ o → slice_cmp nat_cmp k n ≡ Less → Rises k (e ∷ es)
+    → (slice_cmp nat_cmp e.0 n ≡ Less → Rises e.0 more)
+    → Rises k (match_ordering o ((n, t) ∷ e ∷ es) ((e.0, t) ∷ es) (e ∷ more))
+rises-case k n t e es more Less is h r f = (h, (is, r.1))
+rises-case k n t e es more Equal is h r f = r
+rises-case k n t e es more Greater is h r f = (r.0, f (turned n e.0 is))
+
+rises-insert : (k n : List ℕ) (t : Tree) (es : Entries Tree) → Rises k es → slice_cmp nat_cmp k n ≡ Less
+    → Rises k (insert_entry (slice_cmp nat_cmp) es n t)
+rises-insert k n t [] r h = (h, tt)
+rises-insert k n t (e ∷ es) r h = rises-case k n t e es _ (slice_cmp nat_cmp n e.0) refl h r (rises-insert e.0 n t es r.1)
+
+ascends-case : (n : List ℕ) (t : Tree) (e : List ℕ × Tree) (es more : Entries Tree) (o : Ordering)
+    → slice_cmp nat_cmp n e.0 ≡ o → Rises e.0 es → (slice_cmp nat_cmp e.0 n ≡ Less → Rises e.0 more)
+    → Ascends (match_ordering o ((n, t) ∷ e ∷ es) ((e.0, t) ∷ es) (e ∷ more))
+ascends-case n t e es more Less is r f = (is, r)
+ascends-case n t e es more Equal is r f = r
+ascends-case n t e es more Greater is r f = f (turned n e.0 is)
+
+ascends-insert : (n : List ℕ) (t : Tree) (es : Entries Tree) → Ascends es
+    → Ascends (insert_entry (slice_cmp nat_cmp) es n t)
+ascends-insert n t [] r = tt
+ascends-insert n t (e ∷ es) r = ascends-case n t e es _ (slice_cmp nat_cmp n e.0) refl r (rises-insert e.0 n t es r)
+
+-- so what an insert makes of entries in order is in order
+pub ascends_now : {now : Entries Tree} (es : Entries Tree) (n : List ℕ) (t : Tree) → now ≡ insert_entry (slice_cmp nat_cmp) es n t
+    → Ascends es → Ascends now
+ascends_now es n t is r = subst Ascends (sym is) (ascends-insert n t es r)
+
+-- so they are with one more at the end whose name is above all others
 pub ascends-push : (n : List ℕ) (t : Tree) (es : Entries Tree) → Ascends es → AllBelow n es → Ascends (es ++ (n, t) ∷ [])
-ascends-push n t [] r b = tt
-ascends-push n t (e ∷ es) r b = rises-push e.0 n t es r b.1 b.0
+ascends-push n t es r b = subst Ascends (insert_last n t es b) (ascends-insert n t es r)
 
--- a name that is above the last of names in order is above all
-pub below_last : (n : List ℕ) (es : Entries Tree) (i : ℕ) (e : List ℕ × Tree) → Ascends es → suc i ≡ length es
-    → slice_get es i ≡ Some e → slice_cmp nat_cmp e.0 n ≡ Less → AllBelow n es
-below_last n [] i e r l at h = tt
-below_last n (x ∷ []) zero e r l at h = (subst (λ (y : List ℕ × Tree). slice_cmp nat_cmp y.0 n ≡ Less) (some_same (sym at)) h, tt)
-below_last n (x ∷ []) (suc i) e r l at h = cc
-below_last n (x ∷ y ∷ es) zero e r l at h = absurd (omega (arith, l))
-below_last n (x ∷ y ∷ es) (suc i) e r l at h =
-    let rest = below_last n (y ∷ es) i e r.1 (omega (arith, l)) at h in
+-- a name that is above one of names in order is above that and all before it
+pub below_at : (n : List ℕ) (es : Entries Tree) (i : ℕ) (e : List ℕ × Tree) → Ascends es → slice_get es i ≡ Some e
+    → slice_cmp nat_cmp e.0 n ≡ Less → AllBelow n (take (suc i) es)
+below_at n [] i e r at h = cc
+below_at n (x ∷ es) zero e r at h = (subst (λ (y : List ℕ × Tree). slice_cmp nat_cmp y.0 n ≡ Less) (some_same (sym at)) h, tt)
+below_at n (x ∷ []) (suc i) e r at h = cc
+below_at n (x ∷ y ∷ es) (suc i) e r at h =
+    let rest = below_at n (y ∷ es) i e r.1 at h in
     (nat_list_cmp_total.trans x.0 y.0 n r.0 rest.0, rest)
 
 -- names in order are above those before them
@@ -65,10 +141,6 @@ rises_below : (k : List ℕ) (done : Entries Tree) (e : List ℕ × Tree) (more 
     → slice_cmp nat_cmp k e.0 ≡ Less
 rises_below k [] e more r = r.0
 rises_below k (x ∷ done) e more r = nat_list_cmp_total.trans k x.0 e.0 r.0 (rises_below x.0 done e more r.1)
-
-rises_ascends : (k : List ℕ) (es : Entries Tree) → Rises k es → Ascends es
-rises_ascends k [] r = tt
-rises_ascends k (e ∷ es) r = r.1
 
 -- where all entries stand in order, those before one of them have names below its name
 pub before_below : (done : Entries Tree) (e : List ℕ × Tree) (more : Entries Tree) → Ascends (done ++ e ∷ more)
@@ -96,6 +168,32 @@ pub owned-push : (done : List (String Global × Tree)) (e : String Global × Tre
     → map owned_entry (done ++ e ∷ []) ≡ map owned_entry done ++ owned_entry e ∷ []
 owned-push [] e = refl
 owned-push (x ∷ done) e = ap (λ l. owned_entry x ∷ l) (owned-push done e)
+
+-- an entry with an owned name is put at a place as it is by its bytes
+pub owned-at : (es : List (String Global × Tree)) (i : ℕ) (e : String Global × Tree)
+    → map owned_entry (insert es i e) ≡ insert (map owned_entry es) i (owned_entry e)
+owned-at es i e = map-append owned_entry (take i es) (e ∷ drop i es)
+    ∙ ap (λ l. l ++ owned_entry e ∷ map owned_entry (drop i es)) (sym (take-map owned_entry i es))
+    ∙ ap (λ l. take i (map owned_entry es) ++ owned_entry e ∷ l) (sym (drop-map owned_entry i es))
+
+-- the entry that was read before a place, by the bytes of its name
+pub owned-before : (es : List (String Global × Tree)) (i : ℕ) {e : String Global × Tree} → 0 < i → i ≤ length es
+    → e ≡ slice_index_or es (i - 1) e → slice_get (map owned_entry es) (i - 1) ≡ Some (owned_entry e)
+owned-before es i {e} some within at =
+    let there = slice_get_read es (length es) (i - 1) e refl (omega (arith, some, within)) at in
+    slice_get-map owned_entry es (i - 1) ∙ ap (option_map owned_entry) there
+
+-- what a comparison with the text of a name tells of its bytes
+pub compared : {text name : List ℕ} {o told : Ordering} (other : List ℕ) → text ≡ name → told ≡ slice_cmp nat_cmp text other → told ≡ o
+    → slice_cmp nat_cmp name other ≡ o
+compared other same is told = ap (λ s. slice_cmp nat_cmp s other) (sym same) ∙ sym is ∙ told
+
+-- one entry, those before it and those behind it, by the bytes of their names
+pub owned-split : {all left more : List (String Global × Tree)} {e : String Global × Tree}
+    (done : List (String Global × Tree)) → all ≡ done ++ left
+    → left ≡ e ∷ more → map owned_entry all ≡ map owned_entry done ++ owned_entry e ∷ map owned_entry more
+owned-split {all} {left} {more} {e} done split next =
+    ap (map owned_entry) (split ∙ ap (λ es. done ++ es) next) ∙ map-append owned_entry done (e ∷ more)
 
 -- a name whose text is owned goes among others as its bytes do
 map-match : {A B : Type 0} (f : A → B) (o : Ordering) (a b c : List A)

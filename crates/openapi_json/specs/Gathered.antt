@@ -5,7 +5,7 @@ use Rattle.std.specs.declared.cmp.Ordering.TheVariants.{Less}
 use Rattle.std.specs.Cmp.Lexicographic.{slice_cmp}
 use Rattle.openapi_map.specs.Entries.{Entries, owned_entry}
 use Rattle.openapi_json.specs.declared.members.Members.{Members}
-use Rattle.openapi_json.specs.declared.members.Members.TheVariants.{InOrder, ByName}
+use Rattle.openapi_json.specs.declared.members.Members.TheVariants.{InOrder, ByName, Few}
 use Rattle.openapi_node.specs.Tree.{Tree}
 
 -- each name is below a name
@@ -25,10 +25,12 @@ Ascends (e ∷ es) = Rises e.0 es
 
 -- the members that are held
 abbrev pub entries_in : Members → Entries Tree
+entries_in (Few v) = map owned_entry v.items
 entries_in (InOrder m) = m
 entries_in (ByName m) = map owned_entry m.entries
 
--- what is held in a map that keeps its order stands in the order of the names
+-- what is held in a list, or in a map that keeps its order, stands in the order of the names
 abbrev pub IsInOrder : Members → Type 0
+IsInOrder (Few v) = Ascends (map owned_entry v.items)
 IsInOrder (InOrder m) = Ascends m
 IsInOrder (ByName m) = Unit {0}

@@ -1,7 +1,7 @@
 //! From JSON text to nodes, in one pass over its tokens.
 ghost use Rattle.std.specs.Prelude.{◌<◌, length, IfOk, OnOk};
 ghost use Rattle.json.specs.Json.{value, items, members};
-ghost use Rattle.openapi_json.specs.Gathered.{entries_in};
+ghost use Rattle.openapi_json.specs.Gathered.{entries_in, IsInOrder};
 ghost use Rattle.openapi_json.specs.Reading.{IsTreeOfText, ReadsItems, ReadsMembers, ReadsTree};
 
 use crate::members::Members;
@@ -89,6 +89,7 @@ fn read_items(alloc: Global, reader: &mut Reader<'_>, depth: usize) -> Result<Ve
 fn read_members(alloc: Global, reader: &mut Reader<'_>, depth: usize) -> Result<Members, Unread>
     ensures ok { IfOk result (λ m. ReadsMembers (members (value depth) (length reader.old) reader.old) (entries_in m)
         reader.new) }
+    ensures order { IfOk result IsInOrder }
     ensures shorter { OnOk result (length reader.new < length reader.old) }
 {
     let mut found = Members::new(alloc);

@@ -1,15 +1,16 @@
 #!/usr/bin/env python3
 """Times `openapi_clean` on inputs that it makes itself, and tells the peak memory of each run.
 
-usage: bench/run.py [--sizes 1,4,16] [--runs N] [--command tag] [--only NAME] [--other PROGRAM] [--instructions]
-                    [PROGRAM]
+usage: bench/run.py [--sizes 1,4,16] [--runs N] [--command tag] [--only NAME] [--other PROGRAM [--straight]]
+                    [--instructions] [PROGRAM]
 
 PROGRAM is the program to measure, by default the one that `./openapi_clean` built. For each shape of input and each
 size in megabytes it prints the bytes read in a second by the clock (the best of the runs) and the peak memory for each
 byte read, and how straight the time grew: the time for each byte at the largest size over that at the smallest. With
 `--instructions` and valgrind it counts the instructions for each byte too, at the two smallest sizes. A second program
 may be given by `--other`: it is run with the same argument on the same inputs, in turn with the first, and a line gives
-the time, the memory and the instructions of the first as shares of those of the second. It needs a C compiler.
+the time, the memory and the instructions of the first as shares of those of the second. With `--straight` it is run
+once more, with the word `--direct` before the argument, and has a line for each of its two ways. It needs a C compiler.
 """
 import argparse
 import os
@@ -176,20 +177,20 @@ def launcher(folder):
     return program
 
 
-def measured(launch, program, command, path):
-    """Seconds by the clock and peak bytes of one run."""
-    run = subprocess.run([launch, path, program, command], capture_output=True, text=True)
+def measured(launch, words, command, path):
+    """Seconds by the clock and peak bytes of one run of the program with its words."""
+    run = subprocess.run([launch, path, *words, command], capture_output=True, text=True)
     if run.returncode != 0:
-        sys.exit(f"{program} {command} failed on {path}: {run.stderr.strip()}")
+        sys.exit(f"{' '.join(words)} {command} failed on {path}: {run.stderr.strip()}")
     seconds, peak = run.stdout.split()
     return float(seconds), int(peak)
 
 
-def instructions(program, command, path):
-    """Instructions of one run, as valgrind counts them."""
+def instructions(words, command, path):
+    """Instructions of one run of the program with its words, as valgrind counts them."""
     with open(path, "rb") as source, tempfile.NamedTemporaryFile() as out:
         run = subprocess.run(
-            ["valgrind", "--tool=callgrind", f"--callgrind-out-file={out.name}", program, command],
+            ["valgrind", "--tool=callgrind", f"--callgrind-out-file={out.name}", *words, command],
             stdin=source, stdout=subprocess.DEVNULL, stderr=subprocess.PIPE, text=True, check=True)
     for line in run.stderr.splitlines():
         if "Collected" in line:
@@ -202,15 +203,15 @@ def timed(launch, programs, arguments, shape, megabytes, folder):
     path, size = made(shape, megabytes, folder)
     runs = {label: [] for label, _ in programs}
     for _ in range(arguments.runs):
-        for label, program in programs:
-            runs[label].append(measured(launch, program, arguments.command, path))
+        for label, words in programs:
+            runs[label].append(measured(launch, words, arguments.command, path))
     best = {label: (min(it[0] for it in found), max(it[1] for it in found)) for label, found in runs.items()}
     for label, (seconds, peak) in best.items():
-        print(f"{label:6} {shape.__name__:12} {size / MEGABYTE:6.1f} MB  {size / seconds / MEGABYTE:7.1f} MB/s"
+        print(f"{label:8} {shape.__name__:12} {size / MEGABYTE:6.1f} MB  {size / seconds / MEGABYTE:7.1f} MB/s"
               f"  {peak / size:6.1f} bytes of memory a byte", flush=True)
-    if len(programs) > 1:
-        (ours, room), (theirs, their_room) = best["this"], best["other"]
-        print(f"ratio  {shape.__name__:12} {size / MEGABYTE:6.1f} MB  time {ours / theirs:.2f}"
+    ours, room = best["this"]
+    for label, (theirs, their_room) in list(best.items())[1:]:
+        print(f"of {label:8} {shape.__name__:12} {size / MEGABYTE:6.1f} MB  time {ours / theirs:.2f}"
               f"  memory {room / their_room:.2f}", flush=True)
     return {label: seconds / size for label, (seconds, _) in best.items()}
 
@@ -218,16 +219,16 @@ def timed(launch, programs, arguments, shape, megabytes, folder):
 def counted(programs, arguments, shape, folder):
     """Counts the instructions for each byte at the two smallest sizes, which no other work on the machine disturbs."""
     first = {}
-    for label, program in programs:
+    for label, words in programs:
         counts = []
         for megabytes in arguments.sizes[:2]:
             path, size = made(shape, megabytes, folder)
-            counts.append(instructions(program, arguments.command, path) / size)
+            counts.append(instructions(words, arguments.command, path) / size)
         growth = f", growth {counts[-1] / counts[0]:.2f}" if len(counts) > 1 else ""
-        print(f"{label:6} {shape.__name__:12} {counts[0]:.0f} instructions a byte{growth}", flush=True)
+        print(f"{label:8} {shape.__name__:12} {counts[0]:.0f} instructions a byte{growth}", flush=True)
         first[label] = counts[0]
-    if len(programs) > 1:
-        print(f"ratio  {shape.__name__:12} instructions {first['this'] / first['other']:.2f}", flush=True)
+    for label in list(first)[1:]:
+        print(f"of {label:8} {shape.__name__:12} instructions {first['this'] / first[label]:.2f}", flush=True)
 
 
 def report(launch, programs, arguments, shape, folder):
@@ -235,7 +236,7 @@ def report(launch, programs, arguments, shape, folder):
     rates = [timed(launch, programs, arguments, shape, it, folder) for it in arguments.sizes]
     if len(rates) > 1:
         for label, _ in programs:
-            print(f"{label:6} {shape.__name__:12} growth {rates[-1][label] / rates[0][label]:.2f}", flush=True)
+            print(f"{label:8} {shape.__name__:12} growth {rates[-1][label] / rates[0][label]:.2f}", flush=True)
     if arguments.instructions and shutil.which("valgrind"):
         counted(programs, arguments, shape, folder)
 
@@ -244,6 +245,7 @@ def main():
     parser = argparse.ArgumentParser(description="times openapi_clean")
     parser.add_argument("program", nargs="?", default=BUILT)
     parser.add_argument("--other")
+    parser.add_argument("--straight", action="store_true")
     parser.add_argument("--command", default="tag", choices=sorted(SHAPES))
     parser.add_argument("--sizes", default="1,4,16", type=lambda text: [float(word) for word in text.split(",")])
     parser.add_argument("--runs", default=3, type=int)
@@ -252,7 +254,11 @@ def main():
     arguments = parser.parse_args()
     if not os.access(arguments.program, os.X_OK):
         sys.exit(f"no program at {arguments.program}: run ./openapi_clean once, which builds it")
-    programs = [("this", arguments.program)] + ([("other", arguments.other)] if arguments.other else [])
+    programs = [("this", [arguments.program])]
+    if arguments.other:
+        programs.append(("other", [arguments.other]))
+        if arguments.straight:
+            programs.append(("straight", [arguments.other, "--direct"]))
     started = time.time()
     with tempfile.TemporaryDirectory() as folder:
         launch = launcher(folder)

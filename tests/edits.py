@@ -357,7 +357,9 @@ class Function:
         if self.cycle:
             own = rf"`{self.name}-"
             return at[1].startswith(f"{proofs}+{self.cycle}/") and bool(re.search(own, at[3])) and "error" in at[3]
-        return at[1].startswith(f"{proofs}{self.owner + '/' if self.owner else ''}{self.name}/") and "error" in at[3]
+        # The proofs of an impl stand with its type, in whatever file the impl is.
+        own = rf"proofs/(\S*/)?{self.owner}/{self.name}/" if self.owner else rf"{proofs}{self.name}/"
+        return bool(re.match(own, at[1])) and "error" in at[3]
 
 
 # A line on a proof that names what an edit took away, or that cites such a proof: it says little of a contract.

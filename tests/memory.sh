@@ -2,7 +2,9 @@
 # Makes each call that `openapi_cases memory` knows with the Nth request for memory that the call makes refused, for N from
 # 1 until a run meets no refusal. Each run that met one must tell `refused: out of memory`, and the last `answered`, by
 # which the program also says that what the call was lent is as it was; and every run must have let go of each block that
-# it took. The last line is `N passed, M failed`, in which each call on a tree counts once.
+# it took. `to_value` and `into_value` may answer too where a request was refused: the map of `serde_json` sorts the members
+# that it is made of, and its sort of few does without the room that it asks for. The last line is `N passed, M failed`, in
+# which each call on a tree counts once.
 #
 # usage: tests/memory.sh [CALL [SAMPLE]]      (with none: each call)
 #
@@ -21,7 +23,7 @@ cc -shared -fPIC -O1 -o "$work/refuse.so" "$top/tests/refuse.c" -ldl
 
 # Tells of one call what came of refusing each of its requests in turn; ends with 1 at the first that is not told.
 refuse_each() {
-  local n status told met wanted
+  local n status told met wanted spared=0
   for ((n = 1; ; n++)); do
     status=0
     told=$(MARKED=1 REFUSE=$n LD_PRELOAD=$work/refuse.so "$program" memory "$@" 2>&1 9> "$work/said") || status=$?
@@ -31,6 +33,10 @@ refuse_each() {
       'kept 0') wanted=answered ;;
       *) wanted='that all is let go of' ;;
     esac
+    if [[ $1 = *to_value && $status -eq 0 && $told = answered && $met = $'refused\nkept 0' ]]; then
+      spared=$((spared + 1))
+      continue
+    fi
     if [ $status -ne 0 ] || [ "$told" != "$wanted" ]; then
       echo "FAILED: $* with request $n refused: status $status, told '$told', watched '${met//$'\n'/, }'"
       return 1
@@ -42,7 +48,11 @@ refuse_each() {
     return 1
   fi
   all=$((all + n - 1))
-  echo "$*: each of $((n - 1)) requests for memory was refused in turn and told as out of memory"
+  if [ $spared -eq $((n - 1)) ]; then
+    echo "FAILED: $* told no refusal"
+    return 1
+  fi
+  echo "$*: each of $((n - 1)) requests for memory was refused in turn, and told as out of memory but for $spared"
 }
 
 count() {

@@ -52,14 +52,10 @@ text-clone s t h = ap (λ b. leaf (text b)) h
 pub variant-clone : {X : Type 0} (word : X → List ℕ) (v w : VariantOrUnknownOrEmpty X) → IsVariantClone v w
     → variant_or_empty_form word w ≡ variant_or_empty_form word v
 variant-clone word (o.Item x) (o.Item y) h = ap (λ z. known (word z)) h
-variant-clone word (o.Item x) (o.Unknown t) h = absurd h
-variant-clone word (o.Item x) o.Empty h = absurd h
-variant-clone word (o.Unknown s) (o.Item y) h = absurd h
 variant-clone word (o.Unknown s) (o.Unknown t) h = ap other h
-variant-clone word (o.Unknown s) o.Empty h = absurd h
-variant-clone word o.Empty (o.Item y) h = absurd h
-variant-clone word o.Empty (o.Unknown t) h = absurd h
 variant-clone word o.Empty o.Empty h = refl
+variant-clone word v (o.Unknown t) h = absurd h
+variant-clone word v w h = absurd h
 
 module _ {X : Type 0} (C : X → X → Type 0) (view : X → Form) (same : (x y : X) → C x y → view y ≡ view x) where
   pub optional-clone : (o p : Option X) → IsOptionClone C o p → optional_form view p ≡ optional_form view o
@@ -101,9 +97,6 @@ module _ {X : Type 0} (view : X → Form) where
   -- a name that is not among some entries is not among those of the same forms
   pub get-absent : (n : List ℕ) (es fs : Entries X) → pairs_of view fs ≡ pairs_of view es → get n es ≡ None
       → get n fs ≡ None
-  get-absent n [] [] same h = refl
-  get-absent n (e ∷ es) [] same h = refl
-  get-absent n [] (f ∷ fs) same h = cc
   get-absent n (e ∷ es) (f ∷ fs) same h =
       let pair : record_of f ≡ record_of e = cc in
       let keys : name f.0 ≡ name e.0 = ap (λ (p : Pair Form). p.key) pair in
@@ -116,6 +109,8 @@ module _ {X : Type 0} (view : X → Form) where
           → cond b (Some f.1) (get n fs) ≡ None
       go more true q = cc
       go more false q = more q
+  get-absent n es [] same h = cc
+  get-absent n es fs same h = cc
 
   pairs-append : (es fs : Entries X) → pairs_of view (es ++ fs) ≡ pairs_of view es ++ pairs_of view fs
   pairs-append [] fs = refl

@@ -13,28 +13,7 @@ use Rattle.openapi_node.specs.declared.fault.Fault.{Fault}
 use Rattle.openapi_node.specs.declared.node.Node.{Node}
 use Rattle.openapi_node.specs.declared.node.View.{View}
 use Rattle.openapi_node.specs.declared.node.View.TheVariants as v
-use Rattle.openapi_tables.specs.Kind.{
-  Kind,
-  any_text,
-  any_flag,
-  number,
-  any_tree,
-  one_of,
-  format,
-  null_or,
-  list_of,
-  map_of,
-  by,
-  tagged,
-  ref_to,
-  flag_or_schema,
-  a_schema,
-  a_schema_kind,
-  status_code,
-  TableName,
-  listed,
-  row,
-}
+use Rattle.openapi_tables.specs.Kind.{Kind, map_of, by, TableName, listed, row}
 use Rattle.openapi_tables.specs.Lists.{every}
 use Rattle.openapi_tables.specs.Tables.{final_tables}
 use Rattle.openapi_tables.specs.Conforms.{conforms}
@@ -57,20 +36,7 @@ pub no_members : (f : Fault) (w : View) → ((m : Bor (OrderedMap Node)) → w �
     → f.cause ≡ WrongKind words.Object → (k : Kind) → is_object k ≡ true → Fails f k (shown w)
 no_members f w h p e (by i) t = wrong_here f words.Object (by i) (shown w) p e (not_object i w h)
 no_members f w h p e (map_of k) t = wrong_here f words.Object (map_of k) (shown w) p e (not_map k w h)
-no_members f w h p e any_text t = cc
-no_members f w h p e any_flag t = cc
-no_members f w h p e (number l) t = cc
-no_members f w h p e any_tree t = cc
-no_members f w h p e (one_of ws) t = cc
-no_members f w h p e (format ws c) t = cc
-no_members f w h p e (null_or k) t = cc
-no_members f w h p e (list_of k) t = cc
-no_members f w h p e (tagged n cs) t = cc
-no_members f w h p e (ref_to k) t = cc
-no_members f w h p e flag_or_schema t = cc
-no_members f w h p e a_schema t = cc
-no_members f w h p e a_schema_kind t = cc
-no_members f w h p e status_code t = cc
+no_members f w h p e k t = cc
 
 -- an object by a table, by what its rows give
 pub table_read : {X : Type 0} (rows : X → List Form) (i : TableName) (r : Result X Fault) (ms : Members) (t : Tree)

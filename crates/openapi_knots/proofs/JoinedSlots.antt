@@ -1,22 +1,14 @@
 -- Slots behind others: what both are written as together, and the names of which they have none in common.
-use Rattle.std.proofs.Common.{◌≡◌, ℕ, zero, suc, Bool, true, false, ◌&&◌, ◌||◌, List, [], ◌∷◌, ◌++◌}
-use Rattle.std.proofs.Common.{Some, slice_get, refl, sym, ap, ◌∙◌, subst}
+use Rattle.std.proofs.Common.{◌≡◌, ℕ, zero, suc, Bool, true, false, ◌&&◌, ◌||◌, List, [], ◌∷◌, ◌++◌, Some, slice_get}
+use Rattle.std.proofs.Common.{refl, sym, ap, ◌∙◌, subst}
 use Rattle.std.proofs.lemmas.Bool.{and_parts}
 use Rattle.openapi_map.specs.Entries.{Entries}
 use Rattle.openapi_node.specs.Fault.{place_of}
 use Rattle.openapi_node.specs.Place.{Place}
 use Rattle.openapi_node.specs.Tree.{Tree}
 use Rattle.openapi_node.specs.declared.fault.Cause.{Cause}
-use Rattle.openapi_node.specs.declared.fault.Cause.TheVariants.{
-  Missing,
-  MissingEither,
-  WrongKind,
-  NotAllowed,
-  UnknownVariant,
-  NameNotWritable,
-  NotWhole,
-  Memory,
-}
+use Rattle.openapi_node.specs.declared.fault.Cause.TheVariants.{Missing, MissingEither, WrongKind, NotAllowed}
+use Rattle.openapi_node.specs.declared.fault.Cause.TheVariants.{UnknownVariant, NameNotWritable, NotWhole, Memory}
 use Rattle.openapi_node.specs.declared.fault.Fault.{Fault}
 use Rattle.openapi_tables.specs.Lists.{join, every}
 use Rattle.openapi_tables.specs.Kind.{Row, takes}
@@ -26,8 +18,8 @@ use Rattle.openapi_tables.specs.Slots.{Slot, slots_apart, slots_print, slots_los
 use Rattle.openapi_tables.specs.Laws.{Among}
 use Rattle.openapi_tables.proofs.ByRowLaws.{among_left, among_right}
 use Rattle.openapi_tables.proofs.RowLaws.{apart_back}
-use Rattle.openapi_tables.proofs.SlotLists.{all_taken-append, all_taken-first, get_none, or_true}
-use Rattle.openapi_tables.proofs.SlotLists.{slots_lost-join, slots_print-join, untied-join}
+use Rattle.openapi_tables.proofs.SlotLists.{all_taken-append, all_taken-first, get_none, or_true, slots_lost-join}
+use Rattle.openapi_tables.proofs.SlotLists.{slots_print-join, untied-join}
 use Rattle.openapi_rows.specs.Gives.{Loses, LosesBy}
 use Rattle.openapi_knots.specs.Writing.{AreNew}
 

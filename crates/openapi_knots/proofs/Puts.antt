@@ -1,6 +1,6 @@
 -- Members that are put, by what was written of their values.
-use Rattle.std.proofs.Common.{◌≡◌, ℕ, true, cond, List, [], ◌∷◌, ◌++◌, Result, Ok, Err, OnOk, IfErr, Some, None}
-use Rattle.std.proofs.Common.{refl, sym, ap, ◌∙◌, subst}
+use Rattle.std.proofs.Common.{◌≡◌, ℕ, true, cond, List, [], ◌∷◌, ◌++◌, Result, Ok, Err, OnOk, IfErr, Some, None, refl}
+use Rattle.std.proofs.Common.{sym, ap, ◌∙◌, subst}
 use Rattle.openapi_map.specs.Entries.{Entries}
 use Rattle.openapi_node.specs.Fault.{IsMemory, GoesUp}
 use Rattle.openapi_node.specs.Place.{named}

@@ -1,22 +1,15 @@
 -- What was read one step below, as it is seen from here; and refusals at the root.
-use Rattle.std.proofs.Common.{◌≡◌, ℕ, Bool, true, ◌≤◌, List, [], ◌∷◌, Result, Ok, Err, IfOk, IfErr, map, refl, sym, ap, ◌∙◌, subst, inl, inr, arith}
+use Rattle.std.proofs.Common.{◌≡◌, ℕ, Bool, true, ◌≤◌, List, [], ◌∷◌, Result, Ok, Err, IfOk, IfErr, map, refl, sym, ap}
+use Rattle.std.proofs.Common.{◌∙◌, subst, inl, inr, arith}
 use Rattle.std.specs.Borrow.{Bor}
 use Rattle.openapi_map.specs.declared.OrderedMap.{OrderedMap}
 use Rattle.openapi_node.specs.Fault.{IsMemory, GoesUp, place_of, step_of}
 use Rattle.openapi_node.specs.Place.{Step, Place}
-use Rattle.openapi_node.specs.Tree.{Tree, null, flag, whole, text, list, object, size_of}
+use Rattle.openapi_node.specs.Tree.{Tree, null, size_of}
 use Rattle.openapi_node.specs.View.{shown}
 use Rattle.openapi_node.specs.declared.fault.Cause.{Cause}
-use Rattle.openapi_node.specs.declared.fault.Cause.TheVariants.{
-  Missing,
-  MissingEither,
-  WrongKind,
-  NotAllowed,
-  UnknownVariant,
-  NameNotWritable,
-  NotWhole,
-  Memory,
-}
+use Rattle.openapi_node.specs.declared.fault.Cause.TheVariants.{Missing, MissingEither, WrongKind, NotAllowed}
+use Rattle.openapi_node.specs.declared.fault.Cause.TheVariants.{UnknownVariant, NameNotWritable, NotWhole, Memory}
 use Rattle.openapi_node.specs.declared.fault.Expected.TheVariants as words
 use Rattle.openapi_node.specs.declared.fault.PlaceStep.{PlaceStep}
 use Rattle.openapi_node.specs.declared.fault.Fault.{Fault}
@@ -112,56 +105,32 @@ wrong_here f w k t p e h = fails_here f (WrongKind w) k t p e (broken_root final
 -- a look that shows another kind of value than the one that is expected
 pub not_text : (w : View) → ((s : Bor (List ℕ)) → w ≡ v.Text s → ⊥)
     → Among (wrong_kind words.Text) (causes final_tables any_text (shown w))
-not_text v.Null h = inl refl
-not_text (v.Flag b) h = inl refl
-not_text (v.Whole z) h = inl refl
 not_text (v.Text s) h = absurd (h s refl)
-not_text (v.List ts) h = inl refl
-not_text (v.Object m) h = inl refl
+not_text w h = inl refl
 
 pub not_flag : (w : View) → ((b : Bool) → w ≡ v.Flag b → ⊥)
     → Among (wrong_kind words.Flag) (causes final_tables any_flag (shown w))
-not_flag v.Null h = inl refl
 not_flag (v.Flag b) h = absurd (h b refl)
-not_flag (v.Whole z) h = inl refl
-not_flag (v.Text s) h = inl refl
-not_flag (v.List ts) h = inl refl
-not_flag (v.Object m) h = inl refl
+not_flag w h = inl refl
 
 pub not_list : (k : Kind) (w : View) → ((ns : Bor (List Tree)) → w ≡ v.List ns → ⊥)
     → Among (wrong_kind words.List) (causes final_tables (list_of k) (shown w))
-not_list k v.Null h = inl refl
-not_list k (v.Flag b) h = inl refl
-not_list k (v.Whole z) h = inl refl
-not_list k (v.Text s) h = inl refl
 not_list k (v.List ts) h = absurd (h ts refl)
-not_list k (v.Object m) h = inl refl
+not_list k w h = inl refl
 
 pub not_map : (k : Kind) (w : View) → ((m : Bor (OrderedMap Node)) → w ≡ v.Object m → ⊥)
     → Among (wrong_kind words.Object) (causes final_tables (map_of k) (shown w))
-not_map k v.Null h = inl refl
-not_map k (v.Flag b) h = inl refl
-not_map k (v.Whole z) h = inl refl
-not_map k (v.Text s) h = inl refl
-not_map k (v.List ts) h = inl refl
 not_map k (v.Object m) h = absurd (h m refl)
+not_map k w h = inl refl
 
 pub not_object : (i : _) (w : View) → ((m : Bor (OrderedMap Node)) → w ≡ v.Object m → ⊥)
     → Among (wrong_kind words.Object) (causes final_tables (by i) (shown w))
-not_object i v.Null h = inl refl
-not_object i (v.Flag b) h = inl refl
-not_object i (v.Whole z) h = inl refl
-not_object i (v.Text s) h = inl refl
-not_object i (v.List ts) h = inl refl
 not_object i (v.Object m) h = absurd (h m refl)
+not_object i w h = inl refl
 
 pub size-positive : (t : Tree) → 1 ≤ size_of t
 size-positive null = omega arith
-size-positive (flag b) = omega arith
-size-positive (whole z) = omega arith
-size-positive (text x) = omega arith
-size-positive (list ts) = omega arith
-size-positive (object ms) = omega arith
+size-positive t = omega arith
 
 -- a copy is the tree as any tree
 pub copied : (w : View) (r : Result Node Fault) → IfOk r (λ n. n ≡ shown w) → IfErr r IsMemory

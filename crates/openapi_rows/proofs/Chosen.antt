@@ -70,9 +70,6 @@ first_name f g x y xs ys e =
 
 get_none-pairs : {X Y : Type 0} (f : X → Form) (g : Y → Form) (n : List ℕ) (xs : Entries X) (ys : Entries Y)
     → pairs_of f xs ≡ pairs_of g ys → get n xs ≡ None → get n ys ≡ None
-get_none-pairs f g n [] [] e h = refl
-get_none-pairs f g n [] (y ∷ ys) e h = cc
-get_none-pairs f g n (x ∷ xs) [] e h = cc
 get_none-pairs f g n (x ∷ xs) (y ∷ ys) e h =
     let rest : pairs_of f xs ≡ pairs_of g ys = cc in
     go (λ q. get_none-pairs f g n xs ys rest q) (bytes_eq n x.0) (ap (bytes_eq n) (sym (first_name f g x y xs ys e))) h
@@ -81,6 +78,8 @@ get_none-pairs f g n (x ∷ xs) (y ∷ ys) e h =
         → cond (bytes_eq n y.0) (Some y.1) (get n ys) ≡ None
     go more true s q = cc
     go more false s q = ap (λ b. cond b (Some y.1) (get n ys)) s ∙ more q
+get_none-pairs f g n xs [] e h = cc
+get_none-pairs f g n xs ys e h = cc
 
 -- the next of the members
 module _ (p : List ℕ → Bool) (ms : Entries Tree) (i : ℕ) (n : List ℕ) (t : Tree) (at : slice_get ms i

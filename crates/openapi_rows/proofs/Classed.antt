@@ -1,12 +1,13 @@
 -- The row of a class of names, by what is read and written of its entries.
-use Rattle.std.proofs.Common.{◌≡◌, ℕ, suc, ◌+◌, Bool, true, false, cond, ◌&&◌, List, [], ◌∷◌, ◌++◌, slice_get, Some, None, Result, Ok, Err, OnOk, IfErr, refl, sym, ap, ◌∙◌, subst, inl, inr, ⊎_elim}
+use Rattle.std.proofs.Common.{◌≡◌, ℕ, suc, ◌+◌, Bool, true, false, cond, ◌&&◌, List, [], ◌∷◌, ◌++◌, slice_get, Some}
+use Rattle.std.proofs.Common.{None, Result, Ok, Err, OnOk, IfErr, refl, sym, ap, ◌∙◌, subst, inl, inr, ⊎_elim}
 use Rattle.std.proofs.lemmas.Bool.{and_parts, and_from}
 use Rattle.openapi_map.specs.Entries.{Entries, get}
 use Rattle.openapi_node.specs.Fault.{place_of}
 use Rattle.openapi_node.specs.Place.{Place, named}
 use Rattle.openapi_node.specs.Tree.{Tree, object, members_of, size_of}
 use Rattle.openapi_node.specs.declared.fault.Fault.{Fault}
-use Rattle.openapi_tables.specs.Kind.{Kind, Class, extensions, callback_names, path_names, status_names, class, in_class}
+use Rattle.openapi_tables.specs.Kind.{Kind, Class, status_names, class, in_class}
 use Rattle.openapi_tables.specs.Lists.{every, is_empty}
 use Rattle.openapi_tables.specs.Tables.{final_tables}
 use Rattle.openapi_tables.specs.Tree.{Entry, of_tree, of_members, members_list}
@@ -19,30 +20,14 @@ use Rattle.openapi_tables.specs.Laws.{Among}
 use Rattle.openapi_tables.specs.Print.{print}
 use Rattle.openapi_tables.specs.Unwritable.{unwritable}
 use Rattle.openapi_tables.specs.Proper.{is_written}
-use Rattle.openapi_tables.specs.ByRow.{
-  is_class,
-  row_where,
-  rows_asked,
-  row_conforms,
-  row_form,
-  row_weight,
-  weight,
-  asking,
-  StepsTo,
-}
+use Rattle.openapi_tables.specs.ByRow.{is_class, row_where, rows_asked, row_conforms, row_form, row_weight, weight}
+use Rattle.openapi_tables.specs.ByRow.{asking, StepsTo}
 use Rattle.openapi_tables.specs.Slots.{Slot, slot_where, before, through, slots_apart, slots_lost, IsWritten, pairs_of}
 use Rattle.openapi_tables.proofs.ByRowLaws.{among_left, among_right, among_below, among_flat, rows_ask}
 use Rattle.openapi_tables.proofs.ListLaws.{same_text-refl}
 use Rattle.openapi_tables.proofs.SlotWriting.{prints, is_kept, is_new, class_put, class_key_loses, class_value_loses}
-use Rattle.openapi_rows.specs.Entries.{
-  chosen,
-  entries_size,
-  GivesEntries,
-  written_entries,
-  all_whole,
-  LosesEntry,
-  LosesEntries,
-}
+use Rattle.openapi_rows.specs.Entries.{chosen, entries_size, GivesEntries, written_entries, all_whole, LosesEntry}
+use Rattle.openapi_rows.specs.Entries.{LosesEntries}
 use Rattle.openapi_rows.specs.Forms.{map_form}
 use Rattle.openapi_rows.specs.Gives.{FailsBelow, GivesRow, LosesBy, Loses}
 use Rattle.openapi_rows.proofs.Below.{memory_fails, fails_above}
@@ -105,10 +90,8 @@ module _ (c : Class) (k : Kind) where
   gathered keys es = go c keys
     where
       go : (c : Class) → ((n : List ℕ) → key_in c n ≡ name n) → gather c es ≡ es
-      go extensions h = refl
-      go callback_names h = refl
-      go path_names h = refl
       go status_names h = let no = h (50 ∷ 48 ∷ 48 ∷ []) in cc
+      go c h = refl
 
   pub class_size : (ms : Entries Tree) → row_weight (class c k) (members_of ms) ≡ entries_size (chosen (in_class c) ms)
   unfolding row_weight

@@ -1,18 +1,19 @@
 -- Values that stand by themselves, and looks that show no such value.
-use Rattle.std.proofs.Common.{◌≡◌, ℕ, ℤ, pos, negsuc, Bool, true, false, List, [], Some, None, refl, sym, ap, subst, inl, cond, arith, rules, true≢false}
+use Rattle.std.proofs.Common.{◌≡◌, ℕ, ℤ, pos, negsuc, Bool, true, false, List, [], Some, None, refl, sym, ap, subst}
+use Rattle.std.proofs.Common.{inl, cond, arith, rules, true≢false}
 use Rattle.std.specs.Prelude.{◌≤ℤ◌, FitsSigned, nat_le, ◌&&◌}
 use Rattle.std.proofs.lemmas.Bool.{leb-true}
 use Rattle.std.specs.Int.{w64}
 use Rattle.std.specs.Borrow.{Bor}
-use Rattle.openapi_node.specs.Tree.{Tree, null, flag, whole, text, list, object}
+use Rattle.openapi_node.specs.Tree.{Tree, null, whole, text}
 use Rattle.openapi_node.specs.View.{shown}
 use Rattle.openapi_node.specs.declared.fault.Cause.TheVariants.{NotAllowed, UnknownVariant}
 use Rattle.openapi_node.specs.declared.fault.Expected.TheVariants as words
 use Rattle.openapi_node.specs.declared.fault.Fault.{Fault}
 use Rattle.openapi_node.specs.declared.node.View.{View}
 use Rattle.openapi_node.specs.declared.node.View.TheVariants as v
-use Rattle.openapi_tables.specs.Kind.{number, one_of, format, status_code, Limits, sizes, signed, within}
-use Rattle.openapi_tables.specs.Kind.{is_code, code_of, code}
+use Rattle.openapi_tables.specs.Kind.{number, one_of, format, status_code, Limits, sizes, signed, within, is_code}
+use Rattle.openapi_tables.specs.Kind.{code_of, code}
 use Rattle.openapi_tables.specs.Lists.{has}
 use Rattle.openapi_tables.specs.Tables.{final_tables}
 use Rattle.openapi_tables.specs.Faults.{causes, unless, wrong_kind, not_allowed, unknown_variant}
@@ -27,53 +28,35 @@ use Rattle.openapi_rows.proofs.Below.{fails_here}
 -- a look that shows no whole number
 pub not_whole : (l : Limits) (w : View) → ((z : ℤ) → w ≡ v.Whole z → ⊥)
     → Among (wrong_kind words.Whole) (causes final_tables (number l) (shown w))
-not_whole l v.Null h = inl refl
-not_whole l (v.Flag b) h = inl refl
 not_whole l (v.Whole z) h = absurd (h z refl)
-not_whole l (v.Text s) h = inl refl
-not_whole l (v.List ts) h = inl refl
-not_whole l (v.Object m) h = inl refl
+not_whole l w h = inl refl
 
 -- a look that shows no text, where a word is asked
 pub not_word : (ws : List (List ℕ)) (w : View) → ((s : Bor (List ℕ)) → w ≡ v.Text s → ⊥)
     → Among (wrong_kind words.Text) (causes final_tables (one_of ws) (shown w))
-not_word ws v.Null h = inl refl
-not_word ws (v.Flag b) h = inl refl
-not_word ws (v.Whole z) h = inl refl
 not_word ws (v.Text s) h = absurd (h s refl)
-not_word ws (v.List ts) h = inl refl
-not_word ws (v.Object m) h = inl refl
+not_word ws w h = inl refl
 
 -- a look that shows no text, where a format is asked
 pub not_format : (ws : List (List ℕ)) (w : View) → ((s : Bor (List ℕ)) → w ≡ v.Text s → ⊥)
     → Among (wrong_kind words.Text) (causes final_tables (format ws false) (shown w))
-not_format ws v.Null h = inl refl
-not_format ws (v.Flag b) h = inl refl
-not_format ws (v.Whole z) h = inl refl
 not_format ws (v.Text s) h = absurd (h s refl)
-not_format ws (v.List ts) h = inl refl
-not_format ws (v.Object m) h = inl refl
+not_format ws w h = inl refl
 
 -- the same where null is a format too
 pub not_format_or_null : (ws : List (List ℕ)) (w : View) → (w ≡ v.Null → ⊥)
     → ((s : Bor (List ℕ)) → w ≡ v.Text s → ⊥)
     → Among (wrong_kind words.TextOrNull) (causes final_tables (format ws true) (shown w))
 not_format_or_null ws v.Null n h = absurd (n refl)
-not_format_or_null ws (v.Flag b) n h = inl refl
-not_format_or_null ws (v.Whole z) n h = inl refl
 not_format_or_null ws (v.Text s) n h = absurd (h s refl)
-not_format_or_null ws (v.List ts) n h = inl refl
-not_format_or_null ws (v.Object m) n h = inl refl
+not_format_or_null ws w n h = inl refl
 
 -- a look that shows neither a text nor a whole number
 pub not_code : (w : View) → ((s : Bor (List ℕ)) → w ≡ v.Text s → ⊥) → ((z : ℤ) → w ≡ v.Whole z → ⊥)
     → Among (wrong_kind words.TextOrWhole) (causes final_tables status_code (shown w))
-not_code v.Null h g = inl refl
-not_code (v.Flag b) h g = inl refl
 not_code (v.Whole z) h g = absurd (g z refl)
 not_code (v.Text s) h g = absurd (h s refl)
-not_code (v.List ts) h g = inl refl
-not_code (v.Object m) h g = inl refl
+not_code w h g = inl refl
 
 -- a number that is not within the limits
 pub outside : (f : Fault) (l : Limits) (z : ℤ) → f.place.items ≡ [] → f.cause ≡ NotAllowed → within l z ≡ false
@@ -138,9 +121,5 @@ tree_in f = null
 
 pub word_read : {X : Type 0} (word : X → List ℕ) (ws : List (List ℕ)) (x : X) (t : Tree)
     → Reads (word_form word) x (one_of ws) t → t ≡ text (word x)
-word_read word ws x null h = absurd (true≢false (sym h.0))
-word_read word ws x (flag b) h = absurd (true≢false (sym h.0))
-word_read word ws x (whole z) h = absurd (true≢false (sym h.0))
 word_read word ws x (text s) h = ap tree_in h.1
-word_read word ws x (list ts) h = absurd (true≢false (sym h.0))
-word_read word ws x (object ms) h = absurd (true≢false (sym h.0))
+word_read word ws x t h = absurd (true≢false (sym h.0))

@@ -1,22 +1,17 @@
 -- How many looks there are before the one that a sound kind takes itself.
-use Rattle.std.proofs.Common.{◌≡◌, ◌+◌, ◌≤◌, true, refl, sym, subst, lit≤}
+use Rattle.std.proofs.Common.{◌≡◌, ◌+◌, ◌≤◌, true, sym, subst, lit≤}
 use Rattle.std.proofs.lemmas.Bool.{and_parts}
-use Rattle.openapi_tables.specs.Kind.{Kind, any_text, any_flag, number, null_or, map_of, by, tagged, ref_to, a_schema}
+use Rattle.openapi_tables.specs.Kind.{Kind, any_text, null_or, by, ref_to}
 use Rattle.openapi_tables.specs.Sound.{sound, may_be_null, under_ref}
 use Rattle.openapi_tables.specs.Tables.{final_tables}
 use Rattle.openapi_rows.specs.Gives.{looks}
 
 looks_at_scalar : (k : Kind) → may_be_null k ≡ true → looks k ≡ 0
-looks_at_scalar any_text h = refl
-looks_at_scalar any_flag h = refl
-looks_at_scalar (number l) h = refl
+looks_at_scalar any_text h = cc
 looks_at_scalar k h = cc
 
 looks_at_item : (k : Kind) → under_ref final_tables k ≡ true → looks k ≡ 0
-looks_at_item (by i) h = refl
-looks_at_item (tagged n cs) h = refl
-looks_at_item (map_of k) h = refl
-looks_at_item a_schema h = refl
+looks_at_item (by i) h = cc
 looks_at_item k h = cc
 
 -- they are two at most: one for a reference, or one for a flag where a schema may stand

@@ -1,5 +1,6 @@
 -- What a writer returned, seen from the value that it writes a part of.
-use Rattle.std.proofs.Common.{◌≡◌, ℕ, suc, arith, Bool, true, false, List, [], ◌∷◌, ◌++◌, map, Some, Result, Ok, Err, OnOk, IfErr, refl, sym, ap, ◌∙◌, subst, inl, inr}
+use Rattle.std.proofs.Common.{◌≡◌, ℕ, suc, arith, Bool, true, false, List, [], ◌∷◌, ◌++◌, map, Some, Result, Ok, Err}
+use Rattle.std.proofs.Common.{OnOk, IfErr, refl, sym, ap, ◌∙◌, subst, inl, inr}
 use Rattle.std.specs.Prelude.{◌↔◌, ◌==◌}
 use Rattle.std.proofs.Common.{length}
 use Rattle.std.proofs.Math.Dec.{eqb-suc-zero}
@@ -8,68 +9,13 @@ use Rattle.openapi_node.specs.Fault.{IsMemory, GoesUp, place_of, step_of}
 use Rattle.openapi_node.specs.Place.{Step, Place, named}
 use Rattle.openapi_node.specs.Tree.{Tree}
 use Rattle.openapi_node.specs.declared.fault.Cause.{Cause}
-use Rattle.openapi_node.specs.declared.fault.Cause.TheVariants.{
-  Missing,
-  MissingEither,
-  WrongKind,
-  NotAllowed,
-  UnknownVariant,
-  NameNotWritable,
-  NotWhole,
-  Memory,
-}
+use Rattle.openapi_node.specs.declared.fault.Cause.TheVariants.{Missing, MissingEither, WrongKind, NotAllowed}
+use Rattle.openapi_node.specs.declared.fault.Cause.TheVariants.{UnknownVariant, NameNotWritable, NotWhole, Memory}
 use Rattle.openapi_node.specs.declared.fault.Fault.{Fault}
-use Rattle.openapi_tables.specs.Kind.{
-  Kind,
-  any_text,
-  any_flag,
-  number,
-  any_tree,
-  one_of,
-  format,
-  null_or,
-  list_of,
-  map_of,
-  by,
-  tagged,
-  ref_to,
-  flag_or_schema,
-  a_schema,
-  a_schema_kind,
-  status_code,
-  Mode,
-  required,
-  optional,
-  nullable,
-  listed,
-  flagged,
-  styled,
-  formatted,
-  row,
-}
+use Rattle.openapi_tables.specs.Kind.{Kind, any_text, Mode, optional, listed, row}
 use Rattle.openapi_tables.specs.Tables.{final_tables}
-use Rattle.openapi_tables.specs.Form.{
-  Form,
-  absent,
-  leaf,
-  of_code,
-  known,
-  other,
-  unset,
-  reference,
-  an_item,
-  sequence,
-  named as named_form,
-  deciding,
-  fields,
-  forms_of,
-  no_forms,
-  more,
-  no_named,
-  under,
-  f_sequence,
-  f_named,
-}
+use Rattle.openapi_tables.specs.Form.{Form, absent, sequence, named as named_form, forms_of, no_forms, more, no_named}
+use Rattle.openapi_tables.specs.Form.{under, f_sequence, f_named}
 use Rattle.openapi_tables.specs.Print.{print, is_silent, bare}
 use Rattle.openapi_tables.specs.Unwritable.{unwritable, bare_lost}
 use Rattle.openapi_tables.specs.Proper.{is_absent}
@@ -113,17 +59,7 @@ loses_above s f ps qs leads h = goes_up s h.0 f ps qs h.1 leads h.2
 -- a value that is there is written
 pub not_silent : (f : Form) → is_absent f ≡ false → is_silent optional f ≡ false
 not_silent absent h = cc
-not_silent (leaf t) h = refl
-not_silent (of_code c) h = refl
-not_silent (known s) h = refl
-not_silent (other s) h = refl
-not_silent unset h = refl
-not_silent (reference s) h = refl
-not_silent (an_item f) h = refl
-not_silent (sequence fs) h = refl
-not_silent (named_form es) h = refl
-not_silent (deciding n f) h = refl
-not_silent (fields c fs) h = refl
+not_silent f h = refl
 
 -- the value of a row, written behind the members that are there
 module _ (ss : List Slot) (n : List ℕ) (m : Mode) (k : Kind) (f : Form)
@@ -164,98 +100,24 @@ below (Err f) s ps m = (f, record { keeps_memory = λ h. h; otherwise = inl m },
 -- an empty list or map loses nothing
 empty_list : (k : Kind) → bare_lost final_tables (f_sequence []) k ≡ []
 empty_list any_text = refl
-empty_list any_flag = refl
-empty_list (number w) = refl
-empty_list any_tree = refl
-empty_list (one_of ws) = refl
-empty_list (format ws b) = refl
-empty_list (null_or k) = refl
-empty_list (list_of k) = refl
-empty_list (map_of k) = refl
-empty_list (by i) = refl
-empty_list (tagged n cs) = refl
-empty_list (ref_to k) = refl
-empty_list flag_or_schema = refl
-empty_list a_schema = refl
-empty_list a_schema_kind = refl
-empty_list status_code = refl
+empty_list k = refl
 
 empty_map : (k : Kind) → bare_lost final_tables (f_named []) k ≡ []
 empty_map any_text = refl
-empty_map any_flag = refl
-empty_map (number w) = refl
-empty_map any_tree = refl
-empty_map (one_of ws) = refl
-empty_map (format ws b) = refl
-empty_map (null_or k) = refl
-empty_map (list_of k) = refl
-empty_map (map_of k) = refl
-empty_map (by i) = refl
-empty_map (tagged n cs) = refl
-empty_map (ref_to k) = refl
-empty_map flag_or_schema = refl
-empty_map a_schema = refl
-empty_map a_schema_kind = refl
-empty_map status_code = refl
+empty_map k = refl
 
 empty_lost : (k : Kind) (f : Form) → is_silent listed f ≡ true → unwritable final_tables k f ≡ []
-empty_lost k absent h = cc
-empty_lost k (leaf t) h = cc
-empty_lost k (of_code c) h = cc
-empty_lost k (known s) h = cc
-empty_lost k (other s) h = cc
-empty_lost k unset h = cc
-empty_lost k (reference s) h = cc
-empty_lost k (an_item f) h = cc
 empty_lost k (sequence no_forms) h = empty_list (bare k)
-empty_lost k (sequence (more f fs)) h = cc
 empty_lost k (named_form no_named) h = empty_map (bare k)
+empty_lost k (sequence (more f fs)) h = cc
 empty_lost k (named_form (under n f es)) h = cc
-empty_lost k (deciding n f) h = cc
-empty_lost k (fields c fs) h = cc
+empty_lost k f h = cc
 
 -- what a row does not write loses nothing
 pub silent_lost : (m : Mode) (k : Kind) (f : Form) → is_silent m f ≡ true → unwritable final_tables k f ≡ []
 silent_lost listed k f h = empty_lost k f h
-silent_lost required k f h = cc
-silent_lost nullable k f h = cc
-silent_lost (styled s) k f h = cc
-silent_lost optional k absent h = refl
-silent_lost optional k (leaf t) h = cc
-silent_lost optional k (of_code c) h = cc
-silent_lost optional k (known s) h = cc
-silent_lost optional k (other s) h = cc
-silent_lost optional k unset h = cc
-silent_lost optional k (reference s) h = cc
-silent_lost optional k (an_item f) h = cc
-silent_lost optional k (sequence fs) h = cc
-silent_lost optional k (named_form es) h = cc
-silent_lost optional k (deciding n f) h = cc
-silent_lost optional k (fields c fs) h = cc
-silent_lost flagged k (leaf t) h = refl
-silent_lost flagged k absent h = cc
-silent_lost flagged k (of_code c) h = cc
-silent_lost flagged k (known s) h = cc
-silent_lost flagged k (other s) h = cc
-silent_lost flagged k unset h = cc
-silent_lost flagged k (reference s) h = cc
-silent_lost flagged k (an_item f) h = cc
-silent_lost flagged k (sequence fs) h = cc
-silent_lost flagged k (named_form es) h = cc
-silent_lost flagged k (deciding n f) h = cc
-silent_lost flagged k (fields c fs) h = cc
-silent_lost formatted k unset h = refl
-silent_lost formatted k absent h = cc
-silent_lost formatted k (leaf t) h = cc
-silent_lost formatted k (of_code c) h = cc
-silent_lost formatted k (known s) h = cc
-silent_lost formatted k (other s) h = cc
-silent_lost formatted k (reference s) h = cc
-silent_lost formatted k (an_item f) h = cc
-silent_lost formatted k (sequence fs) h = cc
-silent_lost formatted k (named_form es) h = cc
-silent_lost formatted k (deciding n f) h = cc
-silent_lost formatted k (fields c fs) h = cc
+silent_lost m k absent h = cc
+silent_lost m k f h = cc
 
 -- a list without elements, and a map without entries, are left out
 pub none_listed : {X : Type 0} (view : X → Form) (xs : List X)

@@ -1,5 +1,6 @@
 -- Maps, by what is read and written of their entries.
-use Rattle.std.proofs.Common.{◌≡◌, ℕ, ◌+◌, Bool, true, ◌&&◌, List, [], ◌∷◌, Result, Ok, Err, refl, sym, ap, ◌∙◌, subst, inl, inr, ⊎_elim}
+use Rattle.std.proofs.Common.{◌≡◌, ℕ, ◌+◌, Bool, true, ◌&&◌, List, [], ◌∷◌, Result, Ok, Err, refl, sym, ap, ◌∙◌, subst}
+use Rattle.std.proofs.Common.{inl, inr, ⊎_elim}
 use Rattle.std.proofs.lemmas.Bool.{and_parts}
 use Rattle.openapi_map.specs.Entries.{Entries}
 use Rattle.openapi_node.specs.Place.{Place, named}
@@ -22,15 +23,8 @@ use Rattle.openapi_tables.proofs.ByRowLaws.{among_left, among_right, among_below
 use Rattle.openapi_tables.proofs.FormLaws.{on_pair, show, of_named-of}
 use Rattle.openapi_tables.proofs.PrintLaws.{print-map, entry_of}
 use Rattle.openapi_tables.proofs.SlotWriting.{below_each}
-use Rattle.openapi_rows.specs.Entries.{
-  chosen,
-  entries_size,
-  GivesEntries,
-  written_entries,
-  all_whole,
-  LosesEntry,
-  LosesEntries,
-}
+use Rattle.openapi_rows.specs.Entries.{chosen, entries_size, GivesEntries, written_entries, all_whole, LosesEntry}
+use Rattle.openapi_rows.specs.Entries.{LosesEntries}
 use Rattle.openapi_rows.specs.Forms.{map_form}
 use Rattle.openapi_rows.specs.Gives.{FailsBelow, Gives, Loses}
 use Rattle.openapi_rows.proofs.Below.{memory_fails, fails_above}

@@ -5,16 +5,8 @@ use Rattle.openapi_node.specs.Place.{Place}
 use Rattle.openapi_node.specs.Tree.{Tree, null, flag, whole, text}
 use Rattle.openapi_node.specs.View.{shown}
 use Rattle.openapi_node.specs.declared.fault.Cause.{Cause}
-use Rattle.openapi_node.specs.declared.fault.Cause.TheVariants.{
-  Missing,
-  MissingEither,
-  WrongKind,
-  NotAllowed,
-  UnknownVariant,
-  NameNotWritable,
-  NotWhole,
-  Memory,
-}
+use Rattle.openapi_node.specs.declared.fault.Cause.TheVariants.{Missing, MissingEither, WrongKind, NotAllowed}
+use Rattle.openapi_node.specs.declared.fault.Cause.TheVariants.{UnknownVariant, NameNotWritable, NotWhole, Memory}
 use Rattle.openapi_node.specs.declared.fault.Expected.{Expected}
 use Rattle.openapi_node.specs.declared.fault.Expected.TheVariants as words
 use Rattle.openapi_node.specs.declared.fault.Fault.{Fault}
@@ -23,21 +15,7 @@ use Rattle.openapi_node.specs.declared.node.View.{View}
 use Rattle.openapi_node.specs.declared.node.View.TheVariants as v
 use Rattle.openapi_tables.specs.Kind.{Kind, any_text, any_flag, number, null_or, within}
 use Rattle.openapi_tables.specs.Tables.{final_tables}
-use Rattle.openapi_tables.specs.Form.{
-  Form,
-  absent,
-  leaf,
-  of_code,
-  known,
-  other,
-  unset,
-  reference,
-  an_item,
-  sequence,
-  named,
-  deciding,
-  fields,
-}
+use Rattle.openapi_tables.specs.Form.{Form, deciding}
 use Rattle.openapi_tables.specs.Read.{tree_of_root}
 use Rattle.openapi_tables.specs.Sound.{may_be_null}
 use Rattle.openapi_tables.specs.Faults as faults
@@ -53,18 +31,8 @@ use Rattle.openapi_rows.proofs.Below.{wrong_here}
 
 -- what is lost of a form is lost where null may stand too
 lost-null_or : (k : Kind) (f : Form) → unwritable final_tables (null_or k) f ≡ unwritable final_tables k f
-lost-null_or k absent = refl
-lost-null_or k (leaf t) = refl
-lost-null_or k (of_code c) = refl
-lost-null_or k (known s) = refl
-lost-null_or k (other s) = refl
-lost-null_or k unset = refl
-lost-null_or k (reference s) = refl
-lost-null_or k (an_item f) = refl
-lost-null_or k (sequence fs) = refl
-lost-null_or k (named es) = refl
 lost-null_or k (deciding n f) = lost-null_or k f
-lost-null_or k (fields c fs) = refl
+lost-null_or k f = refl
 
 -- what is written of a value is written where null may stand too
 pub written_or_null : (k : Kind) (f : Form) (r : Result Node Fault) → WrittenAs k f r → WrittenAs (null_or k) f r

@@ -15,16 +15,11 @@ use Rattle.openapi_rows.specs.Presence.{AtMember}
 pub at_member : {X : Type 0} → (view : X → Form) (n : List ℕ) (k : Kind) (t : Tree) (r : Result X Fault)
     (s : Result (Option X) Fault) → AtMember n r s → Gives view r k t → GivesMember view s k n (Some t)
 at_member view n k t (Ok x) (Ok (Some y)) e h = (h.0, h.1 ∙ ap view e)
-at_member view n k t (Ok x) (Ok None) e h = absurd e
-at_member view n k t (Ok x) (Err f) e h = absurd e
-at_member view n k t (Err d) (Ok y) e h = absurd e
 at_member view n k t (Err d) (Err f) e h = (d, e, h)
+at_member view n k t r (Ok None) e h = absurd e
+at_member view n k t r s e h = absurd e
 
 -- a look that shows something other than null
 pub shown_there : (w : View) → (w ≡ v.Null → ⊥) → is_null (shown w) ≡ false
 shown_there v.Null h = absurd (h refl)
-shown_there (v.Flag b) h = refl
-shown_there (v.Whole z) h = refl
-shown_there (v.Text s) h = refl
-shown_there (v.List ts) h = refl
-shown_there (v.Object m) h = refl
+shown_there w h = refl

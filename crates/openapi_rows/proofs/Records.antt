@@ -10,26 +10,7 @@ use Rattle.openapi_node.specs.declared.fault.Fault.{Fault}
 use Rattle.openapi_node.specs.declared.node.Node.{Node}
 use Rattle.openapi_node.specs.declared.node.View.{View}
 use Rattle.openapi_node.specs.declared.node.View.TheVariants as v
-use Rattle.openapi_tables.specs.Kind.{
-  Kind,
-  any_text,
-  any_flag,
-  number,
-  any_tree,
-  one_of,
-  format,
-  null_or,
-  list_of,
-  map_of,
-  by,
-  tagged,
-  ref_to,
-  flag_or_schema,
-  a_schema,
-  a_schema_kind,
-  status_code,
-  TableName,
-}
+use Rattle.openapi_tables.specs.Kind.{Kind, by, TableName}
 use Rattle.openapi_tables.specs.Tables.{final_tables}
 use Rattle.openapi_tables.specs.Members.{plain, rows_of}
 use Rattle.openapi_tables.specs.Form.{Form}
@@ -49,21 +30,7 @@ use Rattle.openapi_rows.proofs.Below.{not_object}
 -- a kind that is an object by a table
 pub table_of : (P : Kind → Type 0) (k : Kind) → is_by k ≡ true → ((i : TableName) → P (by i)) → P k
 table_of P (by i) b h = h i
-table_of P any_text b h = cc
-table_of P any_flag b h = cc
-table_of P (number w) b h = cc
-table_of P any_tree b h = cc
-table_of P (one_of ws) b h = cc
-table_of P (format ws c) b h = cc
-table_of P (null_or k) b h = cc
-table_of P (list_of k) b h = cc
-table_of P (map_of k) b h = cc
-table_of P (tagged n cs) b h = cc
-table_of P (ref_to k) b h = cc
-table_of P flag_or_schema b h = cc
-table_of P a_schema b h = cc
-table_of P a_schema_kind b h = cc
-table_of P status_code b h = cc
+table_of P k b h = cc
 
 -- what the rows give is what the object gives
 pub record_gives : {X : Type 0} (rows : X → List Form) (r : Result X Fault) (k : Kind) (ms : Members) → is_by k ≡ true

@@ -7,16 +7,8 @@ use Rattle.openapi_node.specs.Place.{Place}
 use Rattle.openapi_node.specs.Tree.{Tree, null, flag, whole, text, list, object, Members, find}
 use Rattle.openapi_node.specs.View.{shown}
 use Rattle.openapi_node.specs.declared.fault.Cause.{Cause}
-use Rattle.openapi_node.specs.declared.fault.Cause.TheVariants.{
-  Missing,
-  MissingEither,
-  WrongKind,
-  NotAllowed,
-  UnknownVariant,
-  NameNotWritable,
-  NotWhole,
-  Memory,
-}
+use Rattle.openapi_node.specs.declared.fault.Cause.TheVariants.{Missing, MissingEither, WrongKind, NotAllowed}
+use Rattle.openapi_node.specs.declared.fault.Cause.TheVariants.{UnknownVariant, NameNotWritable, NotWhole, Memory}
 use Rattle.openapi_node.specs.declared.fault.Fault.{Fault}
 use Rattle.openapi_node.specs.declared.node.Node.{Node}
 use Rattle.openapi_node.specs.declared.node.View.{View}
@@ -78,24 +70,16 @@ module _ (k : Kind) where
       ap (λ r. reference_or r (conforms final_tables k (object ms))) (reference_of (root_conforms final_tables) ms)
 
   form_or : (t : Tree) → form final_tables (ref_to k) t ≡ reference_or_item (reference_in t) (form final_tables k t)
-  form_or null = refl
-  form_or (flag b) = refl
-  form_or (whole z) = refl
-  form_or (text s) = refl
-  form_or (list ts) = refl
   form_or (object ms) =
       ap (λ r. reference_or_item r (form final_tables k (object ms))) (reference_of (root_form final_tables) ms)
+  form_or t = refl
 
   asked_or : (t : Tree) → reference_in t ≡ None → (a : Asking) → Among a (asked final_tables k t)
       → Among a (asked final_tables (ref_to k) t)
-  asked_or null n a h = inr h
-  asked_or (flag b) n a h = inr h
-  asked_or (whole z) n a h = inr h
-  asked_or (text s) n a h = inr h
-  asked_or (list ts) n a h = inr h
   asked_or (object ms) n a h =
       inr (subst (λ r. Among a (unless_reference r (asked final_tables k (object ms))))
       (sym (reference_of (root_asks final_tables) ms ∙ n)) h)
+  asked_or t n a h = inr h
 
   module _ {X : Type 0} (form_of : X → Form) (t : Tree) where
     -- a reference
@@ -119,12 +103,8 @@ module _ (k : Kind) where
 
 -- a look that shows no object shows no reference
 pub no_reference : (w : View) → ((m : Bor (OrderedMap Node)) → w ≡ view.Object m → ⊥) → reference_in (shown w) ≡ None
-no_reference view.Null h = refl
-no_reference (view.Flag b) h = refl
-no_reference (view.Whole z) h = refl
-no_reference (view.Text s) h = refl
-no_reference (view.List ts) h = refl
 no_reference (view.Object m) h = absurd (h m refl)
+no_reference w h = refl
 
 -- what stands under a name
 pub held_found : (n : List ℕ) (ms : Members) (u : Tree) → find n ms ≡ Some u → held n (members_list ms) ≡ u
@@ -135,9 +115,5 @@ held_missing n ms e = ap first_tree (own-missing n required any_tree ms e)
 
 -- a look that shows no text
 pub no_text_in : (w : View) → ((s : Bor (List ℕ)) → w ≡ view.Text s → ⊥) → text_in (shown w) ≡ None
-no_text_in view.Null h = refl
-no_text_in (view.Flag b) h = refl
-no_text_in (view.Whole z) h = refl
 no_text_in (view.Text s) h = absurd (h s refl)
-no_text_in (view.List ts) h = refl
-no_text_in (view.Object m) h = refl
+no_text_in w h = refl

@@ -1,37 +1,11 @@
 -- What a row of a name reads, by what is read of the member of that name.
-use Rattle.std.proofs.Common.{◌≡◌, ℕ, Bool, true, false, ◌&&◌, ◌||◌, cond, List, Option, Some, None, Result, Ok, Err, refl, sym, ap, ◌∙◌, true≢false, if◌then◌else◌}
+use Rattle.std.proofs.Common.{◌≡◌, ℕ, Bool, true, false, ◌&&◌, ◌||◌, cond, List, Option, Some, None, Result, Ok, Err}
+use Rattle.std.proofs.Common.{refl, sym, ap, ◌∙◌, true≢false, if◌then◌else◌}
 use Rattle.std.proofs.lemmas.Bool.{and_parts}
 use Rattle.openapi_node.specs.Place.{named}
-use Rattle.openapi_node.specs.Tree.{Tree, null, flag, whole, text, list, object, Members, find}
+use Rattle.openapi_node.specs.Tree.{Tree, null, object, Members, find}
 use Rattle.openapi_node.specs.declared.fault.Fault.{Fault}
-use Rattle.openapi_tables.specs.Kind.{
-  Kind,
-  any_text,
-  any_flag,
-  number,
-  any_tree,
-  one_of,
-  format,
-  null_or,
-  list_of,
-  map_of,
-  by,
-  tagged,
-  ref_to,
-  flag_or_schema,
-  a_schema,
-  a_schema_kind,
-  status_code,
-  Mode,
-  required,
-  optional,
-  nullable,
-  listed,
-  flagged,
-  styled,
-  formatted,
-  row,
-}
+use Rattle.openapi_tables.specs.Kind.{Kind, any_flag, format, list_of, map_of, Mode, required, optional, nullable, listed, flagged, styled, formatted, row}
 use Rattle.openapi_tables.specs.Tables.{final_tables}
 use Rattle.openapi_tables.specs.Members.{is_null}
 use Rattle.openapi_tables.specs.Conforms.{conforms, skips_null, may_miss}
@@ -39,7 +13,8 @@ use Rattle.openapi_tables.specs.Form.{Form, absent}
 use Rattle.openapi_tables.specs.Read.{form, default_of}
 use Rattle.openapi_tables.specs.Sound.{row_sound, mode_fits, refuses_null, sound}
 use Rattle.openapi_tables.specs.ByRow.{row_where, is_named, rows_asked, row_weight, RowGives}
-use Rattle.openapi_tables.proofs.ByRowLaws.{conforms-found, form-found, conforms-missing, form-missing, row_asks, null_refused, where_each, asked_sound}
+use Rattle.openapi_tables.proofs.ByRowLaws.{conforms-found, form-found, conforms-missing, form-missing, row_asks}
+use Rattle.openapi_tables.proofs.ByRowLaws.{null_refused, where_each, asked_sound}
 use Rattle.openapi_tables.proofs.WellMade.{final_sound}
 use Rattle.openapi_rows.specs.Forms.{optional_form}
 use Rattle.openapi_rows.specs.Gives.{Fails, Reads, GivesRow, GivesMember, unless_null}
@@ -55,85 +30,21 @@ weight_of_name n m l k j ms = refl
 null_kept : (m : Mode) (k : Kind) → mode_fits m k ≡ true → skips_null m ≡ false → conforms final_tables k null ≡ true
     → default_of m k ≡ form final_tables k null
 null_kept required k h s e = absurd (true≢false (sym e ∙ null_refused final_tables k h))
-null_kept optional k h s e = cc
-null_kept nullable k h s e = cc
 null_kept listed k h s e = absurd (true≢false (sym e ∙ null_refused final_tables k (lists k h)))
   where
     lists : (k : Kind) → mode_fits listed k ≡ true → refuses_null k ≡ true
     lists (list_of k) h = refl
     lists (map_of k) h = refl
-    lists any_text h = cc
-    lists any_flag h = cc
-    lists (number w) h = cc
-    lists any_tree h = cc
-    lists (one_of ws) h = cc
-    lists (format ws b) h = cc
-    lists (null_or k) h = cc
-    lists (by i) h = cc
-    lists (tagged n cs) h = cc
-    lists (ref_to k) h = cc
-    lists flag_or_schema h = cc
-    lists a_schema h = cc
-    lists a_schema_kind h = cc
-    lists status_code h = cc
-null_kept flagged any_flag h s e = cc
-null_kept flagged any_text h s e = cc
-null_kept flagged (number w) h s e = cc
-null_kept flagged any_tree h s e = cc
-null_kept flagged (one_of ws) h s e = cc
-null_kept flagged (format ws b) h s e = cc
-null_kept flagged (null_or k) h s e = cc
-null_kept flagged (list_of k) h s e = cc
-null_kept flagged (map_of k) h s e = cc
-null_kept flagged (by i) h s e = cc
-null_kept flagged (tagged n cs) h s e = cc
-null_kept flagged (ref_to k) h s e = cc
-null_kept flagged flag_or_schema h s e = cc
-null_kept flagged a_schema h s e = cc
-null_kept flagged a_schema_kind h s e = cc
-null_kept flagged status_code h s e = cc
-null_kept (styled d) (one_of ws) h s e = cc
-null_kept (styled d) any_flag h s e = cc
-null_kept (styled d) any_text h s e = cc
-null_kept (styled d) (number w) h s e = cc
-null_kept (styled d) any_tree h s e = cc
-null_kept (styled d) (format ws b) h s e = cc
-null_kept (styled d) (null_or k) h s e = cc
-null_kept (styled d) (list_of k) h s e = cc
-null_kept (styled d) (map_of k) h s e = cc
-null_kept (styled d) (by i) h s e = cc
-null_kept (styled d) (tagged n cs) h s e = cc
-null_kept (styled d) (ref_to k) h s e = cc
-null_kept (styled d) flag_or_schema h s e = cc
-null_kept (styled d) a_schema h s e = cc
-null_kept (styled d) a_schema_kind h s e = cc
-null_kept (styled d) status_code h s e = cc
+    lists k h = cc
 null_kept formatted (format ws b) h s e = refl
-null_kept formatted any_flag h s e = cc
-null_kept formatted any_text h s e = cc
-null_kept formatted (number w) h s e = cc
-null_kept formatted any_tree h s e = cc
-null_kept formatted (one_of ws) h s e = cc
-null_kept formatted (null_or k) h s e = cc
-null_kept formatted (list_of k) h s e = cc
-null_kept formatted (map_of k) h s e = cc
-null_kept formatted (by i) h s e = cc
-null_kept formatted (tagged n cs) h s e = cc
-null_kept formatted (ref_to k) h s e = cc
-null_kept formatted flag_or_schema h s e = cc
-null_kept formatted a_schema h s e = cc
-null_kept formatted a_schema_kind h s e = cc
-null_kept formatted status_code h s e = cc
+null_kept m any_flag h s e = cc
+null_kept m k h s e = cc
 
 slot_kept : (m : Mode) (k : Kind) (u : Tree) → mode_fits m k ≡ true → skips_null m ≡ false
     → conforms final_tables k u ≡ true
     → cond (is_null u) (default_of m k) (form final_tables k u) ≡ form final_tables k u
 slot_kept m k null h s e = null_kept m k h s e
-slot_kept m k (flag b) h s e = refl
-slot_kept m k (whole z) h s e = refl
-slot_kept m k (text x) h s e = refl
-slot_kept m k (list ts) h s e = refl
-slot_kept m k (object ms) h s e = refl
+slot_kept m k u h s e = refl
 
 -- the row of a name of an object kind
 module _ (o : Kind) (n : List ℕ) (m : Mode) (k : Kind) (ms : Members)

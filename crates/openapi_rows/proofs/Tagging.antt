@@ -1,5 +1,6 @@
 -- Objects whose tag says by which table they are read.
-use Rattle.std.proofs.Common.{◌≡◌, ℕ, ◌+◌, ◌≤◌, Bool, true, false, cond, ◌&&◌, ◌||◌, List, [], ◌∷◌, ◌++◌, Option, Some, None, Result, Ok, Err, OnOk, IfOk, refl, sym, ap, ◌∙◌, subst, arith, inl, inr}
+use Rattle.std.proofs.Common.{◌≡◌, ℕ, ◌+◌, ◌≤◌, Bool, true, false, cond, ◌&&◌, ◌||◌, List, [], ◌∷◌, ◌++◌, Option, Some}
+use Rattle.std.proofs.Common.{None, Result, Ok, Err, OnOk, IfOk, refl, sym, ap, ◌∙◌, subst, arith, inl, inr}
 use Rattle.std.proofs.lemmas.Bool.{and_parts}
 use Rattle.std.specs.Borrow.{Bor}
 use Rattle.openapi_map.specs.Entries.{Entries, get}
@@ -24,9 +25,8 @@ use Rattle.openapi_tables.specs.Read.{form, root_form, chosen_form, slot}
 use Rattle.openapi_tables.specs.Print.{print, one}
 use Rattle.openapi_tables.specs.Unwritable.{unwritable}
 use Rattle.openapi_tables.specs.Sound.{sound, rows_apart}
-use Rattle.openapi_tables.specs.Faults.{causes, wrong_kind}
-use Rattle.openapi_tables.specs.Faults.{Asking, missing, tag_misses, words, tag_table, root_asks, asked, asks_own}
-use Rattle.openapi_tables.specs.Faults.{asks_tag, below}
+use Rattle.openapi_tables.specs.Faults.{causes, wrong_kind, Asking, missing, tag_misses, words, tag_table, root_asks}
+use Rattle.openapi_tables.specs.Faults.{asked, asks_own, asks_tag, below}
 use Rattle.openapi_tables.specs.Laws.{Among}
 use Rattle.openapi_tables.specs.ByRow.{AreRows, rows_weight, row_weight, Broken, StepsTo, asking, is_named}
 use Rattle.openapi_tables.specs.Slots.{Slot, slot_where, before, through, slots_apart, slots_lost, IsWritten}
@@ -224,12 +224,8 @@ module _ (ss : List Slot) (n v : List ℕ) (at : slot_where (is_named n) ss ≡ 
 -- a look that shows no object
 pub not_tagged : (n : List ℕ) (cs : List Case) (w : View) → ((m : Bor (OrderedMap Node)) → w ≡ v.Object m → ⊥)
     → Among (wrong_kind expected.Object) (causes final_tables (tagged n cs) (shown w))
-not_tagged n cs v.Null h = inl refl
-not_tagged n cs (v.Flag b) h = inl refl
-not_tagged n cs (v.Whole z) h = inl refl
-not_tagged n cs (v.Text s) h = inl refl
-not_tagged n cs (v.List ts) h = inl refl
 not_tagged n cs (v.Object m) h = absurd (h m refl)
+not_tagged n cs w h = inl refl
 
 -- the tag alone weighs at most what the members do
 pub tag_weight : (n : List ℕ) (k : Kind) (ms : Members) → row_weight (row n required k) ms ≤ members_size ms

@@ -3,8 +3,8 @@ use Rattle.openapi_tables.proofs.ListLaws.{every_same}
 use Rattle.std.proofs.Common.{ℕ, Bool, true, false, not, cond, ◌&&◌, ◌||◌, List, [], ◌∷◌, ◌≡◌, refl, sym, ap, ◌∙◌}
 use Rattle.std.proofs.Common.{subst, codes}
 use Rattle.std.proofs.lemmas.Bool.{and_parts}
-use Rattle.openapi_tables.specs.Kind.{Kind, Tables, Row, a_schema, class, constant, either, flagged, formatted, list_of}
-use Rattle.openapi_tables.specs.Kind.{listed, map_of, nullable, optional, ref_to, required, row, styled}
+use Rattle.openapi_tables.specs.Kind.{Kind, Tables, Row, a_schema, class, constant, either, list_of, listed, map_of}
+use Rattle.openapi_tables.specs.Kind.{optional, ref_to, required, row}
 use Rattle.openapi_tables.proofs.Firm.{writes_own}
 use Rattle.openapi_tables.proofs.FormLaws.{show}
 use Rattle.openapi_tables.proofs.ListLaws.{Each, each_under, every_each}
@@ -16,38 +16,26 @@ use Rattle.openapi_tables.proofs.RowWrites.{SlotsProper}
 use Rattle.openapi_tables.proofs.SlotLaws.{not_null}
 use Rattle.openapi_tables.proofs.TreeLaws.{null_tree}
 use Rattle.openapi_tables.proofs.SortLaws.{Each_behind, Rewrites, rewrites}
-use Rattle.openapi_tables.proofs.Taken.{Taken, as_fields, as_inner, as_item, as_known, as_leaf, as_list, as_map}
-use Rattle.openapi_tables.proofs.Taken.{as_number_code, as_other, as_reference, as_schema, as_text_code, as_unset}
-use Rattle.openapi_tables.proofs.Taken.{taken}
+use Rattle.openapi_tables.proofs.Taken.{Taken, as_inner, as_schema, taken}
 use Rattle.openapi_tables.specs.Form.{Form, absent, leaf, more, named, no_forms, no_named, sequence, under}
 use Rattle.openapi_tables.specs.Lists.{each, every, has, join}
-use Rattle.openapi_tables.specs.Members.{Sort, all_of_sort, allowed, any_of_sort, any_sort, array_sort, boolean_sort}
-use Rattle.openapi_tables.specs.Members.{entries_pass, first_tree, further, held, integer_sort, is_null}
-use Rattle.openapi_tables.specs.Members.{is_null_or_flag, is_null_or_signed, is_null_or_text, is_null_or_whole}
-use Rattle.openapi_tables.specs.Members.{kind_names, meets, not_sort, number_sort, object_sort, one_of_sort, own}
-use Rattle.openapi_tables.specs.Members.{possible_sort, row_name, sort_of, string_sort}
+use Rattle.openapi_tables.specs.Members.{Sort, all_of_sort, allowed, any_of_sort, any_sort, boolean_sort, entries_pass}
+use Rattle.openapi_tables.specs.Members.{first_tree, further, held, integer_sort, is_null, is_null_or_flag}
+use Rattle.openapi_tables.specs.Members.{is_null_or_signed, is_null_or_text, is_null_or_whole, kind_names, meets}
+use Rattle.openapi_tables.specs.Members.{not_sort, number_sort, one_of_sort, own, possible_sort, row_name, sort_of}
+use Rattle.openapi_tables.specs.Members.{string_sort}
 use Rattle.openapi_tables.specs.Print.{clean, is_silent, one, print, row_print}
 use Rattle.openapi_tables.specs.Proper.{face_proper, proper, row_proper}
 use Rattle.openapi_tables.specs.Read.{form, slot_of_own}
 use Rattle.openapi_tables.specs.Sound.{mode_fits, row_sound, rows_apart, sound}
 use Rattle.openapi_tables.specs.Tables.{any_rows}
-use Rattle.openapi_node.specs.Tree.{Tree, flag, list, null, object, text, whole}
+use Rattle.openapi_node.specs.Tree.{Tree, null}
 use Rattle.openapi_tables.specs.Tree.{Entry}
 
 never_absent : (T : Tables) (k : Kind) (t : Tree) (f : Form) → Taken T k t f → is_silent optional f ≡ false
-never_absent T k t f (as_leaf j u e) = refl
-never_absent T k t f (as_known ws b s e) = refl
-never_absent T k t f (as_other ws b s e) = refl
-never_absent T k t f (as_unset ws b) = refl
-never_absent T k t f (as_text_code s c e) = refl
-never_absent T k t f (as_number_code n e) = refl
-never_absent T k t f (as_list j ts) = refl
-never_absent T k t f (as_map j ms) = refl
-never_absent T k t f (as_fields j c ms e) = refl
-never_absent T k t f (as_reference j u s e) = refl
-never_absent T k t f (as_item j u x e y) = refl
 never_absent T k t f (as_schema u x e y) = never_absent T (ref_to a_schema) u x y
 never_absent T k t f (as_inner j u x y) = never_absent T j u x y
+never_absent T k t f x = refl
 
 -- trees that are null alike, and the same where their kind is plain
 abbrev Alike : Kind → Tree → Tree → Type 0
@@ -84,17 +72,9 @@ listed_row : (T : Tables) (n : List ℕ) (k : Kind) (f : Form) → mode_fits lis
 listed_row T n (list_of j) (sequence no_forms) s h = (refl, λ x. refl)
 listed_row T n (list_of j) (sequence (more f fs)) s h =
     (refl, λ x. clean-plain T (print T (list_of j) (sequence (more f fs))) (list_of j) x)
-listed_row T n (list_of j) absent s h = cc
-listed_row T n (list_of j) (leaf null) s h = cc
-listed_row T n (list_of j) (leaf (flag b)) s h = cc
-listed_row T n (list_of j) (leaf t) s h = cc
-listed_row T n (list_of j) f s h = cc
 listed_row T n (map_of j) (named no_named) s h = (refl, λ x. refl)
 listed_row T n (map_of j) (named (under m f es)) s h = (refl, λ x. cc)
-listed_row T n (map_of j) (leaf null) s h = cc
-listed_row T n (map_of j) (leaf (flag b)) s h = cc
-listed_row T n (map_of j) (leaf t) s h = cc
-listed_row T n (map_of j) f s h = cc
+listed_row T n k (leaf null) s h = cc
 listed_row T n k f s h = cc
 
 is_open : Row → Bool
@@ -126,13 +106,7 @@ row_alike T l' l (row n listed k) f o s h e r =
     (subst (λ x. Alike k (first_tree (rewritten T (row n listed k) x)) (first_tree x)) (sym e)
     (listed_row T n k f (and_parts (mode_fits listed k) (sound T k) s).0 h))
 row_alike T l' l (row n required k) f o s h e r = cc
-row_alike T l' l (row n nullable k) f o s h e r = cc
-row_alike T l' l (row n flagged k) f o s h e r = cc
-row_alike T l' l (row n (styled u) k) f o s h e r = cc
-row_alike T l' l (row n formatted k) f o s h e r = cc
-row_alike T l' l (either a j b k) f o s h e r = cc
-row_alike T l' l (class c k) f o s h e r = cc
-row_alike T l' l (constant n v) f o s h e r = cc
+row_alike T l' l w f o s h e r = cc
 
 rows_alike : (T : Tables) (l' l : List (Entry Tree)) (ws : List Row) (fs : List Form)
     → Each (λ w. is_open w ≡ true) ws → Each (λ w. row_sound T w ≡ true) ws → SlotsProper T ws fs → Found T l ws fs
@@ -147,9 +121,7 @@ NullAlike l' l w = is_null (held (row_name w) l') ≡ is_null (held (row_name w)
 
 null_alike : (l' l : List (Entry Tree)) (w : Row) → RowAlike l' l w → NullAlike l' l w
 null_alike l' l (row n m k) h = h.0
-null_alike l' l (either a j b k) h = absurd h
-null_alike l' l (class c k) h = absurd h
-null_alike l' l (constant n v) h = absurd h
+null_alike l' l w h = absurd h
 
 abbrev chain : Bool → Bool → Bool → Bool → Sort
 chain a b c d = cond (not a) one_of_sort
@@ -182,13 +154,7 @@ further_alike integer_sort l' l a b c d =
     && is_null_or_signed (held (codes "multipleOf") l) && is_null_or_signed (held (codes "minimum") l)
     && is_null_or_signed t) d
 further_alike boolean_sort l' l a b c d = ap (entries_pass is_null_or_flag) a
-further_alike object_sort l' l a b c d = refl
-further_alike array_sort l' l a b c d = refl
-further_alike one_of_sort l' l a b c d = refl
-further_alike all_of_sort l' l a b c d = refl
-further_alike any_of_sort l' l a b c d = refl
-further_alike not_sort l' l a b c d = refl
-further_alike any_sort l' l a b c d = refl
+further_alike s l' l a b c d = refl
 
 possible_alike : (t : Tree) (l' l : List (Entry Tree))
     → is_null (held (codes "oneOf") l') ≡ is_null (held (codes "oneOf") l)
@@ -204,11 +170,7 @@ possible_alike null l' l a b c d =
     (is_null (held (codes "not") l'))) c
     ∙ ap (λ x. chain (is_null (held (codes "oneOf") l)) (is_null (held (codes "allOf") l))
     (is_null (held (codes "anyOf") l)) x) d
-possible_alike (flag b') l' l a b c d = refl
-possible_alike (whole z) l' l a b c d = refl
-possible_alike (text s) l' l a b c d = refl
-possible_alike (list ts) l' l a b c d = refl
-possible_alike (object ms) l' l a b c d = refl
+possible_alike t l' l a b c d = refl
 
 sort_alike : (l' l : List (Entry Tree)) → Each (RowAlike l' l) any_rows → sort_of l' ≡ sort_of l
 unfolding any_rows

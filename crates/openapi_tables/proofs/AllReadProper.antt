@@ -1,12 +1,10 @@
 -- What is read of a tree that conforms is a proper form: for all kinds and trees.
-use Rattle.std.proofs.Common.{ℕ, Bool, true, false, cond, ◌&&◌, List, Option, Some, None, ◌≡◌, refl}
-use Rattle.std.proofs.Common.{sym, ap, ◌∙◌, subst, codes, nat_le}
+use Rattle.std.proofs.Common.{ℕ, Bool, true, false, cond, ◌&&◌, List, Option, Some, None, ◌≡◌, refl, sym, ap, ◌∙◌}
+use Rattle.std.proofs.Common.{subst, codes, nat_le}
 use Rattle.std.proofs.lemmas.Bool.{and_parts, and_from, both_ways}
-use Rattle.openapi_tables.specs.Kind.{Kind, Tables, Case, Code, TableName, a_schema, a_schema_kind}
-use Rattle.openapi_tables.specs.Kind.{any_flag, any_text, any_tree, by, code, code_of}
-use Rattle.openapi_tables.specs.Kind.{flag_or_schema, format, is_code, list_of}
-use Rattle.openapi_tables.specs.Kind.{map_of, null_or, number, one_of, ref_to}
-use Rattle.openapi_tables.specs.Kind.{schema_data, status_code, status_names, tagged, text_of}
+use Rattle.openapi_tables.specs.Kind.{Kind, Tables, Case, Code, TableName, a_schema, a_schema_kind, any_text, any_tree}
+use Rattle.openapi_tables.specs.Kind.{by, code, code_of, flag_or_schema, format, is_code, list_of, map_of, null_or}
+use Rattle.openapi_tables.specs.Kind.{number, one_of, ref_to, schema_data, status_code, status_names, tagged, text_of}
 use Rattle.openapi_tables.specs.Kind.{writable_code}
 use Rattle.std.specs.Prelude.{pos}
 use Rattle.openapi_tables.proofs.SchemaCalm.{front}
@@ -20,20 +18,16 @@ use Rattle.openapi_tables.proofs.SortHolds.{AllHold, all_hold}
 use Rattle.openapi_tables.proofs.Taken.{trees_of-members}
 use Rattle.openapi_tables.proofs.TreeLaws.{Inside, by_trees, members_of-list}
 use Rattle.openapi_tables.proofs.Writes.{behind, object_conforms}
-use Rattle.openapi_tables.specs.Conforms.{chosen_holds, conforms, is_reference}
-use Rattle.openapi_tables.specs.Conforms.{object_holds, reference_or, root_conforms, text_in}
+use Rattle.openapi_tables.specs.Conforms.{chosen_holds, conforms, is_reference, object_holds, reference_or}
+use Rattle.openapi_tables.specs.Conforms.{root_conforms, text_in}
 use Rattle.openapi_tables.specs.Form.{Form, Pair, an_item, coded, forms_of, known, leaf, name, named_of, of_code}
 use Rattle.openapi_tables.specs.Form.{of_forms, of_named, other, reference}
 use Rattle.openapi_tables.specs.Lists.{each, every, has, join}
-use Rattle.openapi_tables.specs.Members.{Choice, Sort}
-use Rattle.openapi_tables.specs.Members.{checked_rows, choice, held}
-use Rattle.openapi_tables.specs.Members.{made_optional}
-use Rattle.openapi_tables.specs.Members.{own, plain, rows_of, sort, sort_of, sort_rows}
-use Rattle.openapi_tables.specs.Members.{tag}
-use Rattle.openapi_tables.specs.Proper.{Held, choice_proper, face_proper, is_name, is_written, of_kind}
-use Rattle.openapi_tables.specs.Proper.{proper, rows_proper}
-use Rattle.openapi_tables.specs.Read.{code_form, code_key, form}
-use Rattle.openapi_tables.specs.Read.{pairs_as, reference_or_item, root_form, same_key}
+use Rattle.openapi_tables.specs.Members.{Choice, Sort, checked_rows, choice, held, made_optional, own, plain, rows_of}
+use Rattle.openapi_tables.specs.Members.{sort, sort_of, sort_rows, tag}
+use Rattle.openapi_tables.specs.Proper.{Held, choice_proper, face_proper, is_name, is_written, of_kind, proper}
+use Rattle.openapi_tables.specs.Proper.{rows_proper}
+use Rattle.openapi_tables.specs.Read.{code_form, code_key, form, pairs_as, reference_or_item, root_form, same_key}
 use Rattle.openapi_tables.specs.Sound.{row_sound, rows_apart, sound, tables_sound, under_ref}
 use Rattle.openapi_tables.specs.Tables.{any_rows}
 use Rattle.openapi_node.specs.Tree.{Items, Members, Tree, flag, item, list, member, no_items, no_members, null, object}
@@ -175,11 +169,6 @@ number_reads T n false e h = cc
 -- a kind under `ref`
 item_reads : (T : Tables) (k : Kind) (t : Tree) → (conforms T k t ≡ true → proper T k (form T k t) ≡ true)
     → conforms T (ref_to k) t ≡ true → proper T (ref_to k) (form T (ref_to k) t) ≡ true
-item_reads T k null g h = g h
-item_reads T k (flag b) g h = g h
-item_reads T k (whole z) g h = g h
-item_reads T k (text u) g h = g h
-item_reads T k (list ts) g h = g h
 item_reads T k (object ms) g h = at (text_in (held (codes "$ref") (members_list ms))) refl
   where
     same : (X : Type 0) (f : Shape (Seen X) → X)
@@ -194,29 +183,19 @@ item_reads T k (object ms) g h = at (text_in (held (codes "$ref") (members_list 
         ∙ g (sym (ap (λ r. reference_or r (conforms T k (object ms))) (same (Kind → Bool) (root_conforms T) ∙ e)) ∙ h)
     at (Some u) e = ap (λ r. proper T (ref_to k) (reference_or_item r (form T k (object ms))))
         (same (Kind → Form) (root_form T) ∙ e)
+item_reads T k t g h = g h
 
 step : (T : Tables) (W : tables_sound T ≡ true) (t : Tree) → Inside (ReadsProper T) t → ReadsProper T t
 step T W t g any_tree s h = any_reads T t
   where
     any_reads : (T : Tables) (t : Tree) → proper T any_tree (form T any_tree t) ≡ true
     any_reads T null = refl
-    any_reads T (flag b) = refl
-    any_reads T (whole z) = refl
-    any_reads T (text u) = refl
-    any_reads T (list ts) = refl
-    any_reads T (object ms) = refl
+    any_reads T t = refl
 step T W t g (ref_to k) s h = item_reads T k t (λ x. step T W t g k (and_parts (under_ref T k) (sound T k) s).1 x) h
-step T W (text u) g any_text s h = refl
-step T W (flag b) g any_flag s h = refl
 step T W (whole z) g (number w) s h = h
 step T W (text u) g (one_of ws) s h = h
 step T W (text u) g (format ws b) s h = format_reads T ws b u (has ws u) refl
 step T W null g (format ws b) s h = h
-step T W null g (null_or any_text) s h = refl
-step T W null g (null_or any_flag) s h = refl
-step T W null g (null_or (number w)) s h = refl
-step T W (text u) g (null_or any_text) s h = refl
-step T W (flag b) g (null_or any_flag) s h = refl
 step T W (whole z) g (null_or (number w)) s h = h
 step T W (list ts) g (list_of k) s h = list_reads T k ts s g h
 step T W (object ms) g (map_of k) s h = map_reads T k ms s g h
@@ -232,7 +211,6 @@ step T W (object ms) g a_schema s h =
 step T W (object ms) g a_schema_kind s h =
     of_list (λ t. proper T a_schema_kind (form T a_schema_kind t) ≡ true) ms
     (kind_reads T W (members_list ms) g (from_list (λ t. conforms T a_schema_kind t ≡ true) ms h))
-step T W (flag b) g flag_or_schema s h = refl
 step T W (object ms) g flag_or_schema s h =
     flag_reads (form T (ref_to a_schema) (object ms))
     (item_reads T a_schema (object ms)
@@ -242,24 +220,14 @@ step T W (object ms) g flag_or_schema s h =
     flag_reads : (f : Form) → proper T (ref_to a_schema) f ≡ true → proper T flag_or_schema f ≡ true
     flag_reads (reference u) h = refl
     flag_reads (an_item f) h = h
-    flag_reads (leaf null) h = cc
     flag_reads (leaf (flag b)) h = refl
-    flag_reads (leaf t) h = cc
+    flag_reads (leaf null) h = cc
     flag_reads f h = cc
 step T W (text u) g status_code s h = code_reads T u (code_of u) refl h
 step T W (whole (pos n)) g status_code s h = number_reads T n (nat_le 100 n && nat_le n 999) refl h
+step T W t g (null_or any_text) s h = cc
 step T W null g k s h = cc
-step T W (flag b) g k s h = cc
-step T W (whole z) g k s h = cc
-step T W (text u) g k s h = cc
-step T W (list ts) g (null_or any_text) s h = cc
-step T W (list ts) g (null_or any_flag) s h = cc
-step T W (list ts) g (null_or (number w)) s h = cc
-step T W (list ts) g k s h = cc
-step T W (object ms) g (null_or any_text) s h = cc
-step T W (object ms) g (null_or any_flag) s h = cc
-step T W (object ms) g (null_or (number w)) s h = cc
-step T W (object ms) g k s h = cc
+step T W t g k s h = cc
 
 -- what is read of a tree that conforms is proper
 pub read_proper : (T : Tables) (W : tables_sound T ≡ true) (t : Tree) → ReadsProper T t

@@ -4,7 +4,7 @@ use Rattle.std.proofs.Common.{ℕ, suc, Bool, true, false, cond, ◌&&◌, ◌||
 use Rattle.std.proofs.Common.{sym, ap, ◌∙◌, subst, codes}
 use Rattle.std.proofs.lemmas.Bool.{and_parts, both_ways}
 use Rattle.openapi_tables.specs.Lists.{join, every, same_text}
-use Rattle.openapi_node.specs.Tree.{Tree, null, flag, whole, text, list, object, Items, no_items, item, Members}
+use Rattle.openapi_node.specs.Tree.{Tree, null, text, list, object, Items, no_items, item, Members}
 use Rattle.openapi_node.specs.Place.{Step, named as at_name, indexed as at_index}
 use Rattle.openapi_tables.specs.Tree.{items_list, members_list, members_of, Entry, Seen, Shape, an_object, of_items}
 use Rattle.openapi_tables.specs.Tree.{of_members}
@@ -93,17 +93,16 @@ unless_skipped T false c l h g = g h
 
 row_met : (T : Tables) (w : Row) (l : List (Entry Tree)) → ValuesMet T l → row_holds_own w (judged T l) ≡ true
     → OfAsked (Meets T) (asks_own w (askeds T l))
-row_met T (row n m k) [] g h = tt
 row_met T (row n m k) (e ∷ l) g h =
     unless_skipped T (skips_null m && is_null e.value) (conforms T k e.value)
     (below (at_name e.name) (asked T k e.value)) h
     (λ c. to_below (Meets T) (at_name e.name) (asked T k e.value) (g.0 k c))
-row_met T (either a j b k) [] g h = tt
 row_met T (either a j b k) (e ∷ l) g h =
     to_below (Meets T) (at_name e.name) (asked T (cond (same_text a e.name) j k) e.value)
     (g.0 (cond (same_text a e.name) j k) h)
 row_met T (class c k) l g h = members_met T k l g h
-row_met T (constant n v) l g h = tt
+row_met T w [] g h = tt
+row_met T w l g h = tt
 
 pub rows_met : (T : Tables) (es : List (Entry Tree)) (ws : List Row) → ValuesMet T es → AllHold T es ws
     → OfAsked (Meets T) (asks_rows (askeds T es) ws)
@@ -225,16 +224,12 @@ item_met T ms b l h g =
 
 step : (T : Tables) (k : Kind) (t : Tree) → Inside (AllMet T) t → conforms T k t ≡ true
     → OfAsked (Meets T) (asked T k t)
-step T (ref_to k) null g h = (h, step T k null g h)
-step T (ref_to k) (flag b) g h = (h, step T k (flag b) g h)
-step T (ref_to k) (whole z) g h = (h, step T k (whole z) g h)
-step T (ref_to k) (text s) g h = (h, step T k (text s) g h)
-step T (ref_to k) (list ts) g h = ((head_met T (ref_to k) (list ts) h).0, step T k (list ts) g h)
 step T (ref_to k) (object ms) g h = (
   (head_met T (ref_to k) (object ms) h).0,
   item_met T ms (conforms T k (object ms)) (asked T k (object ms)) h
       (λ c. step T k (object ms) g c),
 )
+step T (ref_to k) t g h = ((head_met T (ref_to k) t h).0, step T k t g h)
 step T (list_of k) (list ts) g h = ((head_met T (list_of k) (list ts) h).0, items_met T k 0 ts g h)
 step T (map_of k) (object ms) g h = ((head_met T (map_of k) (object ms) h).0, map_met T k ms g h)
 step T (by i) (object ms) g h = ((head_met T (by i) (object ms) h).0, table_met T i ms g h)
@@ -250,11 +245,7 @@ step T flag_or_schema (object ms) g h = (
   ),
 )
 step T k null g h = head_met T k null h
-step T k (flag b) g h = head_met T k (flag b) h
-step T k (whole z) g h = head_met T k (whole z) h
-step T k (text s) g h = head_met T k (text s) h
-step T k (list ts) g h = head_met T k (list ts) h
-step T k (object ms) g h = head_met T k (object ms) h
+step T k t g h = head_met T k t h
 
 pub all_met : (T : Tables) (t : Tree) → AllMet T t
 all_met T t = by_trees (AllMet T) (λ u g k h. step T k u g h) t

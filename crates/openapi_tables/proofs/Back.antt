@@ -7,8 +7,8 @@ use Rattle.openapi_tables.specs.Tree.{items_list, members_list, of_members, Entr
 use Rattle.openapi_tables.specs.Kind.{Kind, map_of, list_of, ref_to, a_schema, flag_or_schema, null_or, Row, code}
 use Rattle.openapi_tables.specs.Kind.{text_of, Tables}
 use Rattle.openapi_tables.specs.Members.{Choice, choice, rows_of}
-use Rattle.openapi_tables.specs.Form.{Form, absent, deciding, leaf, of_code, known, other, unset, reference, an_item}
-use Rattle.openapi_tables.specs.Form.{sequence, named, fields, name, named_of, forms_of, Pair}
+use Rattle.openapi_tables.specs.Form.{Form, deciding, known, other, an_item, sequence, named, fields, name, named_of}
+use Rattle.openapi_tables.specs.Form.{forms_of, Pair}
 use Rattle.openapi_tables.specs.Read.{root_form, map_form, slot, code_form, form}
 use Rattle.openapi_tables.specs.Print.{text_of_key, print, again}
 use Rattle.openapi_tables.specs.Sound.{may_be_null, sound, row_sound, rows_apart, under_ref, tables_sound}
@@ -30,32 +30,12 @@ use Rattle.openapi_tables.proofs.RowBack.{Back, around_same, stays-map}
 use Rattle.openapi_tables.proofs.ObjectBack.{stays-fields, slots_of-found, own_writes, slots_back, rows_of_sound}
 
 pub stays-null_or : (T : Tables) (k : Kind) (f : Form) → stays T (null_or k) f ≡ stays T k f
-stays-null_or T k absent = refl
-stays-null_or T k (leaf t) = refl
-stays-null_or T k (of_code c) = refl
-stays-null_or T k (known s) = refl
-stays-null_or T k (other s) = refl
-stays-null_or T k unset = refl
-stays-null_or T k (reference s) = refl
-stays-null_or T k (an_item f) = refl
-stays-null_or T k (sequence fs) = refl
-stays-null_or T k (named es) = refl
 stays-null_or T k (deciding n f) = stays-null_or T k f
-stays-null_or T k (fields c fs) = refl
+stays-null_or T k f = refl
 
 pub stays-flag_or_schema : (T : Tables) (f : Form) → stays T flag_or_schema f ≡ stays T (ref_to a_schema) f
-stays-flag_or_schema T absent = refl
-stays-flag_or_schema T (leaf t) = refl
-stays-flag_or_schema T (of_code c) = refl
-stays-flag_or_schema T (known s) = refl
-stays-flag_or_schema T (other s) = refl
-stays-flag_or_schema T unset = refl
-stays-flag_or_schema T (reference s) = refl
-stays-flag_or_schema T (an_item f) = refl
-stays-flag_or_schema T (sequence fs) = refl
-stays-flag_or_schema T (named es) = refl
 stays-flag_or_schema T (deciding n f) = stays-flag_or_schema T f
-stays-flag_or_schema T (fields c fs) = refl
+stays-flag_or_schema T f = refl
 
 stays_list : (T : Tables) (k : Kind) (fs : List Form)
     → every (λ (p : Checks). p.answer k) (each (show (face_stays T)) fs) ≡ true
@@ -162,19 +142,12 @@ NoReference T = (k : Kind) (t : Tree) (f : Form) → Taken T k t f → Inside (G
 pub not_flag : (T : Tables) (k : Kind) (t : Tree) (f : Form) → Taken T k t f → is_flag t ≡ false
     → is_flag (print T k f) ≡ false
 not_flag T k t f (as_leaf j u e) h = h
-not_flag T k t f (as_known ws b s e) h = refl
-not_flag T k t f (as_other ws b s e) h = refl
-not_flag T k t f (as_unset ws b) h = refl
-not_flag T k t f (as_text_code s c e) h = refl
-not_flag T k t f (as_number_code n e) h = refl
-not_flag T k t f (as_list j ts) h = refl
-not_flag T k t f (as_map j ms) h = refl
 not_flag T k t f (as_fields j c ms e) h =
     ap is_flag (print-fields T j c (members_list ms) (each (slot (of_members (root_form T) ms)) (rows_of T j c)) e)
-not_flag T k t f (as_reference j u s e) h = refl
 not_flag T k t f (as_item j u g e x) h = not_flag T j u g x h
 not_flag T k t f (as_schema u g e x) h = ap is_flag (print-flag_or_schema T g) ∙ not_flag T (ref_to a_schema) u g x h
 not_flag T k t f (as_inner j u g x) h = ap is_flag (print-null_or T j g) ∙ not_flag T j u g x h
+not_flag T k t f x h = refl
 
 pub taken_back : (T : Tables) (W : tables_sound T ≡ true) → ChosenAgain T → NoReference T
     → (k : Kind) (t : Tree) (f : Form) → Taken T k t f → Inside (Good T) t → sound T k ≡ true → stays T k f ≡ true

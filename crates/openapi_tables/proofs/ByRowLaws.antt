@@ -3,19 +3,15 @@ pub use Rattle.openapi_tables.proofs.ListLaws.{same_bytes}
 pub use Rattle.openapi_tables.proofs.KindsHold.{any_conforms}
 pub use Rattle.openapi_tables.proofs.WeightLaws.{rows_weight-le, table_weight-le}
 use Rattle.openapi_tables.proofs.ListLaws.{every_behind}
-use Rattle.std.proofs.Common.{ℕ, ◌≤◌, Bool, true, false, cond, ◌&&◌, ◌||◌, List, [], ◌∷◌}
-use Rattle.std.proofs.Common.{Some, None, ◌≡◌, refl, sym, ap, ◌∙◌, subst, arith, inl, inr, bytes_eq, true≢false}
+use Rattle.std.proofs.Common.{ℕ, ◌≤◌, Bool, true, false, cond, ◌&&◌, ◌||◌, List, [], ◌∷◌, Some, None, ◌≡◌, refl, sym}
+use Rattle.std.proofs.Common.{ap, ◌∙◌, subst, arith, inl, inr, bytes_eq, true≢false}
 use Rattle.std.proofs.lemmas.Bool.{and_parts}
 use Rattle.openapi_node.specs.Place.{Step, Place, named}
-use Rattle.openapi_node.specs.Tree.{Tree, null, flag, whole, text, list, object, Members, no_members, member}
-use Rattle.openapi_node.specs.Tree.{size_of, find}
+use Rattle.openapi_node.specs.Tree.{Tree, null, list, object, Members, no_members, member, size_of, find}
 use Rattle.openapi_tables.specs.Lists.{each, join, flat, every, same_text}
-use Rattle.openapi_tables.specs.Tree.{Entry, on_entry, Seen, Shape, a_null, a_flag, a_whole, a_text, a_list, an_object}
-use Rattle.openapi_tables.specs.Tree.{of_members, members_list}
-use Rattle.openapi_tables.specs.Kind.{Kind, any_text, any_flag, number, any_tree, one_of, format, null_or, list_of}
-use Rattle.openapi_tables.specs.Kind.{map_of, by, tagged, ref_to, flag_or_schema, a_schema, a_schema_kind, status_code}
-use Rattle.openapi_tables.specs.Kind.{Mode, required, Row, row, takes, Tables}
-use Rattle.openapi_tables.specs.Kind.{TableName, schema_data}
+use Rattle.openapi_tables.specs.Tree.{Entry, on_entry, Seen, Shape, a_null, of_members, members_list}
+use Rattle.openapi_tables.specs.Kind.{Kind, any_text, any_tree, format, by, ref_to, a_schema, a_schema_kind, Mode}
+use Rattle.openapi_tables.specs.Kind.{required, Row, row, takes, Tables, TableName, schema_data}
 use Rattle.openapi_tables.specs.Tables.{any_rows}
 use Rattle.openapi_tables.specs.Members.{is_null, own, plain, rows_of, checked_rows, made_optional}
 use Rattle.openapi_tables.specs.Conforms.{root_conforms, row_holds, name_holds, conforms, may_miss, skips_null}
@@ -26,8 +22,8 @@ use Rattle.openapi_tables.specs.Sound.{tables_sound, schema_rows}
 use Rattle.openapi_tables.specs.Faults.{Asking, Cause, missing, Asks, asked, causes, here, root_asks, below, asks_own}
 use Rattle.openapi_tables.specs.Faults.{asks_row, asks_rows, misses, row_misses}
 use Rattle.openapi_tables.specs.Laws.{Among}
-use Rattle.openapi_tables.specs.ByRow.{is_named, row_where, rows_asked, row_conforms, row_form, AreRows}
-use Rattle.openapi_tables.specs.ByRow.{weight, row_weight, asking, Broken, StepsTo}
+use Rattle.openapi_tables.specs.ByRow.{is_named, row_where, rows_asked, row_conforms, row_form, AreRows, weight}
+use Rattle.openapi_tables.specs.ByRow.{row_weight, asking, Broken, StepsTo}
 use Rattle.openapi_tables.proofs.ListLaws.{Each, every_each, only-each, same_text_eq}
 use Rattle.openapi_tables.proofs.TreeLaws.{see, seen_root, of_tree_lem, of_members_lem, tree_of_root-seen}
 use Rattle.openapi_tables.proofs.ObjectBack.{checked, table_sound}
@@ -161,56 +157,8 @@ where_each P q (v ∷ ws) w h e = go (λ p. where_each P q ws w h.1 p) (q v) e
 -- a kind is asked of the root that it is asked of
 head_asked : (T : Tables) (s : Shape Asks) (k : Kind) → Among (here k s) (root_asks T s k)
 head_asked T s any_text = inl refl
-head_asked T s any_flag = inl refl
-head_asked T s (number w) = inl refl
-head_asked T s any_tree = inl refl
-head_asked T s (one_of ws) = inl refl
-head_asked T s (format ws b) = inl refl
-head_asked T s (null_or k) = inl refl
-head_asked T s (ref_to k) = inl refl
-head_asked T s status_code = inl refl
-head_asked T a_null (list_of k) = inl refl
-head_asked T (a_flag b) (list_of k) = inl refl
-head_asked T (a_whole z) (list_of k) = inl refl
-head_asked T (a_text s) (list_of k) = inl refl
-head_asked T (a_list xs) (list_of k) = inl refl
-head_asked T (an_object es) (list_of k) = inl refl
-head_asked T a_null (map_of k) = inl refl
-head_asked T (a_flag b) (map_of k) = inl refl
-head_asked T (a_whole z) (map_of k) = inl refl
-head_asked T (a_text s) (map_of k) = inl refl
-head_asked T (a_list xs) (map_of k) = inl refl
-head_asked T (an_object es) (map_of k) = inl refl
-head_asked T a_null (by i) = inl refl
-head_asked T (a_flag b) (by i) = inl refl
-head_asked T (a_whole z) (by i) = inl refl
-head_asked T (a_text s) (by i) = inl refl
-head_asked T (a_list xs) (by i) = inl refl
-head_asked T (an_object es) (by i) = inl refl
-head_asked T a_null (tagged n cs) = inl refl
-head_asked T (a_flag b) (tagged n cs) = inl refl
-head_asked T (a_whole z) (tagged n cs) = inl refl
-head_asked T (a_text s) (tagged n cs) = inl refl
-head_asked T (a_list xs) (tagged n cs) = inl refl
-head_asked T (an_object es) (tagged n cs) = inl refl
-head_asked T a_null flag_or_schema = inl refl
-head_asked T (a_flag b) flag_or_schema = inl refl
-head_asked T (a_whole z) flag_or_schema = inl refl
-head_asked T (a_text s) flag_or_schema = inl refl
-head_asked T (a_list xs) flag_or_schema = inl refl
-head_asked T (an_object es) flag_or_schema = inl refl
-head_asked T a_null a_schema = inl refl
-head_asked T (a_flag b) a_schema = inl refl
-head_asked T (a_whole z) a_schema = inl refl
-head_asked T (a_text s) a_schema = inl refl
-head_asked T (a_list xs) a_schema = inl refl
-head_asked T (an_object es) a_schema = inl refl
-head_asked T a_null a_schema_kind = inl refl
-head_asked T (a_flag b) a_schema_kind = inl refl
-head_asked T (a_whole z) a_schema_kind = inl refl
-head_asked T (a_text s) a_schema_kind = inl refl
-head_asked T (a_list xs) a_schema_kind = inl refl
-head_asked T (an_object es) a_schema_kind = inl refl
+head_asked T a_null k = inl refl
+head_asked T s k = inl refl
 
 pub root_asked : (T : Tables) (k : Kind) (t : Tree) → Among (asking [] k t) (asked T k t)
 root_asked T k t =
@@ -241,19 +189,7 @@ unfolding checked_rows
 rows_ask T (by i) ms a h = inr h
 rows_ask T a_schema ms a h = inr h
 rows_ask T a_schema_kind ms a h = inr h
-rows_ask T any_text ms a h = absurd h
-rows_ask T any_flag ms a h = absurd h
-rows_ask T (number w) ms a h = absurd h
-rows_ask T any_tree ms a h = absurd h
-rows_ask T (one_of ws) ms a h = absurd h
-rows_ask T (format ws b) ms a h = absurd h
-rows_ask T (null_or k) ms a h = absurd h
-rows_ask T (list_of k) ms a h = absurd h
-rows_ask T (map_of k) ms a h = absurd h
-rows_ask T (tagged n cs) ms a h = absurd h
-rows_ask T (ref_to k) ms a h = absurd h
-rows_ask T flag_or_schema ms a h = absurd h
-rows_ask T status_code ms a h = absurd h
+rows_ask T k ms a h = absurd h
 
 -- the member of a row is asked the row's kind
 pub row_asks : (T : Tables) (o : Kind) (n : List ℕ) (m : Mode) (k : Kind) (ms : Members) (t : Tree)
@@ -278,19 +214,7 @@ asked_sound T W a_schema = every_each (row_sound T) (schema_rows T) (checked T W
 asked_sound T W a_schema_kind =
     every_each (row_sound T) (each made_optional any_rows)
     (every_behind (row_sound T) (T schema_data) (each made_optional any_rows) (checked T W).4)
-asked_sound T W any_text = tt
-asked_sound T W any_flag = tt
-asked_sound T W (number w) = tt
-asked_sound T W any_tree = tt
-asked_sound T W (one_of ws) = tt
-asked_sound T W (format ws b) = tt
-asked_sound T W (null_or k) = tt
-asked_sound T W (list_of k) = tt
-asked_sound T W (map_of k) = tt
-asked_sound T W (tagged n cs) = tt
-asked_sound T W (ref_to k) = tt
-asked_sound T W flag_or_schema = tt
-asked_sound T W status_code = tt
+asked_sound T W o = tt
 
 -- a row that has to be there takes no null
 pub required_refuses : (T : Tables) (W : tables_sound T ≡ true) (o : Kind) (n : List ℕ) (k : Kind)
@@ -320,19 +244,7 @@ row_missing T W a_schema n k ms e none =
 row_missing T W a_schema_kind n k ms e none =
     absurd (schema_misses_none T (is_named n) n k (each made_optional any_rows)
     (every_behind never_misses (T schema_data) (each made_optional any_rows) (checked T W).5) e)
-row_missing T W any_text n k ms e none = cc
-row_missing T W any_flag n k ms e none = cc
-row_missing T W (number w) n k ms e none = cc
-row_missing T W any_tree n k ms e none = cc
-row_missing T W (one_of ws) n k ms e none = cc
-row_missing T W (format ws b) n k ms e none = cc
-row_missing T W (null_or l) n k ms e none = cc
-row_missing T W (list_of l) n k ms e none = cc
-row_missing T W (map_of l) n k ms e none = cc
-row_missing T W (tagged m cs) n k ms e none = cc
-row_missing T W (ref_to l) n k ms e none = cc
-row_missing T W flag_or_schema n k ms e none = cc
-row_missing T W status_code n k ms e none = cc
+row_missing T W o n k ms e none = cc
 
 -- what the rows give is what the object gives
 pub rows_hold : (T : Tables) (ws : List Row) (fs : List Form) (ms : Members) → AreRows T ws fs ms
@@ -354,29 +266,12 @@ object_gives T i fs ms h =
     (r.0, ap (λ l. fields plain (forms_of l)) r.1)
 
 pub any_form : (T : Tables) (t : Tree) → form T any_tree t ≡ leaf t
-any_form T null = refl
-any_form T (flag b) = refl
-any_form T (whole z) = refl
-any_form T (text s) = refl
 any_form T (list ts) = ap leaf (tree_of_root-seen (root_form T) (list ts))
 any_form T (object ms) = ap leaf (tree_of_root-seen (root_form T) (object ms))
+any_form T t = refl
 
 -- null does not conform to a kind that refuses it
 pub null_refused : (T : Tables) (k : Kind) → refuses_null k ≡ true → conforms T k null ≡ false
-null_refused T any_text h = refl
-null_refused T any_flag h = refl
-null_refused T (number w) h = refl
-null_refused T any_tree h = cc
-null_refused T (one_of ws) h = refl
-null_refused T (format ws true) h = cc
-null_refused T (format ws false) h = refl
-null_refused T (null_or k) h = cc
-null_refused T (list_of k) h = refl
-null_refused T (map_of k) h = refl
-null_refused T (by i) h = refl
-null_refused T (tagged n cs) h = refl
 null_refused T (ref_to k) h = null_refused T k h
-null_refused T flag_or_schema h = refl
-null_refused T a_schema h = refl
-null_refused T a_schema_kind h = refl
-null_refused T status_code h = refl
+null_refused T (format ws true) h = cc
+null_refused T k h = cc

@@ -1,11 +1,10 @@
 -- What is read of what a proper form is written as stays: for all kinds and forms.
 use Rattle.openapi_tables.proofs.PlainLaws.{plain_no_object}
-use Rattle.std.proofs.Common.{ℕ, Bool, true, false, not, cond, ◌&&◌, ◌||◌, List, [], ◌∷◌, ◌≡◌, refl, ap, ◌∙◌}
-use Rattle.std.proofs.Common.{subst, ⊎_elim}
+use Rattle.std.proofs.Common.{ℕ, Bool, true, false, not, cond, ◌&&◌, ◌||◌, List, [], ◌∷◌, ◌≡◌, refl, ap, ◌∙◌, subst}
+use Rattle.std.proofs.Common.{⊎_elim}
 use Rattle.std.proofs.lemmas.Bool.{and_parts, and_from, or_cases, both_ways}
-use Rattle.openapi_tables.specs.Kind.{Kind, Tables, Row, Class, Mode, a_schema}
-use Rattle.openapi_tables.specs.Kind.{class, constant, either, flag_or_schema, format, list_of, map_of}
-use Rattle.openapi_tables.specs.Kind.{nullable, optional, ref_to, row}
+use Rattle.openapi_tables.specs.Kind.{Kind, Tables, Row, Class, Mode, a_schema, class, constant, either, flag_or_schema}
+use Rattle.openapi_tables.specs.Kind.{format, list_of, map_of, nullable, optional, ref_to, row}
 use Rattle.openapi_tables.proofs.Back.{stays-null_or}
 use Rattle.openapi_tables.proofs.Firm.{stays-default, stays_values}
 use Rattle.openapi_tables.proofs.FirstValue.{every_stays}
@@ -17,9 +16,7 @@ use Rattle.openapi_tables.proofs.PrintLaws.{entry_of, printed}
 use Rattle.openapi_tables.proofs.ReadLaws.{class_form-reads, pair_of, reads, slot_in}
 use Rattle.openapi_tables.proofs.RowLaws.{Found}
 use Rattle.openapi_tables.proofs.RowWrites.{SlotsProper, class_prints, of_class_entries}
-use Rattle.openapi_tables.proofs.Taken.{Taken, as_fields, as_inner, as_item, as_known, as_leaf, as_list, as_map}
-use Rattle.openapi_tables.proofs.Taken.{as_number_code, as_other, as_reference, as_schema, as_text_code, as_unset}
-use Rattle.openapi_tables.proofs.Taken.{taken}
+use Rattle.openapi_tables.proofs.Taken.{Taken, as_fields, as_inner, as_list, taken}
 use Rattle.openapi_tables.proofs.TreeLaws.{Inside, by_trees}
 use Rattle.openapi_tables.specs.Form.{Form, Key, Named, Pair, absent, deciding, forms_of, known, named, named_list}
 use Rattle.openapi_tables.specs.Form.{other, sequence}
@@ -31,7 +28,7 @@ use Rattle.openapi_tables.specs.Read.{class_form, default_of, form, gather, key_
 use Rattle.openapi_tables.specs.Sound.{mode_fits, row_sound, sorts, sound}
 use Rattle.openapi_tables.specs.Stays.{Checks, face_stays, row_stays, rows_stay, stays}
 use Rattle.openapi_tables.specs.Tables.{any_rows, array_rows, boolean_rows, object_rows, string_rows}
-use Rattle.openapi_node.specs.Tree.{Tree, flag, list, null, object, text, whole}
+use Rattle.openapi_node.specs.Tree.{Tree, text}
 use Rattle.openapi_tables.specs.Tree.{Entry, items_list, members_list}
 use Rattle.openapi_tables.proofs.SoundLaws.{sound_pick}
 
@@ -55,20 +52,11 @@ plain_list T k (t ∷ ts) h g = (g.0 k h, plain_list T k ts h g.1)
 
 plain_step : (T : Tables) (k : Kind) (t : Tree) (f : Form) → Taken T k t f → Inside (PlainStays T) t
     → is_plain k ≡ true → stays T k f ≡ true
-plain_step T k t f (as_leaf j u e) g h = refl
-plain_step T k t f (as_known ws b s e) g h = refl
-plain_step T k t f (as_other ws b s e) g h = refl
-plain_step T k t f (as_unset ws b) g h = refl
-plain_step T k t f (as_text_code s c e) g h = refl
-plain_step T k t f (as_number_code n e) g h = refl
 plain_step T k t f (as_list j ts) g h =
     list_stays T j (each (form T j) (items_list ts)) (plain_list T j (items_list ts) h g)
-plain_step T k t f (as_map j ms) g h = cc
 plain_step T k t f (as_fields j c ms e) g h = absurd (plain_no_object j c (members_list ms) h e)
-plain_step T k t f (as_reference j u s e) g h = refl
-plain_step T k t f (as_item j u x e y) g h = cc
-plain_step T k t f (as_schema u x e y) g h = cc
 plain_step T k t f (as_inner j u x y) g h = stays-null_or T j x ∙ plain_step T j u x y g h
+plain_step T k t f x g h = cc
 
 pub plain_stays : (T : Tables) (t : Tree) → PlainStays T t
 plain_stays T t = by_trees (PlainStays T) (λ u g k h. plain_step T k u (form T k u) (taken T k u) g h) t
@@ -79,16 +67,12 @@ is_calm k = is_plain k
 
 pub format_stays : (T : Tables) (ws : List (List ℕ)) (b : Bool) (t : Tree)
     → stays T (format ws b) (form T (format ws b) t) ≡ true
-format_stays T ws b null = refl
-format_stays T ws b (flag v) = refl
-format_stays T ws b (whole z) = refl
 format_stays T ws b (text s) = at (has ws s)
   where
     at : (c : Bool) → stays T (format ws b) (cond c (known s) (other s)) ≡ true
     at true = refl
     at false = refl
-format_stays T ws b (list ts) = refl
-format_stays T ws b (object ms) = refl
+format_stays T ws b t = refl
 
 calm_stays : (T : Tables) (k : Kind) (t : Tree) → is_calm k ≡ true → stays T k (form T k t) ≡ true
 unfolding is_calm
@@ -156,12 +140,10 @@ row_calm T (either a j b k) (deciding n f) s g h =
     let q = and_parts (sound T j && sound T k) (not (same_text a b)) s in
     let r = and_parts (sound T j) (sound T k) q.0 in
     g.1 (cond (same_text a n) j k) (sound_pick T (same_text a n) j k r.0 r.1) p.1
-row_calm T (either a j b k) f s g h = cc
 row_calm T (class c k) (named es) s g h =
     ap (λ l. stays T (map_of k) (class_form c k (reads T l))) (class_prints T c k es)
     ∙ class_stays T c k es s g.1 (of_class_entries T c k es h)
-row_calm T (class c k) f s g h = cc
-row_calm T (constant n v) f s g h = refl
+row_calm T w f s g h = cc
 
 -- what each row reads of a list of members stays
 abbrev pub StayAll : (T : Tables) → List (Entry Tree) → List Row → Type 0
@@ -196,11 +178,10 @@ same_kind j k = false
 
 same_kind_eq : (j k : Kind) → same_kind j k ≡ true → j ≡ k
 unfolding same_kind
-same_kind_eq a_schema a_schema h = refl
-same_kind_eq flag_or_schema flag_or_schema h = refl
 same_kind_eq (ref_to j) (ref_to k) h = ap ref_to (same_kind_eq j k h)
 same_kind_eq (list_of j) (list_of k) h = ap list_of (same_kind_eq j k h)
 same_kind_eq (map_of j) (map_of k) h = ap map_of (same_kind_eq j k h)
+same_kind_eq j a_schema h = cc
 same_kind_eq j k h = cc
 
 row_gives : Row → List ℕ → Kind → Bool
@@ -235,9 +216,7 @@ row_gives_stays T l (row a i j) f n m k r s d g h o =
     subst (λ x. stays T k (slot_in T l (row x m k)) ≡ true) (same_text_eq a n p.0)
     (ap (λ x. stays T k (name_slot m k (reads T x))) o'
     ∙ slot_stays T a i m k f s (λ x. g k d x) h' (is_silent i f) refl)
-row_gives_stays T l (either a j b i) f n m k r s d g h o = cc
-row_gives_stays T l (class c i) f n m k r s d g h o = cc
-row_gives_stays T l (constant a v) f n m k r s d g h o = cc
+row_gives_stays T l w f n m k r s d g h o = cc
 
 some_gives_stays : (T : Tables) (l : List (Entry Tree)) (ws : List Row) (fs : List Form) (n : List ℕ) (m : Mode)
     (k : Kind) → some_gives ws n k ≡ true → mode_fits m k ≡ true → sound T k ≡ true → Each (Deep (Calm T)) fs
@@ -265,9 +244,7 @@ deep_row T l fs (row n m k) d s g h o =
     ⊎_elim (λ (x : is_calm k ≡ true). first_calm T m k (own (row n m k) l) p.0 x)
     (λ (x : some_gives any_rows n k ≡ true). some_gives_stays T l any_rows fs n m k x p.0 p.1 g h o)
     (or_cases (is_calm k) (some_gives any_rows n k) d)
-deep_row T l fs (constant n v) d s g h o = refl
-deep_row T l fs (either a j b k) d s g h o = cc
-deep_row T l fs (class c k) d s g h o = cc
+deep_row T l fs v d s g h o = cc
 
 pub deep_rows : (T : Tables) (l : List (Entry Tree)) (fs : List Form) (vs : List Row) → every deep_ok vs ≡ true
     → Each (λ w. row_sound T w ≡ true) vs → Each (Deep (Calm T)) fs → SlotsProper T any_rows fs

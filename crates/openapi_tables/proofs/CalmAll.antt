@@ -1,15 +1,13 @@
 -- What is read of what a proper form is written as stays: objects, and the whole.
 use Rattle.std.proofs.Common.{ℕ, true, ◌&&◌, List, Option, Some, None, ◌≡◌, refl, sym, ap, ◌∙◌, subst}
 use Rattle.std.proofs.lemmas.Bool.{and_parts, and_from}
-use Rattle.openapi_tables.specs.Kind.{Kind, Tables, Case, Code, TableName, a_schema, a_schema_kind, any_flag}
-use Rattle.openapi_tables.specs.Kind.{any_text, any_tree, by, code_of, flag_or_schema, format, list_of, map_of, null_or}
-use Rattle.openapi_tables.specs.Kind.{number, one_of, ref_to, status_code, tagged, text_of}
+use Rattle.openapi_tables.specs.Kind.{Kind, Tables, Case, Code, TableName, a_schema, a_schema_kind, any_text, any_tree}
+use Rattle.openapi_tables.specs.Kind.{by, code_of, flag_or_schema, format, list_of, map_of, null_or, ref_to}
+use Rattle.openapi_tables.specs.Kind.{status_code, tagged, text_of}
 use Rattle.openapi_tables.proofs.Back.{stays-flag_or_schema}
-use Rattle.openapi_tables.proofs.Calm.{Calm, format_stays, from_stay_all}
-use Rattle.openapi_tables.proofs.Calm.{list_stays, plain_stays, rows_calm}
+use Rattle.openapi_tables.proofs.Calm.{Calm, format_stays, from_stay_all, list_stays, plain_stays, rows_calm}
 use Rattle.openapi_tables.proofs.Firm.{stays_values}
-use Rattle.openapi_tables.proofs.FormLaws.{Deep, Within, by_deep, forms_of-list, named_of-list, of_forms_lem}
-use Rattle.openapi_tables.proofs.FormLaws.{show}
+use Rattle.openapi_tables.proofs.FormLaws.{Deep, Within, by_deep, forms_of-list, named_of-list, of_forms_lem, show}
 use Rattle.openapi_tables.proofs.ListLaws.{Each, each_under}
 use Rattle.openapi_tables.proofs.ObjectBack.{stays-fields}
 use Rattle.openapi_tables.proofs.PrintLaws.{entry_of, members_for, print-list, print-map}
@@ -18,19 +16,17 @@ use Rattle.openapi_tables.proofs.ReadLaws.{form-fields, form-flag_or_schema, for
 use Rattle.openapi_tables.proofs.ReadLaws.{form-reference, pair_of, slot_in}
 use Rattle.openapi_tables.proofs.Taken.{ref_text}
 use Rattle.openapi_tables.proofs.Writes.{Written, print-proper, written}
-use Rattle.openapi_tables.specs.Form.{Form, Forms, Named, Pair, absent, an_item, deciding, fields, forms_list, known}
-use Rattle.openapi_tables.specs.Form.{leaf, more, name, named, named_list, no_forms, no_named, of_code, of_forms}
-use Rattle.openapi_tables.specs.Form.{of_named, other, reference, sequence, under, unset}
+use Rattle.openapi_tables.specs.Form.{Form, Forms, Named, Pair, an_item, fields, forms_list, known, leaf, more, name}
+use Rattle.openapi_tables.specs.Form.{named, named_list, no_forms, no_named, of_code, of_forms, of_named, other}
+use Rattle.openapi_tables.specs.Form.{sequence, under}
 use Rattle.openapi_tables.specs.Lists.{each, every}
-use Rattle.openapi_tables.specs.Members.{Choice}
-use Rattle.openapi_tables.specs.Members.{choice}
-use Rattle.openapi_tables.specs.Members.{plain, rows_of, sort, tag}
+use Rattle.openapi_tables.specs.Members.{Choice, choice, plain, rows_of, sort, tag}
 use Rattle.openapi_tables.specs.Print.{again, print}
 use Rattle.openapi_tables.specs.Proper.{Held, choice_proper, face_proper, is_name, of_kind, proper, rows_proper}
 use Rattle.openapi_tables.specs.Read.{code_form, form}
 use Rattle.openapi_tables.specs.Sound.{sound, tables_sound, under_ref}
 use Rattle.openapi_tables.specs.Stays.{choice_stays, face_stays, rows_stay, stays}
-use Rattle.openapi_node.specs.Tree.{Tree, flag, list, null, object, text, whole}
+use Rattle.openapi_node.specs.Tree.{Tree, object, text, null}
 use Rattle.openapi_tables.specs.Tree.{members_of}
 use Rattle.openapi_tables.proofs.SchemaCalm.{schema_form_calm, kind_form_calm}
 
@@ -101,21 +97,8 @@ fields_calm T W c fs g k s h = at k s h
         let p = parts a_schema_kind h in
         ap (λ t. stays T a_schema_kind (form T a_schema_kind t)) (print-proper T a_schema_kind c fs p.0)
         ∙ kind_at c p.0 (written T W a_schema_kind c (forms_list fs) s p.0 p.1)
-    at any_text s h = cc
-    at any_flag s h = cc
-    at (number w) s h = cc
-    at any_tree s h = cc
-    at (one_of ws) s h = cc
-    at (format ws b) s h = cc
     at (null_or any_text) s h = cc
-    at (null_or any_flag) s h = cc
-    at (null_or (number w)) s h = cc
-    at (null_or k) s h = cc
-    at (list_of k) s h = cc
-    at (map_of k) s h = cc
-    at (ref_to k) s h = cc
-    at flag_or_schema s h = cc
-    at status_code s h = cc
+    at k s h = cc
 
 -- a reference stays, and so does an item that stays
 reference_stays : (T : Tables) (k : Kind) (t : Tree) → stays T k (form T k t) ≡ true
@@ -129,29 +112,10 @@ reference_stays T k t h = at (ref_text t) refl
 leaf_calm : (T : Tables) (t : Tree) (k : Kind) → sound T k ≡ true → proper T k (leaf t) ≡ true
     → stays T k (form T k t) ≡ true
 leaf_calm T t any_tree s h = plain_stays T t any_tree refl
-leaf_calm T (text u) any_text s h = refl
-leaf_calm T (text u) (one_of ws) s h = refl
-leaf_calm T (flag b) any_flag s h = refl
-leaf_calm T (whole z) (number w) s h = refl
-leaf_calm T null (null_or any_text) s h = refl
-leaf_calm T null (null_or any_flag) s h = refl
-leaf_calm T null (null_or (number w)) s h = refl
-leaf_calm T (text u) (null_or any_text) s h = refl
-leaf_calm T (flag b) (null_or any_flag) s h = refl
-leaf_calm T (whole z) (null_or (number w)) s h = refl
-leaf_calm T (flag b) flag_or_schema s h = refl
+leaf_calm T null (null_or any_text) s h = cc
+leaf_calm T t (null_or any_text) s h = cc
 leaf_calm T null k s h = cc
-leaf_calm T (flag b) k s h = cc
-leaf_calm T (whole z) k s h = cc
-leaf_calm T (text u) k s h = cc
-leaf_calm T (list ts) (null_or any_text) s h = cc
-leaf_calm T (list ts) (null_or any_flag) s h = cc
-leaf_calm T (list ts) (null_or (number w)) s h = cc
-leaf_calm T (list ts) k s h = cc
-leaf_calm T (object ms) (null_or any_text) s h = cc
-leaf_calm T (object ms) (null_or any_flag) s h = cc
-leaf_calm T (object ms) (null_or (number w)) s h = cc
-leaf_calm T (object ms) k s h = cc
+leaf_calm T t k s h = cc
 
 sequence_calm : (T : Tables) (k : Kind) (fs : Forms) → sound T k ≡ true → Each (Calm T) (forms_list fs)
     → every (λ (p : Held). p.answer (of_kind k)) (of_forms (face_proper T) fs) ≡ true
@@ -172,7 +136,6 @@ named_calm T k (under n f es) s g h =
     (g.0 k s (and_parts (is_name n) (proper T k f) p.0).1, named_calm T k es s g.1 p.1)
 
 calm_step : (T : Tables) (W : tables_sound T ≡ true) (f : Form) → Within (Deep (Calm T)) f → Calm T f
-calm_step T W absent g k s h = cc
 calm_step T W (leaf t) g k s h = leaf_calm T t k s h
 calm_step T W (of_code c) g status_code s h = at (code_of (text_of c))
   where
@@ -181,22 +144,15 @@ calm_step T W (of_code c) g status_code s h = at (code_of (text_of c))
     at (Some d) = refl
 calm_step T W (known u) g (format ws b) s h = format_stays T ws b (text u)
 calm_step T W (other u) g (format ws b) s h = format_stays T ws b (text u)
-calm_step T W unset g (format ws b) s h = refl
-calm_step T W (reference u) g (ref_to k) s h = refl
-calm_step T W (reference u) g flag_or_schema s h = refl
 calm_step T W (an_item f) g (ref_to k) s h =
     reference_stays T k (print T k f) (g.0 k (and_parts (under_ref T k) (sound T k) s).1 h)
 calm_step T W (an_item f) g flag_or_schema s h = flag_or (print T a_schema f) (g.0 a_schema refl h)
   where
     flag_or : (t : Tree) → stays T a_schema (form T a_schema t) ≡ true
         → stays T flag_or_schema (form T flag_or_schema t) ≡ true
-    flag_or (flag b) x = refl
-    flag_or null x = refl
-    flag_or (whole z) x = refl
-    flag_or (text u) x = refl
-    flag_or (list ts) x = refl
     flag_or (object ms) x = ap (stays T flag_or_schema) (form-flag_or_schema T (object ms) refl)
         ∙ stays-flag_or_schema T (form T (ref_to a_schema) (object ms)) ∙ reference_stays T a_schema (object ms) x
+    flag_or t x = refl
 calm_step T W (sequence fs) g (list_of k) s h =
     let xs = each (print T k) (forms_list fs) in
     ap (λ x. stays T (list_of k) (form T (list_of k) (print T (list_of k) (sequence x)))) (sym (forms_of-list fs))
@@ -211,40 +167,9 @@ calm_step T W (named es) g (map_of k) s h =
     ∙ ap (stays T (map_of k)) (form-map T k xs)
     ∙ stays_values T k (each (pair_of T name k) xs)
     (named_calm T k es s (each_under (λ (e : Pair Form) (x : Deep (Calm T) e.value). x.0) (named_list es) g) h)
-calm_step T W (of_code c) g (null_or any_text) s h = cc
-calm_step T W (of_code c) g (null_or any_flag) s h = cc
-calm_step T W (of_code c) g (null_or (number w)) s h = cc
-calm_step T W (of_code c) g k s h = cc
-calm_step T W (known u) g (null_or any_text) s h = cc
-calm_step T W (known u) g (null_or any_flag) s h = cc
-calm_step T W (known u) g (null_or (number w)) s h = cc
-calm_step T W (known u) g k s h = cc
-calm_step T W (other u) g (null_or any_text) s h = cc
-calm_step T W (other u) g (null_or any_flag) s h = cc
-calm_step T W (other u) g (null_or (number w)) s h = cc
-calm_step T W (other u) g k s h = cc
-calm_step T W unset g (null_or any_text) s h = cc
-calm_step T W unset g (null_or any_flag) s h = cc
-calm_step T W unset g (null_or (number w)) s h = cc
-calm_step T W unset g k s h = cc
-calm_step T W (reference u) g (null_or any_text) s h = cc
-calm_step T W (reference u) g (null_or any_flag) s h = cc
-calm_step T W (reference u) g (null_or (number w)) s h = cc
-calm_step T W (reference u) g k s h = cc
-calm_step T W (an_item f) g (null_or any_text) s h = cc
-calm_step T W (an_item f) g (null_or any_flag) s h = cc
-calm_step T W (an_item f) g (null_or (number w)) s h = cc
-calm_step T W (an_item f) g k s h = cc
-calm_step T W (sequence fs) g (null_or any_text) s h = cc
-calm_step T W (sequence fs) g (null_or any_flag) s h = cc
-calm_step T W (sequence fs) g (null_or (number w)) s h = cc
-calm_step T W (sequence fs) g k s h = cc
-calm_step T W (named es) g (null_or any_text) s h = cc
-calm_step T W (named es) g (null_or any_flag) s h = cc
-calm_step T W (named es) g (null_or (number w)) s h = cc
-calm_step T W (named es) g k s h = cc
-calm_step T W (deciding n f) g k s h = cc
 calm_step T W (fields c fs) g k s h = fields_calm T W c fs g k s h
+calm_step T W f g (null_or any_text) s h = cc
+calm_step T W f g k s h = cc
 
 -- what is read of what a proper form is written as stays
 pub calm_all : (T : Tables) (W : tables_sound T ≡ true) (f : Form) → Calm T f

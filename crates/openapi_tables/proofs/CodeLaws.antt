@@ -86,10 +86,8 @@ range_fits a b c h =
     le-leb (a - 48) 9 (omega arith)
 
 pub writable-code_of : (s : List ℕ) (c : Code) → code_of s ≡ Some c → writable_code c ≡ true
-writable-code_of [] c h = cc
-writable-code_of (x ∷ []) c h = cc
-writable-code_of (x ∷ y ∷ []) c h = cc
 writable-code_of (x ∷ y ∷ z ∷ []) c h =
     writable_of _ _ (code (100 * (x - 48) + 10 * (y - 48) + (z - 48))) (range (x - 48)) c (code_fits x y z)
     (range_fits x y z) h
-writable-code_of (x ∷ y ∷ z ∷ w ∷ l) c h = cc
+writable-code_of (x ∷ y ∷ []) c h = cc
+writable-code_of s c h = cc

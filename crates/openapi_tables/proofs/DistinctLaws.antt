@@ -12,8 +12,7 @@ use Rattle.openapi_tables.specs.Read.{same_key, key_in}
 use Rattle.openapi_tables.specs.Print.{text_of_key}
 use Rattle.openapi_tables.specs.Proper.{is_written}
 use Rattle.openapi_node.specs.Named.{lacks, well_named}
-use Rattle.openapi_tables.specs.Distinct.{keys_differ, face_distinct}
-use Rattle.openapi_tables.specs.Distinct.{distinct}
+use Rattle.openapi_tables.specs.Distinct.{keys_differ, face_distinct, distinct}
 use Rattle.openapi_tables.proofs.ListLaws.{Each, every_each, every_from, Each_within-only, same_text_eq, each_under}
 use Rattle.openapi_tables.proofs.ListLaws.{same_bytes}
 use Rattle.std.specs.Str.{bytes_eq}

@@ -3,9 +3,8 @@ use Rattle.std.proofs.Common.{ℕ, Bool, true, false, cond, List, [], ◌∷◌,
 use Rattle.openapi_tables.specs.Lists.{each, same_text}
 use Rattle.openapi_node.specs.Tree.{Tree}
 use Rattle.openapi_tables.specs.Tree.{items_list, members_list, Entry}
-use Rattle.openapi_tables.specs.Kind.{Kind, map_of, Mode, required, optional, nullable, listed, flagged, styled}
-use Rattle.openapi_tables.specs.Kind.{formatted, Row, row, either, class, constant, Class, extensions, callback_names}
-use Rattle.openapi_tables.specs.Kind.{path_names, status_names, Tables, takes, ref_to, a_schema}
+use Rattle.openapi_tables.specs.Kind.{Kind, map_of, Mode, required, Row, row, either, class, constant, Class}
+use Rattle.openapi_tables.specs.Kind.{status_names, Tables, takes, ref_to, a_schema}
 use Rattle.openapi_tables.specs.Members.{is_null, own, rows_of}
 use Rattle.openapi_tables.specs.Form.{Form, forms_of, fields, Key, name, Pair}
 use Rattle.openapi_tables.specs.Read.{default_of, slot_of_own, slot, key_in, root_form, form, same_key, map_form}
@@ -14,8 +13,7 @@ use Rattle.openapi_tables.specs.Distinct.{distinct}
 use Rattle.openapi_tables.proofs.ListLaws.{Each, Each_within-only, each_under}
 use Rattle.openapi_tables.proofs.TreeLaws.{Inside, by_trees, of_members_lem}
 use Rattle.openapi_tables.proofs.KeyLaws.{Distinct, Distinct-put_all, Both-gather}
-use Rattle.openapi_tables.proofs.Taken.{Taken, as_leaf, as_known, as_other, as_unset, as_text_code, as_number_code}
-use Rattle.openapi_tables.proofs.Taken.{as_list, as_map, as_fields, as_reference, as_item, as_schema, as_inner, taken}
+use Rattle.openapi_tables.proofs.Taken.{Taken, as_leaf, as_list, as_map, as_fields, as_item, as_schema, as_inner, taken}
 use Rattle.openapi_tables.proofs.ReadLaws.{reads, pair_of, map_form-reads, class_form-reads, slots-reads, slot_in}
 use Rattle.openapi_tables.proofs.RowBack.{class_read}
 use Rattle.openapi_tables.proofs.AllReadProper.{from_list}
@@ -51,9 +49,7 @@ keys_of_names T k (e ∷ es) h = (apart es h.0, keys_of_names T k es h.1)
 
 class_keys : (T : Tables) (c : Class) (k : Kind) (es : List (Entry Tree)) → Differ es → Distinct (class_read T c k es)
 class_keys T status_names k es h = Distinct-put_all [] (each (pair_of T (key_in status_names) k) es) tt
-class_keys T extensions k es h = keys_of_names T k es h
-class_keys T callback_names k es h = keys_of_names T k es h
-class_keys T path_names k es h = keys_of_names T k es h
+class_keys T c k es h = keys_of_names T k es h
 
 pair_values : (T : Tables) (g : List ℕ → Key) (k : Kind) (es : List (Entry Tree)) → Values T es
     → Each (λ (e : Pair Form). Unit {0} × (distinct e.value ≡ true)) (each (pair_of T g k) es)
@@ -62,13 +58,8 @@ pair_values T g k (e ∷ es) h = ((tt, h.0 k), pair_values T g k es h.1)
 
 default_clear : (m : Mode) (k : Kind) → distinct (default_of m k) ≡ true
 default_clear required k = refl
-default_clear optional k = refl
-default_clear nullable k = refl
-default_clear listed (map_of k) = refl
-default_clear listed k = refl
-default_clear flagged k = refl
-default_clear (styled s) k = refl
-default_clear formatted k = refl
+default_clear m (map_of k) = refl
+default_clear m k = refl
 
 value_clear : (m : Mode) (k : Kind) (f : Form) (b : Bool) → distinct f ≡ true
     → distinct (cond b (default_of m k) f) ≡ true
@@ -102,11 +93,6 @@ rows_clear T (w ∷ ws) es d h = (
 taken_clear : (T : Tables) (k : Kind) (t : Tree) (f : Form) → Taken T k t f → Inside (Clear T) t
     → well_named t ≡ true → distinct f ≡ true
 taken_clear T k t f (as_leaf j u e) g h = h
-taken_clear T k t f (as_known ws b s e) g h = refl
-taken_clear T k t f (as_other ws b s e) g h = refl
-taken_clear T k t f (as_unset ws b) g h = refl
-taken_clear T k t f (as_text_code s c e) g h = refl
-taken_clear T k t f (as_number_code n e) g h = refl
 taken_clear T k t f (as_list j ts) g h =
     distinct-sequence (each (form T j) (items_list ts)) (items_clear T j (items_list ts) g (of_list_named ts h))
 taken_clear T k t f (as_map j ms) g h =
@@ -123,10 +109,10 @@ taken_clear T k t f (as_fields j c ms e) g h =
     ap (λ l. distinct (fields c (forms_of (each (slot l) (rows_of T j c))))) (of_members_lem (root_form T) ms)
     ∙ ap (λ l. distinct (fields c (forms_of l))) (slots-reads T (rows_of T j c) es)
     ∙ distinct-fields c (each (slot_in T es) (rows_of T j c)) (rows_clear T (rows_of T j c) es w.0 (values T es g w.1))
-taken_clear T k t f (as_reference j u s e) g h = refl
 taken_clear T k t f (as_item j u x e y) g h = taken_clear T j u x y g h
 taken_clear T k t f (as_schema u x e y) g h = taken_clear T (ref_to a_schema) u x y g h
 taken_clear T k t f (as_inner j u x y) g h = taken_clear T j u x y g h
+taken_clear T k t f x g h = refl
 
 pub reads_distinct : (T : Tables) (t : Tree) → Clear T t
 reads_distinct T t = by_trees (Clear T) (λ u g k h. taken_clear T k u (form T k u) (taken T k u) g h) t

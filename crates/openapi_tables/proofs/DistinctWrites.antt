@@ -5,13 +5,12 @@ use Rattle.std.proofs.lemmas.Bool.{and_parts, or_cases, both_ways}
 use Rattle.openapi_tables.specs.Lists.{each, join, every, same_text}
 use Rattle.openapi_node.specs.Tree.{Tree}
 use Rattle.openapi_tables.specs.Tree.{Entry}
-use Rattle.openapi_tables.specs.Kind.{Kind, optional, nullable, by, tagged, a_schema_kind, any_text, any_flag, number}
-use Rattle.openapi_tables.specs.Kind.{null_or, list_of, map_of, ref_to, flag_or_schema, a_schema, Row, row, either}
-use Rattle.openapi_tables.specs.Kind.{class, constant, Class, Mode, takes, Tables, by, tagged}
+use Rattle.openapi_tables.specs.Kind.{Kind, optional, nullable, by, tagged, a_schema_kind, any_text, null_or, list_of}
+use Rattle.openapi_tables.specs.Kind.{map_of, ref_to, flag_or_schema, a_schema, Row, row, either, class, constant}
+use Rattle.openapi_tables.specs.Kind.{Class, Mode, takes, Tables, by, tagged}
 use Rattle.openapi_tables.specs.Members.{Choice, rows_of}
-use Rattle.openapi_tables.specs.Form.{Form, Key, name, coded, absent, leaf, of_code, known, other, unset, reference}
-use Rattle.openapi_tables.specs.Form.{an_item, sequence, named, deciding, fields, Forms, no_forms, more, forms_list}
-use Rattle.openapi_tables.specs.Form.{Named, named_list, Pair, Key, of_forms}
+use Rattle.openapi_tables.specs.Form.{Form, Key, name, coded, absent, leaf, an_item, sequence, named, deciding, fields}
+use Rattle.openapi_tables.specs.Form.{Forms, no_forms, more, forms_list, Named, named_list, Pair, Key, of_forms}
 use Rattle.openapi_tables.specs.Read.{same_key}
 use Rattle.openapi_tables.specs.Print.{is_silent, one, row_print, print, text_of_key, Prints, face_print}
 use Rattle.openapi_tables.specs.Proper.{Held, is_name, is_written, may_be_absent, of_kind, row_proper, rows_proper}
@@ -214,42 +213,21 @@ map_named T k es s g h d =
     ))
 
 step : (T : Tables) (W : tables_sound T ≡ true) (f : Form) → Within (Deep (WritesNamed T)) f → WritesNamed T f
-step T W absent g k s h d = refl
 step T W (leaf t) g k s h d = d
-step T W (of_code c) g k s h d = refl
-step T W (known u) g k s h d = refl
-step T W (other u) g k s h d = refl
-step T W unset g k s h d = refl
-step T W (reference u) g k s h d = refl
 step T W (an_item f) g (ref_to k) s h d = g.0 k (and_parts (under_ref T k) (sound T k) s).1 h d
 step T W (an_item f) g flag_or_schema s h d = g.0 a_schema refl h d
-step T W (an_item f) g (null_or any_text) s h d = cc
-step T W (an_item f) g (null_or any_flag) s h d = cc
-step T W (an_item f) g (null_or (number w)) s h d = cc
-step T W (an_item f) g k s h d = cc
 step T W (sequence fs) g (list_of k) s h d =
     to_list_named (each (λ (p : Prints). p.answer k) (of_forms (face_print T) fs))
     (sequence_named T k fs s (each_under (λ (f : Form) (x : Deep (WritesNamed T) f). x.0) (forms_list fs) g) h
     (of_forms_distinct fs d))
-step T W (sequence fs) g (null_or any_text) s h d = cc
-step T W (sequence fs) g (null_or any_flag) s h d = cc
-step T W (sequence fs) g (null_or (number w)) s h d = cc
-step T W (sequence fs) g k s h d = cc
 step T W (named es) g (map_of k) s h d =
     map_named T k es s (each_under (λ (e : Pair Form) (x : Deep (WritesNamed T) e.value). x.0) (named_list es) g) h d
-step T W (named es) g (null_or any_text) s h d = cc
-step T W (named es) g (null_or any_flag) s h d = cc
-step T W (named es) g (null_or (number w)) s h d = cc
-step T W (named es) g k s h d = cc
-step T W (deciding n f) g k s h d = cc
 step T W (fields c fs) g (by i) s h d = fields_named T W c fs g (by i) s h d
 step T W (fields c fs) g (tagged n cs) s h d = fields_named T W c fs g (tagged n cs) s h d
 step T W (fields c fs) g a_schema s h d = fields_named T W c fs g a_schema s h d
 step T W (fields c fs) g a_schema_kind s h d = fields_named T W c fs g a_schema_kind s h d
-step T W (fields c fs) g (null_or any_text) s h d = cc
-step T W (fields c fs) g (null_or any_flag) s h d = cc
-step T W (fields c fs) g (null_or (number w)) s h d = cc
-step T W (fields c fs) g k s h d = cc
+step T W f g (null_or any_text) s h d = cc
+step T W f g k s h d = cc
 
 pub writes_named : (T : Tables) (W : tables_sound T ≡ true) (f : Form) → WritesNamed T f
 writes_named T W f = by_deep (WritesNamed T) (step T W) f

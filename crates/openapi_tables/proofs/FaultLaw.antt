@@ -1,15 +1,14 @@
 -- A tree conforms to a kind exactly where nothing that is asked is broken: for all kinds and trees.
 use Rattle.openapi_tables.proofs.ListLaws.{every_behind}
-use Rattle.std.proofs.Common.{ℕ, pos, negsuc, Bool, true, false, cond, ◌&&◌, nat_le, List, [], ◌∷◌, Option, Some, None}
-use Rattle.std.proofs.Common.{◌≡◌, refl, sym, ap, ◌∙◌, codes}
+use Rattle.std.proofs.Common.{ℕ, pos, Bool, true, false, cond, ◌&&◌, nat_le, List, [], ◌∷◌, Option, Some, None, ◌≡◌}
+use Rattle.std.proofs.Common.{refl, sym, ap, ◌∙◌, codes}
 use Rattle.std.proofs.lemmas.Bool.{and_parts}
 use Rattle.openapi_tables.specs.Lists.{each, join, flat, every, same_text, has, is_empty}
-use Rattle.openapi_node.specs.Tree.{Tree, null, flag, whole, text, list, object, Members}
+use Rattle.openapi_node.specs.Tree.{Tree, null, whole, text, list, object, Members}
 use Rattle.openapi_tables.specs.Tree.{members_list, Entry, Seen, an_object, of_members}
-use Rattle.openapi_tables.specs.Kind.{Kind, any_text, any_flag, number, any_tree, one_of, format, null_or, list_of}
-use Rattle.openapi_tables.specs.Kind.{map_of, by, tagged, ref_to, flag_or_schema, a_schema, a_schema_kind, status_code}
-use Rattle.openapi_tables.specs.Kind.{within, Case, code_of, is_code, required, Row, row, constant, Tables, TableName}
-use Rattle.openapi_tables.specs.Kind.{schema_data}
+use Rattle.openapi_tables.specs.Kind.{Kind, number, one_of, format, null_or, list_of, map_of, by, tagged, ref_to}
+use Rattle.openapi_tables.specs.Kind.{flag_or_schema, a_schema, a_schema_kind, status_code, within, Case, code_of}
+use Rattle.openapi_tables.specs.Kind.{is_code, required, Row, row, constant, Tables, TableName, schema_data}
 use Rattle.openapi_tables.specs.Tables.{any_rows}
 use Rattle.openapi_tables.specs.Members.{own, trees, held, first_tree, is_case, case_rows, tag_choice, tag, choice}
 use Rattle.openapi_tables.specs.Members.{checked_rows, made_optional}
@@ -25,8 +24,8 @@ use Rattle.openapi_tables.proofs.TreeLaws.{Inside, by_trees, of_members_lem, mem
 use Rattle.openapi_tables.proofs.Taken.{trees_of-members}
 use Rattle.openapi_tables.proofs.ObjectBack.{checked}
 use Rattle.openapi_tables.proofs.FaultLaws.{every-join, every-below, Judged_by, judged, askeds, items_judged}
-use Rattle.openapi_tables.proofs.FaultLaws.{members_judged, own_judged, table_judged, open_judged}
-use Rattle.openapi_tables.proofs.FaultLaws.{has_words, rows_at_tag, seen_members}
+use Rattle.openapi_tables.proofs.FaultLaws.{members_judged, own_judged, table_judged, open_judged, has_words}
+use Rattle.openapi_tables.proofs.FaultLaws.{rows_at_tag, seen_members}
 
 unless_met : (b : Bool) (c : Cause) → b ≡ (is_empty (unless b c) && true)
 unless_met true c = refl
@@ -96,15 +95,11 @@ tag_value : (T : Tables) (W : tables_sound T ≡ true) (n : List ℕ) (cs : List
     → ((s : List ℕ) → t ≡ text s → constant_holds s (own (constant n s) (judged T es)) ≡ true)
     → chosen_holds T (tagged n cs) (judged T es) (tag_choice cs t)
     ≡ (conforms T (one_of (words cs)) t && every (is_met T) (asks_tag T n cs (askeds T es) (tag_choice cs t)))
-tag_value T W n cs es null g c = refl
-tag_value T W n cs es (flag b) g c = refl
-tag_value T W n cs es (whole z) g c = refl
 tag_value T W n cs es (text s) g c =
     tag_text T W n cs es s g (c s refl) (is_case cs s) refl
     ∙ ap (λ b. b && every (is_met T) (asks_tag T n cs (askeds T es) (tag_choice cs (text s))))
     (sym (has_words cs s))
-tag_value T W n cs es (list ts) g c = refl
-tag_value T W n cs es (object ms) g c = refl
+tag_value T W n cs es t g c = refl
 
 tag_members : (T : Tables) (W : tables_sound T ≡ true) (n : List ℕ) (cs : List Case) (es l : List (Entry Tree))
     → Each (λ (e : Entry Tree). Judged_by T e.value) es → Each (λ (e : Entry Tree). Judged_by T e.value) l
@@ -168,121 +163,30 @@ reference_met T (Some s) b l h = refl
 
 pub met : (T : Tables) (W : tables_sound T ≡ true) (k : Kind) (t : Tree) → Inside (Judged_by T) t → sound T k ≡ true
     → conforms T k t ≡ every (is_met T) (asked T k t)
-met T W any_text null g s = refl
-met T W any_text (flag v) g s = refl
-met T W any_text (whole z) g s = refl
-met T W any_text (text u) g s = refl
-met T W any_text (list ts) g s = refl
-met T W any_text (object ms) g s = refl
-met T W any_flag null g s = refl
-met T W any_flag (flag v) g s = refl
-met T W any_flag (whole z) g s = refl
-met T W any_flag (text u) g s = refl
-met T W any_flag (list ts) g s = refl
-met T W any_flag (object ms) g s = refl
-met T W any_tree null g s = refl
-met T W any_tree (flag v) g s = refl
-met T W any_tree (whole z) g s = refl
-met T W any_tree (text u) g s = refl
-met T W any_tree (list ts) g s = refl
-met T W any_tree (object ms) g s = refl
-met T W (number w) null g s = refl
-met T W (number w) (flag v) g s = refl
 met T W (number w) (whole z) g s = unless_met (within w z) _
-met T W (number w) (text u) g s = refl
-met T W (number w) (list ts) g s = refl
-met T W (number w) (object ms) g s = refl
-met T W (one_of ws) null g s = refl
-met T W (one_of ws) (flag v) g s = refl
-met T W (one_of ws) (whole z) g s = refl
 met T W (one_of ws) (text u) g s = unless_met (has ws u) _
-met T W (one_of ws) (list ts) g s = refl
-met T W (one_of ws) (object ms) g s = refl
 met T W (format ws b) null g s = unless_met b _
-met T W (format ws b) (flag v) g s = refl
-met T W (format ws b) (whole z) g s = refl
-met T W (format ws b) (text u) g s = refl
-met T W (format ws b) (list ts) g s = refl
-met T W (format ws b) (object ms) g s = refl
-met T W (null_or any_text) null g s = refl
-met T W (null_or any_text) (flag v) g s = refl
-met T W (null_or any_text) (whole z) g s = refl
-met T W (null_or any_text) (text u) g s = refl
-met T W (null_or any_text) (list ts) g s = refl
-met T W (null_or any_text) (object ms) g s = refl
-met T W (null_or any_flag) null g s = refl
-met T W (null_or any_flag) (flag v) g s = refl
-met T W (null_or any_flag) (whole z) g s = refl
-met T W (null_or any_flag) (text u) g s = refl
-met T W (null_or any_flag) (list ts) g s = refl
-met T W (null_or any_flag) (object ms) g s = refl
-met T W (null_or (number w)) null g s = refl
-met T W (null_or (number w)) (flag v) g s = refl
 met T W (null_or (number w)) (whole z) g s = unless_met (within w z) _
-met T W (null_or (number w)) (text u) g s = refl
-met T W (null_or (number w)) (list ts) g s = refl
-met T W (null_or (number w)) (object ms) g s = refl
+met T W (null_or k) null g s = cc
 met T W (null_or k) t g s = cc
-met T W (list_of k) null g s = refl
-met T W (list_of k) (flag v) g s = refl
-met T W (list_of k) (whole z) g s = refl
-met T W (list_of k) (text u) g s = refl
 met T W (list_of k) (list ts) g s = items_judged T k 0 ts s g
-met T W (list_of k) (object ms) g s = refl
-met T W (map_of k) null g s = refl
-met T W (map_of k) (flag v) g s = refl
-met T W (map_of k) (whole z) g s = refl
-met T W (map_of k) (text u) g s = refl
-met T W (map_of k) (list ts) g s = refl
 met T W (map_of k) (object ms) g s = map_met T k ms s g
-met T W (by i) null g s = refl
-met T W (by i) (flag v) g s = refl
-met T W (by i) (whole z) g s = refl
-met T W (by i) (text u) g s = refl
-met T W (by i) (list ts) g s = refl
 met T W (by i) (object ms) g s = table_met T W i ms g
-met T W (tagged n cs) null g s = refl
-met T W (tagged n cs) (flag v) g s = refl
-met T W (tagged n cs) (whole z) g s = refl
-met T W (tagged n cs) (text u) g s = refl
-met T W (tagged n cs) (list ts) g s = refl
 met T W (tagged n cs) (object ms) g s = tagged_met T W n cs ms g
-met T W (ref_to k) null g s = met T W k null g (and_parts (under_ref T k) (sound T k) s).1
-met T W (ref_to k) (flag v) g s = met T W k (flag v) g (and_parts (under_ref T k) (sound T k) s).1
-met T W (ref_to k) (whole z) g s = met T W k (whole z) g (and_parts (under_ref T k) (sound T k) s).1
-met T W (ref_to k) (text u) g s = met T W k (text u) g (and_parts (under_ref T k) (sound T k) s).1
-met T W (ref_to k) (list ts) g s = met T W k (list ts) g (and_parts (under_ref T k) (sound T k) s).1
 met T W (ref_to k) (object ms) g s = ap (λ r. reference_or r (conforms T k (object ms))) (is_reference_same T ms)
     ∙ reference_met T (is_reference (an_object (of_members (root_asks T) ms))) (conforms T k (object ms))
     (asked T k (object ms)) (met T W k (object ms) g (and_parts (under_ref T k) (sound T k) s).1)
-met T W flag_or_schema null g s = refl
-met T W flag_or_schema (flag v) g s = refl
-met T W flag_or_schema (whole z) g s = refl
-met T W flag_or_schema (text u) g s = refl
-met T W flag_or_schema (list ts) g s = refl
+met T W (ref_to k) t g s = met T W k t g (and_parts (under_ref T k) (sound T k) s).1
 met T W flag_or_schema (object ms) g s =
     ap (λ r. reference_or r (conforms T a_schema (object ms))) (is_reference_same T ms)
     ∙ reference_met T (is_reference (an_object (of_members (root_asks T) ms))) (conforms T a_schema (object ms))
     (asked T a_schema (object ms)) (schema_met T W ms g)
-met T W a_schema null g s = refl
-met T W a_schema (flag v) g s = refl
-met T W a_schema (whole z) g s = refl
-met T W a_schema (text u) g s = refl
-met T W a_schema (list ts) g s = refl
 met T W a_schema (object ms) g s = schema_met T W ms g
-met T W a_schema_kind null g s = refl
-met T W a_schema_kind (flag v) g s = refl
-met T W a_schema_kind (whole z) g s = refl
-met T W a_schema_kind (text u) g s = refl
-met T W a_schema_kind (list ts) g s = refl
 met T W a_schema_kind (object ms) g s = schema_kind_met T W ms g
-met T W status_code null g s = refl
-met T W status_code (flag v) g s = refl
 met T W status_code (whole (pos n)) g s = unless_met (nat_le 100 n && nat_le n 999) _
-met T W status_code (whole (negsuc n)) g s = refl
 met T W status_code (text u) g s = unless_met (is_code (code_of u)) _
-met T W status_code (list ts) g s = refl
-met T W status_code (object ms) g s = refl
+met T W k null g s = refl
+met T W k t g s = refl
 
 -- a tree conforms exactly where nothing that is asked is broken
 pub conforms-asked : (T : Tables) (W : tables_sound T ≡ true) (t : Tree) → Judged_by T t

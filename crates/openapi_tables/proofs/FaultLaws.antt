@@ -5,8 +5,8 @@ use Rattle.std.proofs.lemmas.Bool.{and_parts}
 use Rattle.openapi_tables.specs.Lists.{each, join, flat, every, same_text, has, is_empty}
 use Rattle.openapi_node.specs.Tree.{Tree, Items, no_items, item}
 use Rattle.openapi_tables.specs.Tree.{items_list, Entry, on_entry, Seen, Shape, of_items}
-use Rattle.openapi_tables.specs.Kind.{Kind, Case, Mode, required, optional, nullable, listed, flagged, styled}
-use Rattle.openapi_tables.specs.Kind.{formatted, Row, row, either, class, constant, takes, Tables, TableName}
+use Rattle.openapi_tables.specs.Kind.{Kind, Case, Mode, required, optional, nullable, Row, row, either, class, constant}
+use Rattle.openapi_tables.specs.Kind.{takes, Tables, TableName}
 use Rattle.openapi_tables.specs.Members.{is_null, own, trees, is_case, case_rows}
 use Rattle.openapi_tables.specs.Conforms.{name_holds, either_holds, Judged, row_holds, root_conforms, conforms}
 use Rattle.openapi_tables.specs.Sound.{sound, row_sound, has_members, never_misses, mode_fits, rows_apart, tables_sound}
@@ -76,24 +76,15 @@ name_judged : (T : Tables) (n : List ℕ) (m : Mode) (k : Kind) (l : List (Entry
     → Each (λ (e : Entry Tree). Judged_by T e.value) l
     → name_holds m k (judged T l)
     ≡ (is_empty (misses (row n m k) l) && every (is_met T) (asks_own (row n m k) (askeds T l)))
-name_judged T n required k [] s h = refl
-name_judged T n optional k [] s h = refl
-name_judged T n nullable k [] s h = refl
-name_judged T n listed k [] s h = refl
-name_judged T n flagged k [] s h = refl
-name_judged T n (styled u) k [] s h = refl
-name_judged T n formatted k [] s h = refl
-name_judged T n required k (e ∷ l) s h = h.0 k s ∙ sym (every-below T (at_name e.name) (asked T k e.value))
 name_judged T n optional k (e ∷ l) s h =
     skipped T (is_null e.value) (conforms T k e.value) (below (at_name e.name) (asked T k e.value))
     (h.0 k s ∙ sym (every-below T (at_name e.name) (asked T k e.value)))
 name_judged T n nullable k (e ∷ l) s h =
     skipped T (is_null e.value) (conforms T k e.value) (below (at_name e.name) (asked T k e.value))
     (h.0 k s ∙ sym (every-below T (at_name e.name) (asked T k e.value)))
-name_judged T n listed k (e ∷ l) s h = h.0 k s ∙ sym (every-below T (at_name e.name) (asked T k e.value))
-name_judged T n flagged k (e ∷ l) s h = h.0 k s ∙ sym (every-below T (at_name e.name) (asked T k e.value))
-name_judged T n (styled u) k (e ∷ l) s h = h.0 k s ∙ sym (every-below T (at_name e.name) (asked T k e.value))
-name_judged T n formatted k (e ∷ l) s h = h.0 k s ∙ sym (every-below T (at_name e.name) (asked T k e.value))
+name_judged T n required k [] s h = refl
+name_judged T n m k [] s h = refl
+name_judged T n m k (e ∷ l) s h = h.0 k s ∙ sym (every-below T (at_name e.name) (asked T k e.value))
 
 either_judged : (T : Tables) (a b : List ℕ) (j k : Kind) (l : List (Entry Tree)) → sound T j ≡ true
     → sound T k ≡ true → Each (λ (e : Entry Tree). Judged_by T e.value) l
@@ -163,27 +154,12 @@ table_judged T W i es h = rows_judged T (T i) es (every_each (row_sound T) (T i)
 
 never : (w : Row) (es : List (Entry Tree)) → never_misses w ≡ true → misses w es ≡ []
 never (row n required k) es h = cc
-never (row n optional k) [] h = refl
-never (row n optional k) (e ∷ es) h = refl
-never (row n nullable k) [] h = refl
-never (row n nullable k) (e ∷ es) h = refl
-never (row n listed k) [] h = refl
-never (row n listed k) (e ∷ es) h = refl
-never (row n flagged k) [] h = refl
-never (row n flagged k) (e ∷ es) h = refl
-never (row n (styled s) k) [] h = refl
-never (row n (styled s) k) (e ∷ es) h = refl
-never (row n formatted k) [] h = refl
-never (row n formatted k) (e ∷ es) h = refl
-never (either a j b k) es h = cc
-never (class c k) es h = refl
-never (constant n v) es h = cc
+never w [] h = cc
+never w es h = cc
 
 never_has_members : (w : Row) → never_misses w ≡ true → has_members w ≡ true
-never_has_members (row n m k) h = refl
-never_has_members (either a j b k) h = refl
-never_has_members (class c k) h = refl
 never_has_members (constant n v) h = cc
+never_has_members w h = refl
 
 none_missed : (ws : List Row) (es : List (Entry Tree)) → Each (λ w. never_misses w ≡ true) ws
     → is_empty (flat (each (row_misses es) ws)) ≡ true

@@ -5,9 +5,8 @@ use Rattle.std.proofs.lemmas.Bool.{and_parts, and_from}
 use Rattle.openapi_tables.specs.Lists.{each, every, same_text}
 use Rattle.openapi_node.specs.Tree.{Tree}
 use Rattle.openapi_tables.specs.Tree.{Entry}
-use Rattle.openapi_tables.specs.Kind.{Class, extensions, callback_names, path_names, status_names, Kind, list_of}
-use Rattle.openapi_tables.specs.Kind.{map_of, Mode, required, optional, nullable, listed, flagged, styled, formatted}
-use Rattle.openapi_tables.specs.Kind.{Row, row, either, class, constant, Tables}
+use Rattle.openapi_tables.specs.Kind.{Class, status_names, Kind, list_of, map_of, Mode, required, Row, row, either}
+use Rattle.openapi_tables.specs.Kind.{class, constant, Tables}
 use Rattle.openapi_tables.specs.Members.{is_null, own}
 use Rattle.openapi_tables.specs.Form.{Form, named, named_of, named_list, deciding, Key, Pair}
 use Rattle.openapi_tables.specs.Read.{same_key, default_of, slot_of_own, key_in, class_form, form, gather}
@@ -67,15 +66,9 @@ writes_own T [] es = tt
 writes_own T (w ∷ ws) es = (takes_written T w (own w es) (Each-only _ es), writes_own T ws es)
 
 pub stays-default : (T : Tables) (m : Mode) (k : Kind) → mode_fits m k ≡ true → stays T k (default_of m k) ≡ true
-stays-default T required k h = refl
-stays-default T optional k h = refl
-stays-default T nullable k h = refl
-stays-default T listed (list_of k) h = refl
-stays-default T listed (map_of k) h = refl
-stays-default T flagged k h = refl
-stays-default T (styled s) k h = refl
-stays-default T formatted k h = refl
-stays-default T listed k h = cc
+stays-default T required k h = cc
+stays-default T m (list_of k) h = cc
+stays-default T m k h = cc
 
 firm_value : (T : Tables) (n : List ℕ) (m : Mode) (k : Kind) (t : Tree) → mode_fits m k ≡ true → sound T k ≡ true
     → Firm T t → is_null t ≡ false → (b : Bool) → is_silent m (form T k t) ≡ b
@@ -119,9 +112,7 @@ same_gathered : (T : Tables) (c : Class) (k : Kind) (m : List (Pair Form))
     → Each (λ (e : Pair Form). key_in c (text_of_key e.key) ≡ e.key) m → Gathered c m
     → Gathered c (each (pair_of T (key_in c) k) (each (entry_of T k) m))
 same_gathered T status_names k m h d = same_distinct T k (key_in status_names) m h d
-same_gathered T extensions k m h d = tt
-same_gathered T callback_names k m h d = tt
-same_gathered T path_names k m h d = tt
+same_gathered T c k m h d = tt
 
 pub values_back : (T : Tables) (k : Kind) (g : List ℕ → Key) (m : List (Pair Form))
     → each (pair_of T g k) (each (entry_of T k) m) ≡ m → Each (λ (e : Pair Form). again T k e.value ≡ e.value) m

@@ -4,12 +4,10 @@ use Rattle.std.proofs.lemmas.Bool.{and_parts, and_from}
 use Rattle.openapi_tables.specs.Lists.{each, every}
 use Rattle.openapi_node.specs.Tree.{Tree}
 use Rattle.openapi_tables.specs.Tree.{items_list, members_list, of_members, Entry}
-use Rattle.openapi_tables.specs.Kind.{Kind, any_text, any_flag, number, any_tree, one_of, format, null_or, list_of}
-use Rattle.openapi_tables.specs.Kind.{map_of, by, tagged, ref_to, flag_or_schema, a_schema, a_schema_kind, status_code}
-use Rattle.openapi_tables.specs.Kind.{Row, Tables}
-use Rattle.openapi_tables.specs.Members.{own, held, string_sort, number_sort, integer_sort, boolean_sort, object_sort}
-use Rattle.openapi_tables.specs.Members.{array_sort, one_of_sort, all_of_sort, any_of_sort, not_sort, any_sort, sort_of}
-use Rattle.openapi_tables.specs.Members.{Choice, plain, tag, sort, choice, rows_of}
+use Rattle.openapi_tables.specs.Kind.{Kind, null_or, list_of, map_of, by, tagged, ref_to, flag_or_schema, a_schema}
+use Rattle.openapi_tables.specs.Kind.{a_schema_kind, Row, Tables}
+use Rattle.openapi_tables.specs.Members.{own, held, string_sort, any_sort, sort_of, Choice, plain, tag, sort, choice}
+use Rattle.openapi_tables.specs.Members.{rows_of}
 use Rattle.openapi_tables.specs.Form.{Form, reference, an_item, sequence, named, fields, Forms, forms_list, forms_of}
 use Rattle.openapi_tables.specs.Form.{named_list, named_of, name, Pair}
 use Rattle.openapi_tables.specs.Read.{root_form, slot, form, map_form, slot_of_own}
@@ -19,8 +17,7 @@ use Rattle.openapi_tables.specs.Stays.{stays, face_stays, is_any, choice_stays, 
 use Rattle.openapi_tables.proofs.ListLaws.{Each, each-each, every_each, Each-only, Each_within-only}
 use Rattle.openapi_tables.proofs.TreeLaws.{Inside, by_trees, members_list-of, of_members_lem}
 use Rattle.openapi_tables.proofs.FormLaws.{show, forms_list-of, of_forms-of}
-use Rattle.openapi_tables.proofs.Taken.{Taken, as_leaf, as_known, as_other, as_unset, as_text_code, as_number_code}
-use Rattle.openapi_tables.proofs.Taken.{as_list, as_map, as_fields, as_reference, as_item, as_schema, as_inner, taken}
+use Rattle.openapi_tables.proofs.Taken.{Taken, as_list, as_map, as_fields, as_item, as_schema, as_inner, taken}
 use Rattle.openapi_tables.proofs.Taken.{ref_text}
 use Rattle.openapi_tables.proofs.ReadLaws.{reads, slot_in, slots-reads, form-list, form-map, form-fields, form-item}
 use Rattle.openapi_tables.proofs.ReadLaws.{form-reference, form-null_or, form-flag_or_schema, pair_of, map_form-reads}
@@ -117,57 +114,24 @@ some_choice T W a_schema c es s h =
     (sort (sort_of (members_for T (rows_of T a_schema c) (each (slot_in T es) (rows_of T a_schema c)))), refl)
 some_choice T W a_schema_kind c es s h =
     (sort (sort_of (members_for T (rows_of T a_schema_kind c) (each (slot_in T es) (rows_of T a_schema_kind c)))), refl)
-some_choice T W any_text c es s h = cc
-some_choice T W any_flag c es s h = cc
-some_choice T W (number w) c es s h = cc
-some_choice T W any_tree c es s h = cc
-some_choice T W (one_of ws) c es s h = cc
-some_choice T W (format ws b) c es s h = cc
-some_choice T W (null_or k) c es s h = cc
-some_choice T W (list_of k) c es s h = cc
-some_choice T W (map_of k) c es s h = cc
-some_choice T W (ref_to k) c es s h = cc
-some_choice T W flag_or_schema c es s h = cc
-some_choice T W status_code c es s h = cc
+some_choice T W k c es s h = cc
 
 any_of_choice : (k : Kind) (l : List (Entry Tree)) → choice k l ≡ Some (sort any_sort) → is_any (sort_of l) ≡ true
 any_of_choice (tagged n cs) l h = let t = tag_case cs (held n l) (sort any_sort) h in
     let p : sort any_sort ≡ tag t.0 = t.1 in cc
 any_of_choice a_schema l h = let p : sort_of l ≡ any_sort = cc in ap is_any p
 any_of_choice a_schema_kind l h = let p : sort_of l ≡ any_sort = cc in ap is_any p
-any_of_choice (by i) l h = cc
-any_of_choice any_text l h = cc
-any_of_choice any_flag l h = cc
-any_of_choice (number w) l h = cc
-any_of_choice any_tree l h = cc
-any_of_choice (one_of ws) l h = cc
-any_of_choice (format ws b) l h = cc
-any_of_choice (null_or k) l h = cc
-any_of_choice (list_of k) l h = cc
-any_of_choice (map_of k) l h = cc
-any_of_choice (ref_to k) l h = cc
-any_of_choice flag_or_schema l h = cc
-any_of_choice status_code l h = cc
+any_of_choice k l h = cc
 
 choice_kept : (T : Tables) (k : Kind) (c : Choice) (es : List (Entry Tree)) (fs : List Form) → choice k es ≡ Some c
     → choice k (members_for T (rows_of T k c) fs) ≡ Some c → choice_stays T k c fs ≡ true
-choice_kept T k plain es fs h g = refl
-choice_kept T k (tag s) es fs h g = refl
 choice_kept T k (sort any_sort) es fs h g =
     ap (λ l. is_any (sort_of l))
     (ap members_in (print-fields T k (sort any_sort) es fs h)
     ∙ members_list-of (members_for T (rows_of T k (sort any_sort)) fs))
     ∙ any_of_choice k (members_for T (rows_of T k (sort any_sort)) fs) g
 choice_kept T k (sort string_sort) es fs h g = refl
-choice_kept T k (sort number_sort) es fs h g = refl
-choice_kept T k (sort integer_sort) es fs h g = refl
-choice_kept T k (sort boolean_sort) es fs h g = refl
-choice_kept T k (sort object_sort) es fs h g = refl
-choice_kept T k (sort array_sort) es fs h g = refl
-choice_kept T k (sort one_of_sort) es fs h g = refl
-choice_kept T k (sort all_of_sort) es fs h g = refl
-choice_kept T k (sort any_of_sort) es fs h g = refl
-choice_kept T k (sort not_sort) es fs h g = refl
+choice_kept T k c es fs h g = refl
 
 slots_apart : (T : Tables) (l es : List (Entry Tree)) (ws : List Row) → Found T l ws (each (slot_in T es) ws)
     → each (slot_in T l) ws ≡ each (slot_in T es) ws → Each (λ w. row_sound T w ≡ true) ws
@@ -244,12 +208,6 @@ item_or_reference T k t f (Some s) e h = let p : reference s ≡ an_item f = sym
 
 firm_taken : (T : Tables) (W : tables_sound T ≡ true) (k : Kind) (t : Tree) (f : Form) → Taken T k t f
     → Inside (Firm T) t → sound T k ≡ true → again T k f ≡ f → stays T k f ≡ true
-firm_taken T W k t f (as_leaf j u e) g s q = refl
-firm_taken T W k t f (as_known ws b u e) g s q = refl
-firm_taken T W k t f (as_other ws b u e) g s q = refl
-firm_taken T W k t f (as_unset ws b) g s q = refl
-firm_taken T W k t f (as_text_code u c e) g s q = refl
-firm_taken T W k t f (as_number_code n e) g s q = refl
 firm_taken T W k t f (as_list j ts) g s q = firm_list T j (items_list ts) s g q
 firm_taken T W k t f (as_map j ms) g s q =
     let p : map_form j (of_members (root_form T) ms) ≡ named (named_of (each (pair_of T name j) (members_list ms))) =
@@ -263,7 +221,6 @@ firm_taken T W k t f (as_fields j c ms e) g s q =
     ∙ ap (λ l. fields c (forms_of l)) (slots-reads T (rows_of T j c) (members_list ms)) in
     subst (λ x. stays T j x ≡ true) (sym p)
     (firm_fields T W j c (members_list ms) s e g (subst (λ x. again T j x ≡ x) p q))
-firm_taken T W k t f (as_reference j u v e) g s q = refl
 firm_taken T W k t f (as_item j u h e x) g s q =
     firm_taken T W j u h x g (and_parts (under_ref T j) (sound T j) s).1
     (item_or_reference T j (print T j h) h (ref_text (print T j h)) refl q)
@@ -275,6 +232,7 @@ firm_taken T W k t f (as_schema u h e x) g s q =
 firm_taken T W k t f (as_inner j u h x) g s q =
     stays-null_or T j h ∙ firm_taken T W j u h x g (and_parts (may_be_null j) (sound T j) s).1
     (sym (ap (form T (null_or j)) (print-null_or T j h) ∙ form-null_or T j (print T j h)) ∙ q)
+firm_taken T W k t f x g s q = refl
 
 -- what is read of a tree and is read again stays
 pub first_stays : (T : Tables) (W : tables_sound T ≡ true) (t : Tree) → Firm T t

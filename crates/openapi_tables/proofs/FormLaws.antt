@@ -89,18 +89,12 @@ abbrev pub Deep : (Form → Type 0) → Form → Type 0
 Deep P f = P f × Within P f
 
 within_deep : (P : Form → Type 0) (f : Form) → Within (Deep P) f → Within P f
-within_deep P absent h = tt
-within_deep P (leaf t) h = tt
-within_deep P (of_code c) h = tt
-within_deep P (known s) h = tt
-within_deep P (other s) h = tt
-within_deep P unset h = tt
-within_deep P (reference s) h = tt
 within_deep P (an_item f) h = h.0
 within_deep P (sequence fs) h = each_under (λ (f : Form) (x : Deep P f). x.0) (forms_list fs) h
 within_deep P (named es) h = each_under (λ (e : Pair Form) (x : Deep P e.value). x.0) (named_list es) h
 within_deep P (deciding n f) h = h.0
 within_deep P (fields c fs) h = each_under (λ (f : Form) (x : Deep P f). x.0) (forms_list fs) h
+within_deep P f h = tt
 
 -- induction on forms, where what holds of the forms inside those inside may be used too
 pub by_deep : (P : Form → Type 0) → ((f : Form) → Within (Deep P) f → P f) → (f : Form) → P f

@@ -1,6 +1,6 @@
 -- Two lists of tables that differ in some rows: trees that conform by the one conform by the other.
-use Rattle.std.proofs.Common.{ℕ, suc, pos, negsuc, Bool, true, false, not, cond, ◌&&◌, ◌||◌, List, [], ◌∷◌, Option}
-use Rattle.std.proofs.Common.{Some, None, ◌≡◌, refl, sym, ap, ◌∙◌, subst}
+use Rattle.std.proofs.Common.{ℕ, suc, pos, Bool, true, false, not, cond, ◌&&◌, ◌||◌, List, [], ◌∷◌, Option, Some, None}
+use Rattle.std.proofs.Common.{◌≡◌, refl, sym, ap, ◌∙◌, subst}
 use Rattle.std.proofs.lemmas.Bool.{and_parts, and_from}
 use Rattle.openapi_tables.specs.Lists.{each, join, every, same_text}
 use Rattle.openapi_node.specs.Tree.{Tree, null, flag, whole, text, list, object, Items, no_items, item, Members}
@@ -146,14 +146,13 @@ module _ (T U : Tables) (W : tables_sound U ≡ true) (P : Kind → Tree → Typ
       → row_holds_own w (judged U l) ≡ true
   row_kept (row n m k) l s g h o = name_kept n m k k l (and_parts (mode_fits m k) (sound U k) s).1
       (each_under (λ (e : Entry Tree) (x : Kept T U P C e.value). x.0 k) l g) h o
-  row_kept (either a j b k) [] s g h o = h
   row_kept (either a j b k) (e ∷ l) s g h o =
       let i = cond (same_text a e.name) j k in
       let p = and_parts (sound U j) (sound U k) (and_parts (sound U j && sound U k) (not (same_text a b)) s).0 in
       g.0.0 i (sound_pick U (same_text a e.name) j k p.0 p.1) h (of_below P (at_name e.name) (asked U i e.value) o)
   row_kept (class c k) l s g h o = members_kept k l s g h o
-  row_kept (constant n v) [] s g h o = h
-  row_kept (constant n v) (e ∷ l) s g h o = h
+  row_kept w [] s g h o = h
+  row_kept w l s g h o = h
 
   -- a row that was added
   added_holds : (n : List ℕ) (k : Kind) → ((t : Tree) → OfAsked P (asked U k t) → conforms U k t ≡ true)
@@ -315,13 +314,8 @@ module _ (T U : Tables) (W : tables_sound U ≡ true) (P : Kind → Tree → Typ
       item_kept ms (conforms T a_schema (object ms)) (conforms U a_schema (object ms))
       (asked U a_schema (object ms)) h o.1.1
       (λ c a. schema_kept ms (r schema_data) g c a.1)
-  step r k null g s h o = h
-  step r k (flag b) g s h o = h
   step r k (whole (pos n)) g s h o = h
-  step r k (whole (negsuc n)) g s h o = h
-  step r k (text u) g s h o = h
-  step r k (list ts) g s h o = h
-  step r k (object ms) g s h o = h
+  step r k t g s h o = h
 
   -- where a change of kind keeps what conforms, once it is so for the trees inside, the second list keeps what
   -- conforms by the first

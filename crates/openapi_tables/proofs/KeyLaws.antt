@@ -4,7 +4,7 @@ use Rattle.openapi_tables.specs.Lists.{join}
 use Rattle.openapi_tables.specs.Form.{Key, Pair}
 use Rattle.openapi_tables.specs.Read.{same_key, put, put_all, gather}
 use Rattle.openapi_tables.proofs.ListLaws.{Each, join-nil, join_assoc}
-use Rattle.openapi_tables.specs.Kind.{Class, extensions, callback_names, path_names, status_names}
+use Rattle.openapi_tables.specs.Kind.{Class, status_names}
 
 -- no entry of a list has the same key as n
 abbrev pub Lacks : {X : Type 0} → Key → List (Pair X) → Type 0
@@ -84,9 +84,7 @@ Both-put_all K V m (e ∷ es) h g =
 pub Both-gather : {X : Type 0} → (K : Key → Type 0) (V : X → Type 0) (c : Class) (es : List (Pair X))
     → Each (Both K V) es → Each (Both K V) (gather c es)
 Both-gather K V status_names es h = Both-put_all K V [] es tt h
-Both-gather K V extensions es h = h
-Both-gather K V callback_names es h = h
-Both-gather K V path_names es h = h
+Both-gather K V c es h = h
 
 -- entries that go into no map, or that have distinct keys, are gathered as they stand
 abbrev pub Gathered : {X : Type 0} → Class → List (Pair X) → Type 0
@@ -95,12 +93,8 @@ Gathered _ es = Unit {0}
 
 pub Gathered-gather : {X : Type 0} → (c : Class) (es : List (Pair X)) → Gathered c (gather c es)
 Gathered-gather status_names es = Distinct-put_all [] es tt
-Gathered-gather extensions es = tt
-Gathered-gather callback_names es = tt
-Gathered-gather path_names es = tt
+Gathered-gather c es = tt
 
 pub gather-gathered : {X : Type 0} → (c : Class) (es : List (Pair X)) → Gathered c es → gather c es ≡ es
 gather-gathered status_names es h = put_all-distinct [] es h
-gather-gathered extensions es h = refl
-gather-gathered callback_names es h = refl
-gather-gathered path_names es h = refl
+gather-gathered c es h = refl

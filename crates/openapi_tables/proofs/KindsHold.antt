@@ -1,11 +1,11 @@
 -- Where the rows of a sort hold, and no other kind name is there, all kind names hold.
 use Rattle.openapi_tables.proofs.TreeLaws.{null_tree}
-use Rattle.std.proofs.Common.{ℕ, Bool, true, false, not, ◌&&◌, ◌||◌, List, [], ◌∷◌, ◌≡◌, refl, sym, ap, ◌∙◌}
-use Rattle.std.proofs.Common.{subst, ⊎_elim}
+use Rattle.std.proofs.Common.{ℕ, Bool, true, false, not, ◌&&◌, ◌||◌, List, [], ◌∷◌, ◌≡◌, refl, sym, ap, ◌∙◌, subst}
+use Rattle.std.proofs.Common.{⊎_elim}
 use Rattle.std.proofs.lemmas.Bool.{and_parts, and_from, or_left, or_right, or_cases}
 use Rattle.openapi_tables.specs.Kind.{Kind, Tables, Row, Mode, a_schema, any_flag, any_text, any_tree, class, constant}
-use Rattle.openapi_tables.specs.Kind.{either, flag_or_schema, format, list_of, map_of, number}
-use Rattle.openapi_tables.specs.Kind.{optional, ref_to, row, signed, sizes, unlimited}
+use Rattle.openapi_tables.specs.Kind.{either, flag_or_schema, format, list_of, map_of, number, optional, ref_to, row}
+use Rattle.openapi_tables.specs.Kind.{signed, sizes, unlimited}
 use Rattle.openapi_tables.proofs.FaultLaws.{judged}
 use Rattle.openapi_tables.proofs.ListLaws.{Each, every_each, same_text_eq}
 use Rattle.openapi_tables.proofs.PrintLaws.{members_for}
@@ -13,18 +13,14 @@ use Rattle.openapi_tables.proofs.ReadAgain.{sort_in}
 use Rattle.openapi_tables.proofs.RowLaws.{OwnWrites}
 use Rattle.openapi_tables.proofs.RowWrites.{row_holds_own}
 use Rattle.openapi_tables.proofs.SortLaws.{each_name, names_held}
-use Rattle.openapi_tables.specs.Conforms.{conforms, constant_holds, name_holds, root_conforms}
-use Rattle.openapi_tables.specs.Conforms.{skips_null}
+use Rattle.openapi_tables.specs.Conforms.{conforms, constant_holds, name_holds, root_conforms, skips_null}
 use Rattle.openapi_tables.specs.Form.{Form}
 use Rattle.openapi_tables.specs.Lists.{each, every, has, join, same_text}
-use Rattle.openapi_tables.specs.Members.{Sort, allowed}
-use Rattle.openapi_tables.specs.Members.{first_tree, held, is_null}
-use Rattle.openapi_tables.specs.Members.{kind_names, made_optional}
-use Rattle.openapi_tables.specs.Members.{own, sort_rows}
+use Rattle.openapi_tables.specs.Members.{Sort, allowed, first_tree, held, is_null, kind_names, made_optional, own}
+use Rattle.openapi_tables.specs.Members.{sort_rows}
 use Rattle.openapi_tables.specs.Sound.{names_fit, sorts, untaken}
 use Rattle.openapi_tables.specs.Tables.{any_rows, array_rows, boolean_rows, object_rows, string_rows}
-use Rattle.openapi_node.specs.Tree.{Items, Members, Tree, flag, item, list, member, no_items, no_members, null, object}
-use Rattle.openapi_node.specs.Tree.{text, whole}
+use Rattle.openapi_node.specs.Tree.{Items, Members, Tree, item, list, member, no_items, no_members, null, object}
 use Rattle.openapi_tables.specs.Tree.{Entry, Seen, of_items, of_members}
 use Rattle.openapi_tables.proofs.SortHolds.{AllHold, Others, text_held}
 
@@ -50,11 +46,7 @@ fits j k = false
 
 pub any_conforms : (T : Tables) (t : Tree) → conforms T any_tree t ≡ true
 any_conforms T null = refl
-any_conforms T (flag b) = refl
-any_conforms T (whole z) = refl
-any_conforms T (text s) = refl
-any_conforms T (list ts) = refl
-any_conforms T (object ms) = refl
+any_conforms T t = refl
 
 pub always_conforms : (T : Tables) (j k : Kind) (t : Tree) → always j k ≡ true → conforms T j t ≡ true
     → conforms T k t ≡ true
@@ -87,11 +79,9 @@ fits_conforms T any_text any_text t h g = or_right (is_null t) (conforms T any_t
 fits_conforms T any_flag any_flag t h g = or_right (is_null t) (conforms T any_flag t) g
 fits_conforms T (number unlimited) (number unlimited) t h g = or_right (is_null t) (conforms T (number unlimited) t) g
 fits_conforms T (number signed) (number unlimited) null h g = refl
-fits_conforms T (number signed) (number unlimited) (whole z) h g = refl
 fits_conforms T (number signed) (number unlimited) t h g = cc
 fits_conforms T (number sizes) (number sizes) t h g = or_right (is_null t) (conforms T (number sizes) t) g
 fits_conforms T (format ws b) any_text null h g = refl
-fits_conforms T (format ws b) any_text (text s) h g = refl
 fits_conforms T (format ws b) any_text t h g = cc
 fits_conforms T (list_of j) (list_of k) (list ts) h g = items_conform T j k ts h g
 fits_conforms T (list_of j) (list_of k) t h g = cc

@@ -106,14 +106,13 @@ same_text-refl [] = refl
 same_text-refl (a ∷ s) = and_from (a == a) (same_text s s) (eq-eqb a a refl) (same_text-refl s)
 
 pub same_text_eq : (s u : List ℕ) → same_text s u ≡ true → s ≡ u
-same_text_eq [] [] h = refl
-same_text_eq [] (b ∷ u) h = cc
-same_text_eq (a ∷ s) [] h = cc
 same_text_eq (a ∷ s) (b ∷ u) h =
     let e = and_parts (a == b) (same_text s u) h in
     let p = eqb-true a b e.0 in
     let q = same_text_eq s u e.1 in
     ap (λ n. n ∷ s) p ∙ ap (λ l. b ∷ l) q
+same_text_eq s [] h = cc
+same_text_eq s u h = cc
 
 pub every_same : {A : Type 0} → (p q : A → Bool) (xs : List A) → Each (λ x. p x ≡ q x) xs → every p xs ≡ every q xs
 every_same p q [] h = refl
@@ -125,7 +124,6 @@ every_behind p (v ∷ vs) ws h = every_behind p vs ws (and_parts (p v) (every p 
 
 -- two texts are the same where their bytes are
 pub same_bytes : (a b : List ℕ) → same_text a b ≡ bytes_eq a b
-same_bytes [] [] = refl
-same_bytes [] (y ∷ b) = refl
-same_bytes (x ∷ a) [] = refl
 same_bytes (x ∷ a) (y ∷ b) = ap (λ t. (x == y) && t) (same_bytes a b)
+same_bytes a [] = refl
+same_bytes a b = refl

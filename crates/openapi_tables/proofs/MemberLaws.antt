@@ -4,17 +4,15 @@ use Rattle.std.proofs.Common.{ℕ, Bool, true, false, not, cond, ◌&&◌, ◌||
 use Rattle.std.proofs.Common.{subst, codes}
 use Rattle.std.proofs.lemmas.Bool.{and_parts, both_ways}
 use Rattle.openapi_tables.specs.Lists.{each, join, only, every, same_text, has}
-use Rattle.openapi_node.specs.Tree.{Tree, null, flag, whole, text, list, object}
+use Rattle.openapi_node.specs.Tree.{Tree, null, object}
 use Rattle.openapi_tables.specs.Tree.{members_of, Entry}
-use Rattle.openapi_tables.specs.Kind.{Kind, any_text, any_flag, number, any_tree, one_of, format, null_or, list_of}
-use Rattle.openapi_tables.specs.Kind.{map_of, by, tagged, ref_to, flag_or_schema, a_schema, a_schema_kind, status_code}
-use Rattle.openapi_tables.specs.Kind.{Row, Tables}
+use Rattle.openapi_tables.specs.Kind.{Kind, tagged, a_schema, a_schema_kind, Row, Tables}
 use Rattle.openapi_tables.specs.Tables.{any_rows}
-use Rattle.openapi_tables.specs.Members.{is_null, own, held, Sort, string_sort, number_sort, integer_sort}
-use Rattle.openapi_tables.specs.Members.{boolean_sort, object_sort, array_sort, one_of_sort, all_of_sort, any_of_sort}
-use Rattle.openapi_tables.specs.Members.{not_sort, any_sort, sort, kind_names, allowed, entries_pass, is_null_or_text}
-use Rattle.openapi_tables.specs.Members.{is_null_or_whole, is_null_or_flag, is_null_or_signed, further, possible_sort}
-use Rattle.openapi_tables.specs.Members.{meets, sort_of, Choice, tag_choice, choice, rows_of}
+use Rattle.openapi_tables.specs.Members.{is_null, own, held, Sort, string_sort, number_sort, integer_sort, boolean_sort}
+use Rattle.openapi_tables.specs.Members.{one_of_sort, all_of_sort, any_of_sort, not_sort, any_sort, sort, kind_names}
+use Rattle.openapi_tables.specs.Members.{allowed, entries_pass, is_null_or_text, is_null_or_whole, is_null_or_flag}
+use Rattle.openapi_tables.specs.Members.{is_null_or_signed, further, possible_sort, meets, sort_of, Choice, tag_choice}
+use Rattle.openapi_tables.specs.Members.{choice, rows_of}
 use Rattle.openapi_tables.specs.Form.{fields, forms_of}
 use Rattle.openapi_tables.specs.Read.{slot_of_own, form}
 use Rattle.openapi_tables.specs.Laws.{steers}
@@ -48,13 +46,7 @@ further_same integer_sort es ds h =
     && is_null_or_signed (held (codes "multipleOf") ds) && is_null_or_signed (held (codes "minimum") ds)
     && is_null_or_signed t) (h (codes "maximum") refl)
 further_same boolean_sort es ds h = ap (entries_pass is_null_or_flag) (h (codes "enum") refl)
-further_same object_sort es ds h = refl
-further_same array_sort es ds h = refl
-further_same one_of_sort es ds h = refl
-further_same all_of_sort es ds h = refl
-further_same any_of_sort es ds h = refl
-further_same not_sort es ds h = refl
-further_same any_sort es ds h = refl
+further_same s es ds h = refl
 
 meets_same : (s : Sort) (es ds : List (Entry Tree)) → SameKinds es ds → meets s es ≡ meets s ds
 meets_same s es ds h =
@@ -80,11 +72,7 @@ possible_same null es ds h =
     (h (codes "anyOf") refl)
     ∙ ap (λ a. chain (held (codes "oneOf") ds) (held (codes "allOf") ds) (held (codes "anyOf") ds) a)
     (h (codes "not") refl)
-possible_same (flag b) es ds h = refl
-possible_same (whole z) es ds h = refl
-possible_same (text s) es ds h = refl
-possible_same (list ts) es ds h = refl
-possible_same (object ms) es ds h = refl
+possible_same t es ds h = refl
 
 sort_same : (es ds : List (Entry Tree)) → SameKinds es ds → sort_of es ≡ sort_of ds
 unfolding kind_names any_rows
@@ -101,19 +89,7 @@ pub choice_same : (k : Kind) (es ds : List (Entry Tree)) → ((n : List ℕ) →
 choice_same (tagged n cs) es ds h = ap (tag_choice cs) (h n (same_text-refl n))
 choice_same a_schema es ds h = ap (λ s. Some (sort s)) (sort_same es ds h)
 choice_same a_schema_kind es ds h = ap (λ s. Some (sort s)) (sort_same es ds h)
-choice_same (by i) es ds h = refl
-choice_same any_text es ds h = refl
-choice_same any_flag es ds h = refl
-choice_same (number w) es ds h = refl
-choice_same any_tree es ds h = refl
-choice_same (one_of ws) es ds h = refl
-choice_same (format ws b) es ds h = refl
-choice_same (null_or k) es ds h = refl
-choice_same (list_of k) es ds h = refl
-choice_same (map_of k) es ds h = refl
-choice_same (ref_to k) es ds h = refl
-choice_same flag_or_schema es ds h = refl
-choice_same status_code es ds h = refl
+choice_same k es ds h = refl
 
 slots_same : (T : Tables) (ws : List Row) (es ds : List (Entry Tree)) → Each (λ w. own w es ≡ own w ds) ws
     → each (slot_in T es) ws ≡ each (slot_in T ds) ws
@@ -139,9 +115,8 @@ only_skips p (z ∷ xs) ys x h = ap (λ l. cond (p z) (z ∷ l) l) (only_skips p
 swapped : {A : Type 0} → (b c : Bool) (x y : A) (l : List A) → (b && c) ≡ false
     → cond c (y ∷ cond b (x ∷ l) l) (cond b (x ∷ l) l) ≡ cond b (x ∷ cond c (y ∷ l) l) (cond c (y ∷ l) l)
 swapped true true x y l h = cc
-swapped true false x y l h = refl
-swapped false true x y l h = refl
-swapped false false x y l h = refl
+swapped b false x y l h = refl
+swapped b c x y l h = refl
 
 pub only_swaps : {A : Type 0} → (p : A → Bool) (xs ys : List A) (x y : A) → (p x && p y) ≡ false
     → only p (join xs (y ∷ x ∷ ys)) ≡ only p (join xs (x ∷ y ∷ ys))

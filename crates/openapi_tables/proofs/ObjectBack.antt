@@ -1,27 +1,15 @@
 -- An object's rows, all together, written and read again.
 use Rattle.openapi_tables.proofs.ListLaws.{every_behind}
-use Rattle.std.proofs.Common.{ℕ, zero, suc, Bool, true, false, cond, ◌&&◌, ◌||◌, List, [], ◌∷◌, Some, None, ◌≡◌, refl}
-use Rattle.std.proofs.Common.{sym, ap, ◌∙◌, subst}
+use Rattle.std.proofs.Common.{ℕ, Bool, true, false, cond, ◌&&◌, ◌||◌, List, [], ◌∷◌, Some, None, ◌≡◌, refl, sym, ap}
+use Rattle.std.proofs.Common.{◌∙◌, subst}
 use Rattle.std.proofs.lemmas.Bool.{and_parts, and_from}
-use Rattle.openapi_tables.specs.Lists.{each, join, every, same_text, place_or}
-use Rattle.openapi_node.specs.Tree.{Tree, null, flag, whole, text, list, object}
+use Rattle.openapi_tables.specs.Lists.{each, join, every, same_text}
+use Rattle.openapi_node.specs.Tree.{Tree, text}
 use Rattle.openapi_tables.specs.Tree.{Entry}
-use Rattle.openapi_tables.specs.Kind.{open_api, info, contact, license, example, server, server_variable}
-use Rattle.openapi_tables.specs.Kind.{external_documentation, discriminator, components, paths, path_item, operation}
-use Rattle.openapi_tables.specs.Kind.{parameter_data, query_parameter, header_parameter, path_parameter}
-use Rattle.openapi_tables.specs.Kind.{cookie_parameter, header, media_type, encoding, request_body, responses, response}
-use Rattle.openapi_tables.specs.Kind.{link, api_key_scheme, http_scheme, oauth2_scheme, open_id_connect_scheme}
-use Rattle.openapi_tables.specs.Kind.{oauth2_flows, implicit_flow, password_flow, client_credentials_flow}
-use Rattle.openapi_tables.specs.Kind.{authorization_code_flow, string_type, number_type, integer_type, object_type}
-use Rattle.openapi_tables.specs.Kind.{array_type, boolean_type, any_schema, one_of_schema, all_of_schema, any_of_schema}
-use Rattle.openapi_tables.specs.Kind.{not_schema, schema_or_content, link_operation, callback_object, xml_object, Kind}
-use Rattle.openapi_tables.specs.Kind.{any_text, any_flag, number, any_tree, one_of, format, null_or, list_of, map_of}
-use Rattle.openapi_tables.specs.Kind.{by, tagged, ref_to, flag_or_schema, a_schema, a_schema_kind, status_code, Case}
-use Rattle.openapi_tables.specs.Kind.{Row, constant, Tables, TableName, schema_data}
-use Rattle.openapi_tables.specs.Members.{own, held, Sort, string_sort, number_sort, integer_sort, boolean_sort}
-use Rattle.openapi_tables.specs.Members.{object_sort, array_sort, one_of_sort, all_of_sort, any_of_sort, not_sort}
-use Rattle.openapi_tables.specs.Members.{any_sort, sort_rows, sort_of, Choice, tag, sort, tag_choice, is_case}
-use Rattle.openapi_tables.specs.Members.{case_rows, choice, rows_of}
+use Rattle.openapi_tables.specs.Kind.{open_api, Kind, by, tagged, a_schema, a_schema_kind, Case, Row, constant, Tables}
+use Rattle.openapi_tables.specs.Kind.{TableName, schema_data}
+use Rattle.openapi_tables.specs.Members.{own, held, Sort, any_sort, sort_rows, sort_of, Choice, tag, sort, tag_choice}
+use Rattle.openapi_tables.specs.Members.{is_case, case_rows, choice, rows_of}
 use Rattle.openapi_tables.specs.Form.{Form, fields, forms_of}
 use Rattle.openapi_tables.specs.Read.{slot_of_own}
 use Rattle.openapi_tables.specs.Print.{row_print}
@@ -59,18 +47,7 @@ stays-fields T a_schema_kind c es fs h =
     && rows_stay (rows_of T a_schema_kind c) l) (of_forms-of (face_stays T) fs)
     ∙ ap (λ l. choice_stays T a_schema_kind c l && rows_stay (rows_of T a_schema_kind c)
     (each (show (face_stays T)) fs)) (each-each (λ (p : Checks). p.form) (show (face_stays T)) fs ∙ each_id fs)
-stays-fields T any_text c es fs h = cc
-stays-fields T any_flag c es fs h = cc
-stays-fields T (number w) c es fs h = cc
-stays-fields T any_tree c es fs h = cc
-stays-fields T (one_of ws) c es fs h = cc
-stays-fields T (format ws b) c es fs h = cc
-stays-fields T (null_or k) c es fs h = cc
-stays-fields T (list_of k) c es fs h = cc
-stays-fields T (map_of k) c es fs h = cc
-stays-fields T (ref_to k) c es fs h = cc
-stays-fields T flag_or_schema c es fs h = cc
-stays-fields T status_code c es fs h = cc
+stays-fields T k c es fs h = cc
 
 -- each row reads again the slot that it wrote
 abbrev pub SlotsBack : (T : Tables) → List Row → List Form → Type 0
@@ -111,123 +88,11 @@ slots_back T (w ∷ ws) es s g st = let p = and_parts _ _ st in
     ((settled_one T w es s.0 g p.0).1, slots_back T ws es s.1 g p.1)
 
 -- the tables, and the rows of all sorts, are sound
-at_place : {A : Type 0} → (P : A → Type 0) (d : A) (xs : List A) (i : ℕ) → P d → Each P xs → P (place_or d xs i)
-at_place P d [] i e h = e
-at_place P d (x ∷ xs) zero e h = h.0
-at_place P d (x ∷ xs) (suc i) e h = at_place P d xs i e h.1
-
-table_place : TableName → ℕ
-table_place open_api = 0
-table_place info = 1
-table_place contact = 2
-table_place license = 3
-table_place example = 4
-table_place server = 5
-table_place server_variable = 6
-table_place TableName.tag = 7
-table_place external_documentation = 8
-table_place discriminator = 9
-table_place components = 10
-table_place paths = 11
-table_place path_item = 12
-table_place operation = 13
-table_place parameter_data = 14
-table_place query_parameter = 15
-table_place header_parameter = 16
-table_place path_parameter = 17
-table_place cookie_parameter = 18
-table_place header = 19
-table_place media_type = 20
-table_place encoding = 21
-table_place request_body = 22
-table_place responses = 23
-table_place response = 24
-table_place link = 25
-table_place api_key_scheme = 26
-table_place http_scheme = 27
-table_place oauth2_scheme = 28
-table_place open_id_connect_scheme = 29
-table_place oauth2_flows = 30
-table_place implicit_flow = 31
-table_place password_flow = 32
-table_place client_credentials_flow = 33
-table_place authorization_code_flow = 34
-table_place schema_data = 35
-table_place string_type = 36
-table_place number_type = 37
-table_place integer_type = 38
-table_place object_type = 39
-table_place array_type = 40
-table_place boolean_type = 41
-table_place any_schema = 42
-table_place one_of_schema = 43
-table_place all_of_schema = 44
-table_place any_of_schema = 45
-table_place not_schema = 46
-table_place schema_or_content = 47
-table_place link_operation = 48
-table_place callback_object = 49
-table_place xml_object = 50
-
-name_at-place : (n : TableName) → place_or open_api table_names (table_place n) ≡ n
-unfolding table_names table_place
-name_at-place open_api = refl
-name_at-place info = refl
-name_at-place contact = refl
-name_at-place license = refl
-name_at-place example = refl
-name_at-place server = refl
-name_at-place server_variable = refl
-name_at-place TableName.tag = refl
-name_at-place external_documentation = refl
-name_at-place discriminator = refl
-name_at-place components = refl
-name_at-place paths = refl
-name_at-place path_item = refl
-name_at-place operation = refl
-name_at-place parameter_data = refl
-name_at-place query_parameter = refl
-name_at-place header_parameter = refl
-name_at-place path_parameter = refl
-name_at-place cookie_parameter = refl
-name_at-place header = refl
-name_at-place media_type = refl
-name_at-place encoding = refl
-name_at-place request_body = refl
-name_at-place responses = refl
-name_at-place response = refl
-name_at-place link = refl
-name_at-place api_key_scheme = refl
-name_at-place http_scheme = refl
-name_at-place oauth2_scheme = refl
-name_at-place open_id_connect_scheme = refl
-name_at-place oauth2_flows = refl
-name_at-place implicit_flow = refl
-name_at-place password_flow = refl
-name_at-place client_credentials_flow = refl
-name_at-place authorization_code_flow = refl
-name_at-place schema_data = refl
-name_at-place string_type = refl
-name_at-place number_type = refl
-name_at-place integer_type = refl
-name_at-place object_type = refl
-name_at-place array_type = refl
-name_at-place boolean_type = refl
-name_at-place any_schema = refl
-name_at-place one_of_schema = refl
-name_at-place all_of_schema = refl
-name_at-place any_of_schema = refl
-name_at-place not_schema = refl
-name_at-place schema_or_content = refl
-name_at-place link_operation = refl
-name_at-place callback_object = refl
-name_at-place xml_object = refl
-
+-- what holds of all tables holds of each
 pub every_table : (p : TableName → Bool) → every p table_names ≡ true → (n : TableName) → p n ≡ true
-unfolding table_names table_place
-every_table p h n =
-    let e : Each (λ m. p m ≡ true) table_names = every_each p table_names h in
-    subst (λ m. p m ≡ true) (name_at-place n) (at_place (λ m. p m ≡ true) open_api table_names (table_place n) e.0 e)
+unfolding table_names
+every_table p h open_api = assumption (every_each p table_names h)
+every_table p h n = assumption (every_each p table_names h)
 
 pub and_seven : (a b c d e f g : Bool) → (a && b && c && d && e && f && g) ≡ true
     → (a ≡ true) × (b ≡ true) × (c ≡ true) × (d ≡ true) × (e ≡ true) × (f ≡ true) × (g ≡ true)
@@ -248,18 +113,9 @@ checked T W = and_seven _ _ _ _ _ _ _ W
 pub table_sound : (T : Tables) (W : tables_sound T ≡ true) (i : TableName) → rows_sound T (T i) ≡ true
 table_sound T W i = every_table (λ n. rows_sound T (T n)) (checked T W).0 i
 
-each_sort : (p : Sort → Bool) → Each (λ s. p s ≡ true) sorts → (s : Sort) → p s ≡ true
-each_sort p h string_sort = h.0
-each_sort p h number_sort = h.1.0
-each_sort p h integer_sort = h.1.1.0
-each_sort p h boolean_sort = h.1.1.1.0
-each_sort p h object_sort = h.1.1.1.1.0
-each_sort p h array_sort = h.1.1.1.1.1.0
-each_sort p h one_of_sort = h.1.1.1.1.1.1.0
-each_sort p h all_of_sort = h.1.1.1.1.1.1.1.0
-each_sort p h any_of_sort = h.1.1.1.1.1.1.1.1.0
-each_sort p h not_sort = h.1.1.1.1.1.1.1.1.1.0
-each_sort p h any_sort = h.1.1.1.1.1.1.1.1.1.1.0
+pub each_sort : (p : Sort → Bool) → Each (λ s. p s ≡ true) sorts → (s : Sort) → p s ≡ true
+each_sort p h any_sort = assumption h
+each_sort p h s = assumption h
 
 pub schema_sound : (T : Tables) (W : tables_sound T ≡ true) (s : Sort)
     → rows_sound T (join (T schema_data) (sort_rows s)) ≡ true
@@ -302,17 +158,13 @@ case_sound T W n s (c ∷ cs) h e =
 
 pub tag_case : (cs : List Case) (t : Tree) (c : Choice) → tag_choice cs t ≡ Some c
     → (s : List ℕ) × (c ≡ tag s) × (is_case cs s ≡ true) × (t ≡ text s)
-tag_case cs null c h = cc
-tag_case cs (flag b) c h = cc
-tag_case cs (whole z) c h = cc
 tag_case cs (text s) c h = pick (is_case cs s) refl h
   where
     pick : (b : Bool) → is_case cs s ≡ b → cond b (Some (tag s)) None ≡ Some c
         → (u : List ℕ) × (c ≡ tag u) × (is_case cs u ≡ true) × (text s ≡ text u)
     pick true e g = (s, cc, e, refl)
     pick false e g = cc
-tag_case cs (list ts) c h = cc
-tag_case cs (object ms) c h = cc
+tag_case cs t c h = cc
 
 pub rows_of_sound : (T : Tables) (W : tables_sound T ≡ true) (k : Kind) (c : Choice) (es : List (Entry Tree))
     → sound T k ≡ true → choice k es ≡ Some c → rows_sound T (rows_of T k c) ≡ true
@@ -326,15 +178,4 @@ rows_of_sound T W a_schema c es s h = let p : sort (sort_of es) ≡ c = cc in
     subst (λ d. rows_sound T (rows_of T a_schema d) ≡ true) p (schema_sound T W (sort_of es))
 rows_of_sound T W a_schema_kind c es s h = let p : sort (sort_of es) ≡ c = cc in
     subst (λ d. rows_sound T (rows_of T a_schema_kind d) ≡ true) p (sort_sound T W (sort_of es))
-rows_of_sound T W any_text c es s h = cc
-rows_of_sound T W any_flag c es s h = cc
-rows_of_sound T W (number w) c es s h = cc
-rows_of_sound T W any_tree c es s h = cc
-rows_of_sound T W (one_of ws) c es s h = cc
-rows_of_sound T W (format ws b) c es s h = cc
-rows_of_sound T W (null_or k) c es s h = cc
-rows_of_sound T W (list_of k) c es s h = cc
-rows_of_sound T W (map_of k) c es s h = cc
-rows_of_sound T W (ref_to k) c es s h = cc
-rows_of_sound T W flag_or_schema c es s h = cc
-rows_of_sound T W status_code c es s h = cc
+rows_of_sound T W k c es s h = cc

@@ -3,17 +3,15 @@ use Rattle.std.proofs.Common.{ℕ, Bool, true, false, cond, List, [], ◌∷◌,
 use Rattle.openapi_tables.specs.Lists.{each}
 use Rattle.openapi_node.specs.Tree.{Tree, null, list, items_of}
 use Rattle.openapi_tables.specs.Tree.{items_list, members_list, Entry}
-use Rattle.openapi_tables.specs.Kind.{Kind, any_text, any_flag, number, any_tree, one_of, null_or, list_of, format}
-use Rattle.openapi_tables.specs.Kind.{map_of, by, tagged, ref_to, flag_or_schema, a_schema, a_schema_kind, status_code}
-use Rattle.openapi_tables.specs.Kind.{Mode, row, Tables}
+use Rattle.openapi_tables.specs.Kind.{Kind, any_text, any_flag, number, any_tree, one_of, null_or, list_of, Mode, row}
+use Rattle.openapi_tables.specs.Kind.{Tables}
 use Rattle.openapi_tables.specs.Members.{is_null, first_tree, Choice, choice}
 use Rattle.openapi_tables.specs.Form.{Form}
 use Rattle.openapi_tables.specs.Read.{form, default_of, slot_of_own}
 use Rattle.openapi_tables.specs.Print.{print, clean, row_print, is_silent, one}
 use Rattle.openapi_tables.proofs.ListLaws.{each-each, each_same, each_id, each_under}
 use Rattle.openapi_tables.proofs.TreeLaws.{Inside, by_trees, items_of-list}
-use Rattle.openapi_tables.proofs.Taken.{Taken, as_leaf, as_known, as_other, as_unset, as_text_code, as_number_code}
-use Rattle.openapi_tables.proofs.Taken.{as_list, as_map, as_fields, as_reference, as_item, as_schema, as_inner, taken}
+use Rattle.openapi_tables.proofs.Taken.{Taken, as_leaf, as_list, as_fields, as_inner, taken}
 use Rattle.openapi_tables.proofs.ReadLaws.{reads}
 use Rattle.openapi_tables.proofs.PrintLaws.{printed, print-list, print-null_or}
 
@@ -31,21 +29,7 @@ is_plain _ = false
 -- no plain kind is one of objects
 pub plain_no_object : (k : Kind) (c : Choice) (es : List (Entry Tree)) → is_plain k ≡ true → choice k es ≡ Some c → ⊥
 plain_no_object any_text c es h g = cc
-plain_no_object any_flag c es h g = cc
-plain_no_object (number w) c es h g = cc
-plain_no_object any_tree c es h g = cc
-plain_no_object (one_of ws) c es h g = cc
-plain_no_object (format ws b) c es h g = cc
-plain_no_object (null_or k) c es h g = cc
-plain_no_object (list_of k) c es h g = cc
-plain_no_object (map_of k) c es h g = cc
-plain_no_object (ref_to k) c es h g = cc
-plain_no_object flag_or_schema c es h g = cc
-plain_no_object status_code c es h g = cc
-plain_no_object (by i) c es h g = cc
-plain_no_object (tagged n cs) c es h g = cc
-plain_no_object a_schema c es h g = cc
-plain_no_object a_schema_kind c es h g = cc
+plain_no_object k c es h g = cc
 
 abbrev Same : (T : Tables) → Tree → Type 0
 Same T t = (k : Kind) → is_plain k ≡ true → clean T k t ≡ t
@@ -53,11 +37,6 @@ Same T t = (k : Kind) → is_plain k ≡ true → clean T k t ≡ t
 plain_taken : (T : Tables) (k : Kind) (t : Tree) (f : Form) → Taken T k t f → Inside (Same T) t → is_plain k ≡ true
     → print T k f ≡ t
 plain_taken T k t f (as_leaf j u e) g h = refl
-plain_taken T k t f (as_known ws b s e) g h = cc
-plain_taken T k t f (as_other ws b s e) g h = cc
-plain_taken T k t f (as_unset ws b) g h = cc
-plain_taken T k t f (as_text_code s c e) g h = cc
-plain_taken T k t f (as_number_code n e) g h = cc
 plain_taken T k t f (as_list j ts) g h =
     print-list T j (each (form T j) (items_list ts))
     ∙ ap (λ l. list (items_of l))
@@ -65,12 +44,9 @@ plain_taken T k t f (as_list j ts) g h =
     ∙ each_same (clean T j) (λ t. t) (items_list ts) (each_under (λ (u : Tree) (x : Same T u). x j h) (items_list ts) g)
     ∙ each_id (items_list ts))
     ∙ ap list (items_of-list ts)
-plain_taken T k t f (as_map j ms) g h = cc
 plain_taken T k t f (as_fields j c ms e) g h = absurd (plain_no_object j c (members_list ms) h e)
-plain_taken T k t f (as_reference j u s e) g h = cc
-plain_taken T k t f (as_item j u x e y) g h = cc
-plain_taken T k t f (as_schema u x e y) g h = cc
 plain_taken T k t f (as_inner j u x y) g h = print-null_or T j x ∙ plain_taken T j u x y g h
+plain_taken T k t f x g h = cc
 
 pub clean-plain : (T : Tables) (t : Tree) → Same T t
 clean-plain T t = by_trees (Same T) (λ u g k h. plain_taken T k u (form T k u) (taken T k u) g h) t

@@ -3,12 +3,10 @@ use Rattle.std.proofs.Common.{List, [], ◌∷◌, Some, ◌≡◌, refl, ap, �
 use Rattle.openapi_tables.specs.Lists.{each}
 use Rattle.openapi_node.specs.Tree.{Tree, list, object, items_of}
 use Rattle.openapi_tables.specs.Tree.{members_of, Entry}
-use Rattle.openapi_tables.specs.Kind.{Kind, any_text, any_flag, number, any_tree, one_of, format, null_or, list_of}
-use Rattle.openapi_tables.specs.Kind.{map_of, by, tagged, ref_to, flag_or_schema, a_schema, a_schema_kind, status_code}
-use Rattle.openapi_tables.specs.Kind.{Row, Tables}
+use Rattle.openapi_tables.specs.Kind.{Kind, null_or, list_of, map_of, by, tagged, ref_to, flag_or_schema, a_schema}
+use Rattle.openapi_tables.specs.Kind.{a_schema_kind, Row, Tables}
 use Rattle.openapi_tables.specs.Members.{Choice, choice, rows_of}
-use Rattle.openapi_tables.specs.Form.{Form, absent, leaf, of_code, known, other, unset, reference, an_item, sequence}
-use Rattle.openapi_tables.specs.Form.{named, deciding, fields, forms_of, named_of, Pair}
+use Rattle.openapi_tables.specs.Form.{Form, sequence, named, deciding, fields, forms_of, named_of, Pair}
 use Rattle.openapi_tables.specs.Print.{Prints, text_of_key, rows_print, pair_prints, face_print, print}
 use Rattle.openapi_tables.proofs.ListLaws.{each-each}
 use Rattle.openapi_tables.proofs.FormLaws.{on_pair, show, of_forms-of, of_named-of}
@@ -50,43 +48,12 @@ print-fields T a_schema c es fs h =
     ap (λ l. object (members_of (rows_print (rows_of T a_schema c) l))) (of_forms-of (face_print T) fs)
 print-fields T a_schema_kind c es fs h =
     ap (λ l. object (members_of (rows_print (rows_of T a_schema_kind c) l))) (of_forms-of (face_print T) fs)
-print-fields T any_text c es fs h = cc
-print-fields T any_flag c es fs h = cc
-print-fields T (number w) c es fs h = cc
-print-fields T any_tree c es fs h = cc
-print-fields T (one_of ws) c es fs h = cc
-print-fields T (format ws b) c es fs h = cc
-print-fields T (null_or k) c es fs h = cc
-print-fields T (list_of k) c es fs h = cc
-print-fields T (map_of k) c es fs h = cc
-print-fields T (ref_to k) c es fs h = cc
-print-fields T flag_or_schema c es fs h = cc
-print-fields T status_code c es fs h = cc
+print-fields T k c es fs h = cc
 
 pub print-null_or : (T : Tables) (k : Kind) (f : Form) → print T (null_or k) f ≡ print T k f
-print-null_or T k absent = refl
-print-null_or T k (leaf t) = refl
-print-null_or T k (of_code c) = refl
-print-null_or T k (known s) = refl
-print-null_or T k (other s) = refl
-print-null_or T k unset = refl
-print-null_or T k (reference s) = refl
-print-null_or T k (an_item f) = refl
-print-null_or T k (sequence fs) = refl
-print-null_or T k (named es) = refl
 print-null_or T k (deciding n f) = print-null_or T k f
-print-null_or T k (fields c fs) = refl
+print-null_or T k f = refl
 
 pub print-flag_or_schema : (T : Tables) (f : Form) → print T flag_or_schema f ≡ print T (ref_to a_schema) f
-print-flag_or_schema T absent = refl
-print-flag_or_schema T (leaf t) = refl
-print-flag_or_schema T (of_code c) = refl
-print-flag_or_schema T (known s) = refl
-print-flag_or_schema T (other s) = refl
-print-flag_or_schema T unset = refl
-print-flag_or_schema T (reference s) = refl
-print-flag_or_schema T (an_item f) = refl
-print-flag_or_schema T (sequence fs) = refl
-print-flag_or_schema T (named es) = refl
 print-flag_or_schema T (deciding n f) = print-flag_or_schema T f
-print-flag_or_schema T (fields c fs) = refl
+print-flag_or_schema T f = refl

@@ -5,14 +5,10 @@ use Rattle.std.proofs.lemmas.Bool.{and_parts, and_from, both_ways, not-true}
 use Rattle.openapi_tables.specs.Lists.{each, join, only, every, same_text}
 use Rattle.openapi_node.specs.Tree.{Tree}
 use Rattle.openapi_tables.specs.Tree.{members_list, of_members, Entry}
-use Rattle.openapi_tables.specs.Kind.{class, callback_names, in_class, Kind, any_text, any_flag, number, any_tree}
-use Rattle.openapi_tables.specs.Kind.{one_of, format, null_or, list_of, map_of, by, tagged, ref_to, flag_or_schema}
-use Rattle.openapi_tables.specs.Kind.{a_schema, a_schema_kind, status_code, Case, Row, constant, takes, Tables}
-use Rattle.openapi_tables.specs.Kind.{TableName, schema_data}
-use Rattle.openapi_tables.specs.Members.{own, first_tree, held, Sort, string_sort, number_sort, integer_sort}
-use Rattle.openapi_tables.specs.Members.{boolean_sort, object_sort, array_sort, one_of_sort, all_of_sort, any_of_sort}
-use Rattle.openapi_tables.specs.Members.{not_sort, any_sort, sort_rows, sort_of, Choice, tag, sort, is_case, case_rows}
-use Rattle.openapi_tables.specs.Members.{tag_choice, choice, rows_of}
+use Rattle.openapi_tables.specs.Kind.{class, callback_names, in_class, Kind, map_of, by, tagged, a_schema}
+use Rattle.openapi_tables.specs.Kind.{a_schema_kind, Case, Row, constant, takes, Tables, TableName, schema_data}
+use Rattle.openapi_tables.specs.Members.{own, first_tree, held, Sort, any_sort, sort_rows, sort_of, Choice, tag, sort}
+use Rattle.openapi_tables.specs.Members.{is_case, case_rows, tag_choice, choice, rows_of}
 use Rattle.openapi_tables.specs.Conforms.{text_in}
 use Rattle.openapi_tables.specs.Form.{Form, fields, forms_of, name}
 use Rattle.openapi_tables.specs.Read.{root_form, slot, form, map_form}
@@ -24,47 +20,23 @@ use Rattle.openapi_tables.proofs.ListLaws.{Each, each-each, only-each, every_eac
 use Rattle.openapi_tables.proofs.ListLaws.{each_under}
 use Rattle.openapi_tables.proofs.TreeLaws.{by_trees, members_list-of, of_members_lem}
 use Rattle.openapi_tables.proofs.FormLaws.{show}
-use Rattle.openapi_tables.proofs.Taken.{Taken, as_leaf, as_known, as_other, as_unset, as_text_code, as_number_code}
-use Rattle.openapi_tables.proofs.Taken.{as_list, as_map, as_fields, as_reference, as_item, as_schema, as_inner, taken}
-use Rattle.openapi_tables.proofs.Taken.{ref_text}
+use Rattle.openapi_tables.proofs.Taken.{Taken, as_leaf, as_map, as_fields, taken, ref_text}
 use Rattle.openapi_tables.proofs.ReadLaws.{slot_in, slots-reads, pair_of, map_form-reads, class_form-reads}
 use Rattle.openapi_tables.proofs.PrintLaws.{printed, members_for, entry_of, print-fields, print-map}
 use Rattle.openapi_tables.proofs.RowLaws.{OwnWrites, found, TakesAll, not_both}
 use Rattle.openapi_tables.proofs.SlotLaws.{Good}
-use Rattle.openapi_tables.proofs.ObjectBack.{schema_sound, sort_sound, stays-fields, own_writes, rows_of_sound}
-use Rattle.openapi_tables.proofs.ObjectBack.{tag_case, schema_spares_ref, checked}
+use Rattle.openapi_tables.proofs.ObjectBack.{each_sort, schema_sound, sort_sound, stays-fields, own_writes}
+use Rattle.openapi_tables.proofs.ObjectBack.{rows_of_sound, tag_case, schema_spares_ref, checked}
 use Rattle.openapi_tables.proofs.SortLaws.{rewrites, Each_behind, names_fit_none}
 use Rattle.openapi_tables.proofs.SortAgain.{sort_again}
 use Rattle.openapi_tables.proofs.Back.{ChosenAgain, NoReference, taken_back}
 
 is_any_eq : (s : Sort) → is_any s ≡ true → s ≡ any_sort
-is_any_eq string_sort h = cc
-is_any_eq number_sort h = cc
-is_any_eq integer_sort h = cc
-is_any_eq boolean_sort h = cc
-is_any_eq object_sort h = cc
-is_any_eq array_sort h = cc
-is_any_eq one_of_sort h = cc
-is_any_eq all_of_sort h = cc
-is_any_eq any_of_sort h = cc
-is_any_eq not_sort h = cc
 is_any_eq any_sort h = refl
+is_any_eq s h = cc
 
 pub sort_in : (p : Sort → Bool) → every p sorts ≡ true → (s : Sort) → p s ≡ true
-sort_in p h s = at (every_each p sorts h) s
-  where
-    at : Each (λ s. p s ≡ true) sorts → (s : Sort) → p s ≡ true
-    at h string_sort = h.0
-    at h number_sort = h.1.0
-    at h integer_sort = h.1.1.0
-    at h boolean_sort = h.1.1.1.0
-    at h object_sort = h.1.1.1.1.0
-    at h array_sort = h.1.1.1.1.1.0
-    at h one_of_sort = h.1.1.1.1.1.1.0
-    at h all_of_sort = h.1.1.1.1.1.1.1.0
-    at h any_of_sort = h.1.1.1.1.1.1.1.1.0
-    at h not_sort = h.1.1.1.1.1.1.1.1.1.0
-    at h any_sort = h.1.1.1.1.1.1.1.1.1.1.0
+sort_in p h s = each_sort p (every_each p sorts h) s
 
 -- a tag is found again
 pub tag_again : (T : Tables) (n : List ℕ) (cs : List Case) (u : List ℕ) (fs : List Form) → is_case cs u ≡ true
@@ -165,18 +137,7 @@ chosen_again T W a_schema_kind c es s h g w st =
     (subst (λ d. OwnWrites T (rows_of T a_schema_kind d) (each (slot_in T es) (rows_of T a_schema_kind d)))
     (sym p) w)
     (subst (λ d. choice_stays T a_schema_kind d (each (slot_in T es) (rows_of T a_schema_kind d)) ≡ true) (sym p) st))
-chosen_again T W any_text c es s h g w st = cc
-chosen_again T W any_flag c es s h g w st = cc
-chosen_again T W (number limits) c es s h g w st = cc
-chosen_again T W any_tree c es s h g w st = cc
-chosen_again T W (one_of ws) c es s h g w st = cc
-chosen_again T W (format ws b) c es s h g w st = cc
-chosen_again T W (null_or k) c es s h g w st = cc
-chosen_again T W (list_of k) c es s h g w st = cc
-chosen_again T W (map_of k) c es s h g w st = cc
-chosen_again T W (ref_to k) c es s h g w st = cc
-chosen_again T W flag_or_schema c es s h g w st = cc
-chosen_again T W status_code c es s h g w st = cc
+chosen_again T W x c es s h g w st = cc
 
 -- no row of an object that may stand under a reference takes `$ref`
 spare_cases : (T : Tables) (cs : List Case) (u : List ℕ) → every (λ c. spares_ref (T c.table)) cs ≡ true
@@ -213,19 +174,7 @@ rows_keep T W (tagged n cs) c es u h =
 rows_keep T W a_schema c es u h = let p : sort (sort_of es) ≡ c = cc in
     subst (λ d. every keeps_ref (rows_of T a_schema d) ≡ true) p
     (spares_keeps (rows_of T a_schema (sort (sort_of es))) (schema_spares_ref T W (sort_of es)))
-rows_keep T W a_schema_kind c es u h = cc
-rows_keep T W any_text c es u h = cc
-rows_keep T W any_flag c es u h = cc
-rows_keep T W (number w) c es u h = cc
-rows_keep T W any_tree c es u h = cc
-rows_keep T W (one_of ws) c es u h = cc
-rows_keep T W (format ws b) c es u h = cc
-rows_keep T W (null_or k) c es u h = cc
-rows_keep T W (list_of k) c es u h = cc
-rows_keep T W (map_of k) c es u h = cc
-rows_keep T W (ref_to k) c es u h = cc
-rows_keep T W flag_or_schema c es u h = cc
-rows_keep T W status_code c es u h = cc
+rows_keep T W k c es u h = cc
 
 -- an object of a table is written as no text
 text_of_object : (T : Tables) (i : TableName) (t : Tree) (f : Form) → Taken T (by i) t f → text_in t ≡ None
@@ -336,31 +285,11 @@ object_no_reference T W k c es s h u g st r =
 -- a map that may stand under a reference is one of objects of a table
 map_under_ref : (T : Tables) (k : Kind) (es : List (Entry Tree)) → under_ref T (map_of k) ≡ true
     → text_in (held (codes "$ref") es) ≡ None → text_in (held (codes "$ref") (each (cleaned T k) es)) ≡ None
-map_under_ref T any_text es u h = cc
-map_under_ref T any_flag es u h = cc
-map_under_ref T (number w) es u h = cc
-map_under_ref T any_tree es u h = cc
-map_under_ref T (one_of ws) es u h = cc
-map_under_ref T (format ws b) es u h = cc
-map_under_ref T (null_or k) es u h = cc
-map_under_ref T (list_of k) es u h = cc
-map_under_ref T (map_of k) es u h = cc
-map_under_ref T (ref_to k) es u h = cc
-map_under_ref T flag_or_schema es u h = cc
-map_under_ref T status_code es u h = cc
-map_under_ref T (tagged n cs) es u h = cc
-map_under_ref T a_schema es u h = cc
-map_under_ref T a_schema_kind es u h = cc
 map_under_ref T (by i) es u h = map_no_reference T i es h
+map_under_ref T k es u h = cc
 
 no_reference : (T : Tables) (W : tables_sound T ≡ true) → NoReference T
 no_reference T W k t f (as_leaf j u e) g s st r h = h
-no_reference T W k t f (as_known ws b x e) g s st r h = refl
-no_reference T W k t f (as_other ws b x e) g s st r h = refl
-no_reference T W k t f (as_unset ws b) g s st r h = refl
-no_reference T W k t f (as_text_code x c e) g s st r h = refl
-no_reference T W k t f (as_number_code n e) g s st r h = refl
-no_reference T W k t f (as_list j ts) g s st r h = refl
 no_reference T W k t f (as_map j ms) g s st r h =
     let es = members_list ms in
     ap (λ x. ref_text (print T (map_of j) x))
@@ -378,10 +307,7 @@ no_reference T W k t f (as_fields j c ms e) g s st r h =
     ∙ ap (λ l. fields c (forms_of l)) (slots-reads T (rows_of T j c) es) in
     subst (λ x. ref_text (print T j x) ≡ None) (sym p)
     (object_no_reference T W j c es s e r g (subst (λ x. stays T j x ≡ true) p st) h)
-no_reference T W k t f (as_reference j u x e) g s st r h = cc
-no_reference T W k t f (as_item j u x e y) g s st r h = cc
-no_reference T W k t f (as_schema u x e y) g s st r h = cc
-no_reference T W k t f (as_inner j u x y) g s st r h = cc
+no_reference T W k t f x g s st r h = cc
 
 -- a tree that a sound kind reads to what stays is read again from what that is written as
 pub read_again : (T : Tables) (W : tables_sound T ≡ true) (t : Tree) → Good T t

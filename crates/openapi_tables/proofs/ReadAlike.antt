@@ -5,12 +5,11 @@ use Rattle.std.proofs.lemmas.Bool.{or_left, or_right}
 use Rattle.openapi_tables.specs.Lists.{each, join, every, same_text, has}
 use Rattle.openapi_node.specs.Tree.{Tree, text, object}
 use Rattle.openapi_tables.specs.Tree.{members_of, Entry, Seen, Shape, an_object, of_members}
-use Rattle.openapi_tables.specs.Kind.{Kind}
-use Rattle.openapi_tables.specs.Kind.{by, tagged, ref_to, flag_or_schema, a_schema, a_schema_kind}
-use Rattle.openapi_tables.specs.Kind.{optional, Row, row, either, class, constant, takes, schema_data, Tables}
+use Rattle.openapi_tables.specs.Kind.{Kind, by, tagged, ref_to, flag_or_schema, a_schema, a_schema_kind, optional, Row}
+use Rattle.openapi_tables.specs.Kind.{row, either, class, constant, takes, schema_data, Tables}
 use Rattle.openapi_tables.specs.Tables.{any_rows}
-use Rattle.openapi_tables.specs.Members.{own, first_tree, held, plain, tag, sort, sort_rows, kind_names, row_name, Choice}
-use Rattle.openapi_tables.specs.Members.{choice, rows_of, made_optional, checked_rows}
+use Rattle.openapi_tables.specs.Members.{own, first_tree, held, plain, tag, sort, sort_rows, kind_names, row_name}
+use Rattle.openapi_tables.specs.Members.{Choice, choice, rows_of, made_optional, checked_rows}
 use Rattle.openapi_tables.specs.Conforms.{text_in, is_reference, reference_or, root_conforms, row_holds, chosen_holds}
 use Rattle.openapi_tables.specs.Conforms.{object_holds, conforms}
 use Rattle.openapi_tables.specs.Form.{reference}
@@ -58,17 +57,12 @@ checked_from : (P : Row → Type 0) (T : Tables) (k : Kind) (c : Choice)
     → Each P (checked_rows T k c)
 unfolding rows_of checked_rows kind_names
 checked_from P T (by i) c f h = h
-checked_from P T (tagged n cs) plain f h = tt
 checked_from P T (tagged n cs) (tag s) f h = h
-checked_from P T (tagged n cs) (sort s) f h = tt
-checked_from P T a_schema plain f h = tt
-checked_from P T a_schema (tag s) f h = tt
 checked_from P T a_schema (sort s) f h =
     Each-join P (T schema_data) (each made_optional any_rows) (front P (T schema_data) (sort_rows s) h)
     (named_rows P any_rows all_named f)
-checked_from P T a_schema_kind plain f h = tt
-checked_from P T a_schema_kind (tag s) f h = tt
 checked_from P T a_schema_kind (sort s) f h = named_rows P any_rows all_named f
+checked_from P T k plain f h = tt
 checked_from P T k c f h = tt
 
 -- ---- objects that hold the same under each row

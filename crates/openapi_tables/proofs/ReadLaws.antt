@@ -1,11 +1,10 @@
 -- What is read of trees that are made of lists of members.
 use Rattle.std.proofs.Common.{ℕ, false, List, [], ◌∷◌, Some, None, ◌≡◌, refl, ap, ◌∙◌, codes}
 use Rattle.openapi_tables.specs.Lists.{each}
-use Rattle.openapi_node.specs.Tree.{Tree, null, flag, whole, text, list, object, items_of}
+use Rattle.openapi_node.specs.Tree.{Tree, null, flag, list, object, items_of}
 use Rattle.openapi_tables.specs.Tree.{members_of, Entry, on_entry, Seen, of_members}
-use Rattle.openapi_tables.specs.Kind.{Kind, any_text, any_flag, number, any_tree, one_of, format, null_or, list_of}
-use Rattle.openapi_tables.specs.Kind.{map_of, by, tagged, ref_to, flag_or_schema, a_schema, a_schema_kind, status_code}
-use Rattle.openapi_tables.specs.Kind.{Class, Row, takes, Tables}
+use Rattle.openapi_tables.specs.Kind.{Kind, null_or, list_of, map_of, by, tagged, ref_to, flag_or_schema, a_schema}
+use Rattle.openapi_tables.specs.Kind.{a_schema_kind, Class, Row, takes, Tables}
 use Rattle.openapi_tables.specs.Members.{own, held, Choice, choice, rows_of}
 use Rattle.openapi_tables.specs.Conforms.{text_in}
 use Rattle.openapi_tables.specs.Form.{Form, reference, an_item, sequence, named, fields, forms_of, named_of, Key, name}
@@ -74,55 +73,28 @@ form-fields T (by i) c es h = chosen T (by i) c es h
 form-fields T (tagged n cs) c es h = chosen T (tagged n cs) c es h
 form-fields T a_schema c es h = chosen T a_schema c es h
 form-fields T a_schema_kind c es h = chosen T a_schema_kind c es h
-form-fields T any_text c es h = cc
-form-fields T any_flag c es h = cc
-form-fields T (number w) c es h = cc
-form-fields T any_tree c es h = cc
-form-fields T (one_of ws) c es h = cc
-form-fields T (format ws b) c es h = cc
-form-fields T (null_or k) c es h = cc
-form-fields T (list_of k) c es h = cc
-form-fields T (map_of k) c es h = cc
-form-fields T (ref_to k) c es h = cc
-form-fields T flag_or_schema c es h = cc
-form-fields T status_code c es h = cc
+form-fields T k c es h = cc
 
 -- a tree that is no reference is an item
 pub form-item : (T : Tables) (k : Kind) (t : Tree) → ref_text t ≡ None → form T (ref_to k) t ≡ an_item (form T k t)
-form-item T k null h = refl
-form-item T k (flag b) h = refl
-form-item T k (whole z) h = refl
-form-item T k (text s) h = refl
-form-item T k (list ts) h = refl
 form-item T k (object ms) h =
     ap (λ o. reference_or_item o (form T k (object ms)))
     (ap (λ es. text_in (held (codes "$ref") es)) (trees_of-members (root_form T) ms) ∙ h)
+form-item T k t h = refl
 
 -- a tree with a text under `$ref` is a reference
 pub form-reference : (T : Tables) (k : Kind) (t : Tree) (s : List ℕ) → ref_text t ≡ Some s
     → form T (ref_to k) t ≡ reference s
-form-reference T k null s h = cc
-form-reference T k (flag b) s h = cc
-form-reference T k (whole z) s h = cc
-form-reference T k (text u) s h = cc
-form-reference T k (list ts) s h = cc
 form-reference T k (object ms) s h =
     ap (λ o. reference_or_item o (form T k (object ms)))
     (ap (λ es. text_in (held (codes "$ref") es)) (trees_of-members (root_form T) ms) ∙ h)
+form-reference T k t s h = cc
 
 pub form-null_or : (T : Tables) (k : Kind) (t : Tree) → form T (null_or k) t ≡ form T k t
 form-null_or T k null = refl
-form-null_or T k (flag b) = refl
-form-null_or T k (whole z) = refl
-form-null_or T k (text s) = refl
-form-null_or T k (list ts) = refl
-form-null_or T k (object ms) = refl
+form-null_or T k t = refl
 
 pub form-flag_or_schema : (T : Tables) (t : Tree) → is_flag t ≡ false
     → form T flag_or_schema t ≡ form T (ref_to a_schema) t
-form-flag_or_schema T null h = refl
 form-flag_or_schema T (flag b) h = cc
-form-flag_or_schema T (whole z) h = refl
-form-flag_or_schema T (text s) h = refl
-form-flag_or_schema T (list ts) h = refl
-form-flag_or_schema T (object ms) h = refl
+form-flag_or_schema T t h = refl

@@ -1,12 +1,10 @@
 -- What is read of a tree that conforms is a proper form: for all kinds and trees.
-use Rattle.std.proofs.Common.{ℕ, Bool, true, false, not, cond, ◌&&◌, ◌||◌, List, [], ◌∷◌, ◌≡◌, refl}
-use Rattle.std.proofs.Common.{sym, ap, ◌∙◌, eq-eqb, ⊎_elim}
+use Rattle.std.proofs.Common.{ℕ, Bool, true, false, not, cond, ◌&&◌, ◌||◌, List, [], ◌∷◌, ◌≡◌, refl, sym, ap, ◌∙◌}
+use Rattle.std.proofs.Common.{eq-eqb, ⊎_elim}
 use Rattle.std.proofs.lemmas.Bool.{and_parts, and_from, or_left, or_right, or_cases, not-true}
-use Rattle.openapi_tables.specs.Kind.{Kind, Tables, Row, Class, Code, Mode, a_schema, a_schema_kind}
-use Rattle.openapi_tables.specs.Kind.{any_flag, any_text, any_tree, by, class, code, constant, either}
-use Rattle.openapi_tables.specs.Kind.{flag_or_schema, flagged, format, formatted, in_class, list_of, listed}
-use Rattle.openapi_tables.specs.Kind.{map_of, null_or, nullable, number, one_of, optional, range, ref_to, required, row}
-use Rattle.openapi_tables.specs.Kind.{status_code, styled, tagged}
+use Rattle.openapi_tables.specs.Kind.{Kind, Tables, Row, Class, Code, Mode, any_tree, class, code, constant, either}
+use Rattle.openapi_tables.specs.Kind.{flagged, format, formatted, in_class, list_of, listed, null_or, nullable, one_of}
+use Rattle.openapi_tables.specs.Kind.{optional, range, ref_to, required, row, styled}
 use Rattle.openapi_tables.proofs.FaultLaws.{judged}
 use Rattle.openapi_tables.proofs.FormLaws.{of_named-of, on_pair, show}
 use Rattle.openapi_tables.proofs.KeyLaws.{Both, Both-gather}
@@ -16,18 +14,15 @@ use Rattle.openapi_tables.proofs.RowBack.{Keyed, keyed}
 use Rattle.openapi_tables.proofs.RowLaws.{TakesAll}
 use Rattle.openapi_tables.proofs.RowWrites.{row_holds_own}
 use Rattle.openapi_tables.proofs.SortHolds.{AllHold, not_null_conforms}
-use Rattle.openapi_tables.specs.Conforms.{conforms, either_holds, may_miss, name_holds}
-use Rattle.openapi_tables.specs.Conforms.{skips_null}
+use Rattle.openapi_tables.specs.Conforms.{conforms, either_holds, may_miss, name_holds, skips_null}
 use Rattle.openapi_tables.specs.Form.{Form, Key, Pair, coded, name}
 use Rattle.openapi_tables.specs.Lists.{each, every, same_text}
-use Rattle.openapi_tables.specs.Members.{first_tree}
-use Rattle.openapi_tables.specs.Members.{is_null}
-use Rattle.openapi_tables.specs.Members.{own}
+use Rattle.openapi_tables.specs.Members.{first_tree, is_null, own}
 use Rattle.openapi_tables.specs.Print.{text_of_key}
-use Rattle.openapi_tables.specs.Proper.{Held, face_proper, is_written, may_be_absent, of_kind}
-use Rattle.openapi_tables.specs.Proper.{proper, row_proper, rows_proper}
-use Rattle.openapi_tables.specs.Read.{class_form, default_of, form, gather, key_in, name_slot}
-use Rattle.openapi_tables.specs.Read.{same_code, same_key, slot_of_own}
+use Rattle.openapi_tables.specs.Proper.{Held, face_proper, is_written, may_be_absent, of_kind, proper, row_proper}
+use Rattle.openapi_tables.specs.Proper.{rows_proper}
+use Rattle.openapi_tables.specs.Read.{class_form, default_of, form, gather, key_in, name_slot, same_code, same_key}
+use Rattle.openapi_tables.specs.Read.{slot_of_own}
 use Rattle.openapi_tables.specs.Sound.{mode_fits, refuses_null, row_sound, sound}
 use Rattle.openapi_node.specs.Tree.{Tree, null}
 use Rattle.openapi_tables.specs.Tree.{Entry, Seen}
@@ -50,18 +45,10 @@ RowReads T l (constant n v) = Unit {0}
 
 default_proper : (T : Tables) (n : List ℕ) (m : Mode) (k : Kind) → mode_fits m k ≡ true → may_miss m ≡ true
     → row_proper (row n m k) (show (face_proper T) (default_of m k)) ≡ true
-default_proper T n required k s h = cc
-default_proper T n optional k s h = refl
-default_proper T n nullable k s h = refl
-default_proper T n listed (list_of k) s h = refl
-default_proper T n listed (map_of k) s h = refl
-default_proper T n listed k s h = cc
-default_proper T n flagged any_flag s h = refl
-default_proper T n flagged k s h = cc
 default_proper T n (styled u) (one_of ws) s h = s
-default_proper T n (styled u) k s h = cc
 default_proper T n formatted (format ws b) s h = s
-default_proper T n formatted k s h = cc
+default_proper T n m (list_of k) s h = cc
+default_proper T n m k s h = cc
 
 pub or_false_right : (b : Bool) → (b || false) ≡ true → b ≡ true
 or_false_right true h = refl
@@ -152,22 +139,11 @@ rows_read_proper T es (w ∷ ws) s g h =
 
 -- rows that hold find what they need
 refuses : (T : Tables) (k : Kind) → refuses_null k ≡ true → conforms T k null ≡ false
-refuses T any_text h = refl
-refuses T any_flag h = refl
-refuses T (number w) h = refl
 refuses T any_tree h = cc
-refuses T (one_of ws) h = refl
 refuses T (format ws b) h = not-true b h
 refuses T (null_or k) h = cc
-refuses T (list_of k) h = refl
-refuses T (map_of k) h = refl
-refuses T (by i) h = refl
-refuses T (tagged n cs) h = refl
 refuses T (ref_to k) h = refuses T k h
-refuses T flag_or_schema h = refl
-refuses T a_schema h = refl
-refuses T a_schema_kind h = refl
-refuses T status_code h = refl
+refuses T k h = refl
 
 name_reads : (T : Tables) (m : Mode) (k : Kind) (l : List (Entry Tree)) → mode_fits m k ≡ true
     → name_holds m k (judged T l) ≡ true → (name_holds optional k (judged T l) ≡ true)

@@ -5,9 +5,8 @@ use Rattle.std.proofs.lemmas.Bool.{and_parts}
 use Rattle.openapi_tables.specs.Lists.{each, every, same_text}
 use Rattle.openapi_node.specs.Tree.{Tree}
 use Rattle.openapi_tables.specs.Tree.{Entry}
-use Rattle.openapi_tables.specs.Kind.{Kind, map_of, Mode, Row, row, either, class, constant, Class, extensions}
-use Rattle.openapi_tables.specs.Kind.{callback_names, path_names, status_names, Code, code_of, is_code, in_class}
-use Rattle.openapi_tables.specs.Kind.{text_of, Tables}
+use Rattle.openapi_tables.specs.Kind.{Kind, map_of, Mode, Row, row, either, class, constant, Class, status_names, Code}
+use Rattle.openapi_tables.specs.Kind.{code_of, is_code, in_class, text_of, Tables}
 use Rattle.openapi_tables.specs.Members.{is_null}
 use Rattle.openapi_tables.specs.Form.{Form, named, deciding, Key, named_of, Pair}
 use Rattle.openapi_tables.specs.Read.{default_of, slot_of_own, code_key, key_in, class_form, form, gather}
@@ -102,10 +101,8 @@ keyed_status n (Some c) e h =
     (ap (code_key (text_of c)) p, ap is_code p)
 
 pub keyed : (c : Class) (n : List ℕ) → in_class c n ≡ true → Keyed c (key_in c n)
-keyed extensions n h = (refl, h)
-keyed callback_names n h = (refl, h)
-keyed path_names n h = (refl, h)
 keyed status_names n h = keyed_status n (code_of n) refl h
+keyed c n h = (refl, h)
 
 good_values : (T : Tables) (k : Kind) → sound T k ≡ true → (es : List (Entry Tree))
     → Each (λ (e : Entry Tree). Good T e.value) es → Each (λ (e : Entry Tree). Back T k (form T k e.value)) es

@@ -6,16 +6,14 @@ use Rattle.openapi_tables.specs.Lists.{join, only, every, same_text}
 use Rattle.openapi_node.specs.Tree.{Tree}
 use Rattle.openapi_tables.specs.Tree.{Entry}
 use Rattle.openapi_tables.specs.Kind.{Code, Row, row, either, class, constant, Class, extensions, callback_names, Mode}
-use Rattle.openapi_tables.specs.Kind.{Kind}
-use Rattle.openapi_tables.specs.Kind.{path_names, status_names, takes, in_class, is_code, is_digit, is_x, begins}
+use Rattle.openapi_tables.specs.Kind.{Kind, path_names, status_names, takes, in_class, is_code, is_digit, is_x, begins}
 use Rattle.openapi_tables.specs.Kind.{Tables}
 use Rattle.openapi_tables.specs.Members.{own}
 use Rattle.openapi_tables.specs.Form.{Form}
 use Rattle.openapi_tables.specs.Sound.{apart, rows_apart, classes_meet}
 use Rattle.openapi_tables.specs.Print.{row_print, one}
 use Rattle.openapi_tables.proofs.ListLaws.{same_text-refl, Each, each_under, only-join, only_all, only_none, join-nil}
-use Rattle.openapi_tables.proofs.ListLaws.{join_assoc, same_text-refl}
-use Rattle.openapi_tables.proofs.ListLaws.{same_text_eq, every_each}
+use Rattle.openapi_tables.proofs.ListLaws.{join_assoc, same_text-refl, same_text_eq, every_each}
 use Rattle.openapi_tables.proofs.PrintLaws.{printed, members_for}
 
 pub not_both : (b : Bool) → (b ≡ true → ⊥) → b ≡ false
@@ -52,24 +50,14 @@ code_first a b c false true e g x y h =
 code_first a b c false false e g x y h = cc
 
 status_first : (n : List ℕ) → in_class status_names n ≡ true → (48 ≤ first_byte n) × (first_byte n ≤ 57)
-status_first [] h = cc
-status_first (a ∷ []) h = cc
-status_first (a ∷ b ∷ []) h = cc
 status_first (a ∷ b ∷ c ∷ []) h = code_first a b c _ _ refl refl _ _ h
-status_first (a ∷ b ∷ c ∷ d ∷ l) h = cc
+status_first (a ∷ b ∷ []) h = cc
+status_first n h = cc
 
 begins_both : (n : List ℕ) → begins (codes "x-") n ≡ true → not (begins (codes "x-") n) ≡ true → ⊥
 begins_both n h g = both_ways (begins (codes "x-") n) (not-true (begins (codes "x-") n) g) h
 
 classes_apart : (c d : Class) (n : List ℕ) → classes_meet c d ≡ false → in_class c n ≡ true → in_class d n ≡ true → ⊥
-classes_apart extensions extensions n e h g = cc
-classes_apart callback_names callback_names n e h g = cc
-classes_apart callback_names path_names n e h g = cc
-classes_apart callback_names status_names n e h g = cc
-classes_apart path_names path_names n e h g = cc
-classes_apart path_names callback_names n e h g = cc
-classes_apart status_names status_names n e h g = cc
-classes_apart status_names callback_names n e h g = cc
 classes_apart extensions callback_names n e h g = begins_both n h g
 classes_apart callback_names extensions n e h g = begins_both n g h
 classes_apart extensions path_names n e h g = let p = extension_first n h in let q = path_first n g in omega arith
@@ -78,6 +66,8 @@ classes_apart extensions status_names n e h g = let p = extension_first n h in l
 classes_apart status_names extensions n e h g = let q = status_first n h in let p = extension_first n g in omega arith
 classes_apart path_names status_names n e h g = let p = path_first n h in let q = status_first n g in omega arith
 classes_apart status_names path_names n e h g = let q = status_first n h in let p = path_first n g in omega arith
+classes_apart c extensions n e h g = cc
+classes_apart c d n e h g = cc
 
 at_name : (v : Row) (a n : List ℕ) → not (takes v a) ≡ true → same_text a n ≡ true → takes v n ≡ false
 at_name v a n h e = subst (λ m. takes v m ≡ false) (same_text_eq a n e) (not-true (takes v a) h)

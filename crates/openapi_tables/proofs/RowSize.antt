@@ -2,9 +2,9 @@
 use Rattle.std.proofs.Common.{ℕ, suc, Bool, true, false, not, cond, ◌&&◌, ◌||◌, List, [], ◌∷◌, Some, ◌≡◌, refl, sym, ap}
 use Rattle.std.proofs.Common.{◌∙◌, subst, ◌≤◌, ◌+◌, ◌*◌, arith, nat_le, leb-true}
 use Rattle.std.proofs.lemmas.Bool.{and_parts}
-use Rattle.openapi_tables.specs.Kind.{Kind, Tables, Row, Class, Mode, callback_names, class, constant, either}
-use Rattle.openapi_tables.specs.Kind.{extensions, flagged, formatted, list_of, listed, map_of, nullable, optional}
-use Rattle.openapi_tables.specs.Kind.{path_names, required, row, status_names, styled, takes}
+use Rattle.openapi_tables.specs.Kind.{Kind, Tables, Row, Class, Mode, class, constant, either, flagged, formatted}
+use Rattle.openapi_tables.specs.Kind.{list_of, listed, map_of, nullable, optional, required, row, status_names, styled}
+use Rattle.openapi_tables.specs.Kind.{takes}
 use Rattle.openapi_tables.proofs.FaultLaws.{judged}
 use Rattle.openapi_tables.proofs.ListLaws.{Each, Each_within-only, each_under, every_each}
 use Rattle.openapi_tables.proofs.PrintLaws.{entry_of, members_for, print-fields, print-map, printed}
@@ -20,7 +20,7 @@ use Rattle.openapi_tables.specs.Print.{clean, is_silent, members_in, one, print,
 use Rattle.openapi_tables.specs.Read.{class_form, default_of, form, gather, key_in, name_slot, put, put_all, same_key}
 use Rattle.openapi_tables.specs.Read.{slot_of_own}
 use Rattle.openapi_tables.specs.Sound.{apart, extra, extras, mode_fits, row_sound, rows_apart, sound}
-use Rattle.openapi_node.specs.Tree.{Tree, flag, list, members_size, null, object, size_of, text, whole}
+use Rattle.openapi_node.specs.Tree.{Tree, members_size, null, object, size_of}
 use Rattle.openapi_tables.specs.Tree.{Entry, Seen, members_of}
 use Rattle.openapi_tables.proofs.SoundLaws.{sound_pick}
 
@@ -30,11 +30,7 @@ total (e ∷ es) = size_of e.value + total es
 
 pub size_positive : (t : Tree) → 1 ≤ size_of t
 size_positive null = omega arith
-size_positive (flag b) = omega arith
-size_positive (whole z) = omega arith
-size_positive (text s) = omega arith
-size_positive (list ts) = omega arith
-size_positive (object ms) = omega arith
+size_positive t = omega arith
 
 members_size-of : (es : List (Entry Tree)) → members_size (members_of es) ≡ total es
 members_size-of [] = refl
@@ -136,9 +132,7 @@ put_all_small T k m (e ∷ es) = let p = put_all_small T k (put e.key e.value m)
 gather_small : (T : Tables) (k : Kind) (c : Class) (es : List (Pair Form))
     → total (each (entry_of T k) (gather c es)) ≤ total (each (entry_of T k) es)
 gather_small T k status_names es = let p = put_all_small T k [] es in omega arith
-gather_small T k extensions es = omega arith
-gather_small T k callback_names es = omega arith
-gather_small T k path_names es = omega arith
+gather_small T k c es = omega arith
 
 pairs_small : (T : Tables) (g : List ℕ → Key) (k : Kind) (l : List (Entry Tree)) → sound T k ≡ true → Smalls T l
     → every (λ (e : Entry (Seen (Kind → Bool))). e.value.answer k) (judged T l) ≡ true

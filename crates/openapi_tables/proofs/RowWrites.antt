@@ -4,7 +4,7 @@ use Rattle.std.proofs.Common.{ℕ, Bool, true, false, not, cond, ◌&&◌, ◌||
 use Rattle.std.proofs.Common.{subst, ⊎_elim}
 use Rattle.std.proofs.lemmas.Bool.{and_parts, and_from, or_right, or_cases}
 use Rattle.openapi_tables.specs.Kind.{Kind, Tables, Row, Mode, Class, class, row, map_of, in_class, optional, nullable}
-use Rattle.openapi_tables.specs.Kind.{constant, either, flagged, formatted, listed, required, styled}
+use Rattle.openapi_tables.specs.Kind.{constant, either, required}
 use Rattle.openapi_tables.specs.Proper.{proper, row_proper, rows_proper, Held, face_proper, is_written, may_be_absent}
 use Rattle.openapi_tables.specs.Proper.{of_kind}
 use Rattle.openapi_tables.specs.Form.{Form, Named, Pair, named, named_list, absent, deciding}
@@ -28,12 +28,7 @@ use Rattle.openapi_tables.proofs.SoundLaws.{sound_pick}
 -- each row takes all that it writes for a proper form
 pub silent_may_miss : (m : Mode) (f : Form) → is_silent m f ≡ true → may_miss m ≡ true
 silent_may_miss required f h = cc
-silent_may_miss optional f h = refl
-silent_may_miss nullable f h = refl
-silent_may_miss listed f h = refl
-silent_may_miss flagged f h = refl
-silent_may_miss (styled s) f h = refl
-silent_may_miss formatted f h = refl
+silent_may_miss m f h = refl
 
 pub class_prints : (T : Tables) (c : Class) (k : Kind) (es : Named)
     → row_print (class c k) (printed T (named es)) ≡ each (entry_of T k) (named_list es)
@@ -141,9 +136,7 @@ row_holds_own (constant n v) es = constant_holds v es
 
 pub row_holds_lem : (w : Row) (es : Judged) → row_holds es w ≡ row_holds_own w (own w es)
 row_holds_lem (row n m k) es = refl
-row_holds_lem (either a j b k) es = refl
-row_holds_lem (class c k) es = refl
-row_holds_lem (constant n v) es = refl
+row_holds_lem w es = refl
 
 -- a row holds of what it writes
 own_writes_holds : (T : Tables) (w : Row) (f : Form) → row_sound T w ≡ true → Deep (Writes T) f

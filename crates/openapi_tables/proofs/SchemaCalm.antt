@@ -1,20 +1,16 @@
 -- What is read of what a proper form is written as stays: schemas.
 use Rattle.std.proofs.Common.{true, false, List, [], ◌∷◌, Some, ◌≡◌, refl, sym, ap, ◌∙◌, subst}
 use Rattle.std.proofs.lemmas.Bool.{and_parts, and_from, both_ways}
-use Rattle.openapi_tables.specs.Kind.{Tables, Row, a_schema, a_schema_kind}
-use Rattle.openapi_tables.specs.Kind.{schema_data}
+use Rattle.openapi_tables.specs.Kind.{Tables, Row, a_schema, a_schema_kind, schema_data}
 use Rattle.openapi_tables.proofs.Alike.{any_again}
-use Rattle.openapi_tables.proofs.Calm.{Calm, StayAll, all_deep_ok, deep_ok, deep_rows, from_stay_all}
-use Rattle.openapi_tables.proofs.Calm.{rows_calm}
+use Rattle.openapi_tables.proofs.Calm.{Calm, StayAll, all_deep_ok, deep_ok, deep_rows, from_stay_all, rows_calm}
 use Rattle.openapi_tables.proofs.FaultLaws.{judged}
-use Rattle.openapi_tables.proofs.FormLaws.{Deep, Within, by_forms}
-use Rattle.openapi_tables.proofs.FormLaws.{show}
+use Rattle.openapi_tables.proofs.FormLaws.{Deep, Within, by_forms, show}
 use Rattle.openapi_tables.proofs.ListLaws.{Each, Each-join, each_all, every_each, every_from}
 use Rattle.openapi_tables.proofs.ObjectBack.{sort_sound, stays-fields}
 use Rattle.openapi_tables.proofs.PrintLaws.{members_for, print-fields}
 use Rattle.openapi_tables.proofs.ReadAgain.{names_of_data, names_of_none, sort_in}
-use Rattle.openapi_tables.proofs.ReadLaws.{form-fields}
-use Rattle.openapi_tables.proofs.ReadLaws.{slot_in}
+use Rattle.openapi_tables.proofs.ReadLaws.{form-fields, slot_in}
 use Rattle.openapi_tables.proofs.RowLaws.{Found, OwnWrites}
 use Rattle.openapi_tables.proofs.RowWrites.{SlotsProper, Writes, row_holds_own, rows_write}
 use Rattle.openapi_tables.proofs.SortHolds.{AllHold, all_hold, sort_holds}
@@ -23,13 +19,9 @@ use Rattle.openapi_tables.proofs.SortLaws.{Each_behind}
 use Rattle.openapi_tables.proofs.TreeLaws.{members_list-of}
 use Rattle.openapi_tables.proofs.Writes.{Written, writes_all}
 use Rattle.openapi_tables.specs.Conforms.{row_holds}
-use Rattle.openapi_tables.specs.Form.{Form, Pair, absent, an_item, deciding, fields, forms_list, known}
-use Rattle.openapi_tables.specs.Form.{leaf, named, named_list, of_code}
-use Rattle.openapi_tables.specs.Form.{other, reference, sequence, unset}
+use Rattle.openapi_tables.specs.Form.{Form, Pair, an_item, deciding, fields, forms_list, named, named_list, sequence}
 use Rattle.openapi_tables.specs.Lists.{each, every, join}
-use Rattle.openapi_tables.specs.Members.{Choice, Sort, all_of_sort, any_of_sort, any_sort, array_sort, boolean_sort}
-use Rattle.openapi_tables.specs.Members.{integer_sort, not_sort, number_sort, object_sort, one_of_sort, own}
-use Rattle.openapi_tables.specs.Members.{rows_of, sort, sort_of, sort_rows, string_sort}
+use Rattle.openapi_tables.specs.Members.{Choice, Sort, any_sort, own, rows_of, sort, sort_of, sort_rows}
 use Rattle.openapi_tables.specs.Print.{members_in}
 use Rattle.openapi_tables.specs.Read.{form}
 use Rattle.openapi_tables.specs.Sound.{names_fit, row_sound, rows_apart, tables_sound}
@@ -42,18 +34,12 @@ pub all_deep : (P : Form → Type 0) → ((f : Form) → P f) → (fs : List For
 all_deep P h fs = each_all (λ f. by_forms (Deep P) (λ g w. (h g, deep_within P h g)) f) fs
   where
     deep_within : (P : Form → Type 0) → ((f : Form) → P f) → (g : Form) → Within P g
-    deep_within P h absent = tt
-    deep_within P h (leaf t) = tt
-    deep_within P h (of_code c) = tt
-    deep_within P h (known s) = tt
-    deep_within P h (other s) = tt
-    deep_within P h unset = tt
-    deep_within P h (reference s) = tt
     deep_within P h (an_item f) = h f
     deep_within P h (sequence fs) = each_all h (forms_list fs)
     deep_within P h (named es) = each_all (λ (e : Pair Form). h e.value) (named_list es)
     deep_within P h (deciding n f) = h f
     deep_within P h (fields c fs) = each_all h (forms_list fs)
+    deep_within P h g = tt
 
 -- the slots of the rows behind others
 pub record Behind (T : Tables) (l : List (Entry Tree)) (ws : List Row) : Type 0 where
@@ -136,16 +122,7 @@ any_kept_too T W pre fs g f = (
 pub kept : (T : Tables) (W : tables_sound T ≡ true) (pre : List Row) (s : Sort) (fs : List Form)
     → Each (Deep (Calm T)) fs → Fits T pre s fs → Kept T pre (members_for T (join pre (sort_rows s)) fs)
 kept T W pre any_sort fs g f = any_kept_too T W pre fs g f
-kept T W pre string_sort fs g f = typed_kept T W pre string_sort fs refl g f
-kept T W pre number_sort fs g f = typed_kept T W pre number_sort fs refl g f
-kept T W pre integer_sort fs g f = typed_kept T W pre integer_sort fs refl g f
-kept T W pre boolean_sort fs g f = typed_kept T W pre boolean_sort fs refl g f
-kept T W pre object_sort fs g f = typed_kept T W pre object_sort fs refl g f
-kept T W pre array_sort fs g f = typed_kept T W pre array_sort fs refl g f
-kept T W pre one_of_sort fs g f = typed_kept T W pre one_of_sort fs refl g f
-kept T W pre all_of_sort fs g f = typed_kept T W pre all_of_sort fs refl g f
-kept T W pre any_of_sort fs g f = typed_kept T W pre any_of_sort fs refl g f
-kept T W pre not_sort fs g f = typed_kept T W pre not_sort fs refl g f
+kept T W pre s fs g f = typed_kept T W pre s fs refl g f
 
 pub schema_choice : (T : Tables) (l : List (Entry Tree)) (s : Sort) → sort_of l ≡ s → Kept T (T schema_data) l
     → choice_stays T a_schema (sort s) (each (slot_in T l) (rows_of T a_schema (sort s))) ≡ true
@@ -158,16 +135,7 @@ schema_choice T l any_sort e h =
     ∙ members_list-of
     (members_for T (rows_of T a_schema (sort any_sort)) (each (slot_in T l) (rows_of T a_schema (sort any_sort)))))
     ∙ h.1 (ap is_any e)
-schema_choice T l string_sort e h = refl
-schema_choice T l number_sort e h = refl
-schema_choice T l integer_sort e h = refl
-schema_choice T l boolean_sort e h = refl
-schema_choice T l object_sort e h = refl
-schema_choice T l array_sort e h = refl
-schema_choice T l one_of_sort e h = refl
-schema_choice T l all_of_sort e h = refl
-schema_choice T l any_of_sort e h = refl
-schema_choice T l not_sort e h = refl
+schema_choice T l s e h = refl
 
 pub schema_calm : (T : Tables) (l : List (Entry Tree)) → Kept T (T schema_data) l
     → stays T a_schema (form T a_schema (object (members_of l))) ≡ true
@@ -199,16 +167,7 @@ kind_choice T l any_sort e h =
     (members_for T (rows_of T a_schema_kind (sort any_sort))
     (each (slot_in T l) (rows_of T a_schema_kind (sort any_sort)))))
     ∙ h.1 (ap is_any e)
-kind_choice T l string_sort e h = refl
-kind_choice T l number_sort e h = refl
-kind_choice T l integer_sort e h = refl
-kind_choice T l boolean_sort e h = refl
-kind_choice T l object_sort e h = refl
-kind_choice T l array_sort e h = refl
-kind_choice T l one_of_sort e h = refl
-kind_choice T l all_of_sort e h = refl
-kind_choice T l any_of_sort e h = refl
-kind_choice T l not_sort e h = refl
+kind_choice T l s e h = refl
 
 pub kind_calm : (T : Tables) (l : List (Entry Tree)) → Kept T [] l
     → stays T a_schema_kind (form T a_schema_kind (object (members_of l))) ≡ true

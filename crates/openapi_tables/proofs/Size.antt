@@ -3,9 +3,9 @@ use Rattle.std.proofs.Common.{ℕ, Bool, true, false, cond, ◌&&◌, List, [], 
 use Rattle.std.proofs.Common.{◌∙◌, subst, codes, ◌≤◌, ◌+◌, ◌*◌, arith, nat_le, leb-true, le-leb}
 use Rattle.std.proofs.lemmas.Bool.{and_parts, both_ways}
 use Rattle.openapi_tables.specs.Kind.{Kind, Tables, Row, Case, Code, TableName, a_schema, a_schema_kind, any_flag}
-use Rattle.openapi_tables.specs.Kind.{any_text, any_tree, by, class, code, code_of, constant, either, flag_or_schema}
-use Rattle.openapi_tables.specs.Kind.{format, list_of, map_of, null_or, number, one_of, ref_to, row, schema_data}
-use Rattle.openapi_tables.specs.Kind.{status_code, tagged, text_of}
+use Rattle.openapi_tables.specs.Kind.{any_text, any_tree, by, code, code_of, constant, flag_or_schema, format, list_of}
+use Rattle.openapi_tables.specs.Kind.{map_of, null_or, number, one_of, ref_to, schema_data, status_code, tagged}
+use Rattle.openapi_tables.specs.Kind.{text_of}
 use Rattle.std.specs.Prelude.{suc, pos}
 use Rattle.openapi_tables.proofs.SchemaCalm.{front}
 use Rattle.openapi_tables.proofs.FaultLaws.{judged, rows_at_tag}
@@ -43,10 +43,8 @@ use Rattle.openapi_tables.specs.Tree.{Entry, Seen, Shape, an_object, items_list,
 use Rattle.openapi_tables.specs.Tree.{of_members}
 
 full_row : (w : Row) (l : List (Entry Tree)) → has_members w ≡ true → Full l w
-full_row (row n m k) l h = tt
-full_row (either a j b k) l h = tt
-full_row (class c k) l h = tt
 full_row (constant n v) l h = cc
+full_row w l h = tt
 
 full_rows : (ws : List Row) (es : List (Entry Tree)) → Each (λ w. has_members w ≡ true) ws → AllFull es ws
 full_rows [] es h = tt
@@ -285,11 +283,6 @@ one_is_small t u h = let p = size_positive t in omega arith
 
 item_small : (T : Tables) (k : Kind) (t : Tree) → (conforms T k t ≡ true → size_of (clean T k t) ≤ 2 * size_of t)
     → conforms T (ref_to k) t ≡ true → size_of (clean T (ref_to k) t) ≤ 2 * size_of t
-item_small T k null g h = g h
-item_small T k (flag b) g h = g h
-item_small T k (whole z) g h = g h
-item_small T k (text u) g h = g h
-item_small T k (list ts) g h = g h
 item_small T k (object ms) g h = at (text_in (held (codes "$ref") (members_list ms))) refl
   where
     same : (X : Type 0) (f : Shape (Seen X) → X)
@@ -306,6 +299,7 @@ item_small T k (object ms) g h = at (text_in (held (codes "$ref") (members_list 
         let p : 2 ≤ 2 * suc (members_size ms) = omega arith in
         subst (λ r. size_of (print T (ref_to k) (reference_or_item r (form T k (object ms))))
         ≤ 2 * size_of (object ms)) (sym (same (Kind → Form) (root_form T) ∙ e)) p
+item_small T k t g h = g h
 
 small_step : (T : Tables) (W : tables_sound T ≡ true) → tables_small T ≡ true → (t : Tree) → Inside (Small T) t
     → Small T t
@@ -370,11 +364,7 @@ small_step T W x (whole (pos n)) g status_code s h = at (nat_le 100 n && nat_le 
     at true = one_is_small (whole (pos n)) (text (text_of (code n))) refl
     at false = one_is_small (whole (pos n)) (whole (pos n)) refl
 small_step T W x null g k s h = cc
-small_step T W x (flag b) g k s h = cc
-small_step T W x (whole z) g k s h = cc
-small_step T W x (text u) g k s h = cc
-small_step T W x (list ts) g k s h = cc
-small_step T W x (object ms) g k s h = cc
+small_step T W x t g k s h = cc
 
 -- a tree that conforms is cleaned to one of at most twice its size
 pub small : (T : Tables) (W : tables_sound T ≡ true) → tables_small T ≡ true → (t : Tree) → Small T t

@@ -1,20 +1,20 @@
 -- The slot of one row, written and read again.
 use Rattle.std.proofs.Common.{ℕ, Bool, true, false, cond, List, [], ◌≡◌, refl, sym, ap, ◌∙◌, subst}
 use Rattle.openapi_tables.specs.Lists.{each}
-use Rattle.openapi_node.specs.Tree.{Tree, null, flag, whole, text, list, object}
+use Rattle.openapi_node.specs.Tree.{Tree, null, flag, text}
 use Rattle.openapi_tables.specs.Tree.{members_list, of_members}
 use Rattle.openapi_tables.specs.Kind.{Kind, one_of, list_of, map_of, ref_to, a_schema, Mode, required, optional}
 use Rattle.openapi_tables.specs.Kind.{nullable, listed, flagged, styled, formatted, Row, row, Tables}
 use Rattle.openapi_tables.specs.Members.{is_null, rows_of}
-use Rattle.openapi_tables.specs.Form.{Form, absent, leaf, of_code, known, other, unset, reference, an_item, sequence}
-use Rattle.openapi_tables.specs.Form.{named, deciding, fields, Forms, no_forms, more, Named, no_named, under}
+use Rattle.openapi_tables.specs.Form.{Form, absent, leaf, unset, sequence, named, Forms, no_forms, more, Named}
+use Rattle.openapi_tables.specs.Form.{no_named, under}
 use Rattle.openapi_tables.specs.Read.{root_form, default_of, empty_of, slot_of_own, slot, form}
 use Rattle.openapi_tables.specs.Print.{is_silent, one, row_print, print, again}
 use Rattle.openapi_tables.specs.Sound.{mode_fits, sound}
 use Rattle.openapi_tables.specs.Stays.{stays}
 use Rattle.openapi_tables.proofs.ListLaws.{same_text-refl}
-use Rattle.openapi_tables.proofs.Taken.{Taken, as_leaf, as_known, as_other, as_unset, as_text_code, as_number_code}
-use Rattle.openapi_tables.proofs.Taken.{as_list, as_map, as_fields, as_reference, as_item, as_schema, as_inner, taken}
+use Rattle.openapi_tables.proofs.Taken.{Taken, as_leaf, as_unset, as_list, as_map, as_fields, as_item, as_schema}
+use Rattle.openapi_tables.proofs.Taken.{as_inner, taken}
 use Rattle.openapi_tables.proofs.ReadLaws.{reads}
 use Rattle.openapi_tables.proofs.PrintLaws.{printed, print-fields, print-null_or, print-flag_or_schema}
 use Rattle.openapi_tables.proofs.RowLaws.{TakesAll}
@@ -27,19 +27,13 @@ Good T t = (k : Kind) → sound T k ≡ true → stays T k (form T k t) ≡ true
 pub not_null : (T : Tables) (k : Kind) (t : Tree) (f : Form) → Taken T k t f → is_null t ≡ false
     → is_null (print T k f) ≡ false
 not_null T k t f (as_leaf j u e) h = h
-not_null T k t f (as_known ws b s e) h = refl
-not_null T k t f (as_other ws b s e) h = refl
 not_null T k t f (as_unset ws b) h = cc
-not_null T k t f (as_text_code s c e) h = refl
-not_null T k t f (as_number_code n e) h = refl
-not_null T k t f (as_list j ts) h = refl
-not_null T k t f (as_map j ms) h = refl
 not_null T k t f (as_fields j c ms e) h =
     ap is_null (print-fields T j c (members_list ms) (each (slot (of_members (root_form T) ms)) (rows_of T j c)) e)
-not_null T k t f (as_reference j u s e) h = refl
 not_null T k t f (as_item j u g e x) h = not_null T j u g x h
 not_null T k t f (as_schema u g e x) h = ap is_null (print-flag_or_schema T g) ∙ not_null T (ref_to a_schema) u g x h
 not_null T k t f (as_inner j u g x) h = ap is_null (print-null_or T j g) ∙ not_null T j u g x h
+not_null T k t f x h = refl
 
 silent_sequence : (fs : Forms) → is_silent listed (sequence fs) ≡ true → sequence no_forms ≡ sequence fs
 silent_sequence no_forms h = refl
@@ -51,77 +45,30 @@ silent_named (under n f es) h = cc
 
 silent_listed : (T : Tables) (k : Kind) (t : Tree) (f : Form) → Taken T k t f → mode_fits listed k ≡ true
     → is_silent listed f ≡ true → empty_of k ≡ f
-silent_listed T k t f (as_leaf j u e) g h = cc
-silent_listed T k t f (as_known ws b s e) g h = cc
-silent_listed T k t f (as_other ws b s e) g h = cc
-silent_listed T k t f (as_unset ws b) g h = cc
-silent_listed T k t f (as_text_code s c e) g h = cc
-silent_listed T k t f (as_number_code n e) g h = cc
 silent_listed T k t f (as_list j ts) g h = silent_sequence _ h
 silent_listed T k t f (as_map j ms) g h = silent_named _ h
-silent_listed T k t f (as_fields j c ms e) g h = cc
-silent_listed T k t f (as_reference j u s e) g h = cc
-silent_listed T k t f (as_item j u x e y) g h = cc
-silent_listed T k t f (as_schema u x e y) g h = cc
-silent_listed T k t f (as_inner j u x y) g h = cc
+silent_listed T k t f x g h = cc
 
 silent_optional : (f : Form) → is_silent optional f ≡ true → absent ≡ f
 silent_optional absent h = refl
-silent_optional (leaf t) h = cc
-silent_optional (of_code c) h = cc
-silent_optional (known s) h = cc
-silent_optional (other s) h = cc
-silent_optional unset h = cc
-silent_optional (reference s) h = cc
-silent_optional (an_item f) h = cc
-silent_optional (sequence fs) h = cc
-silent_optional (named es) h = cc
-silent_optional (deciding n f) h = cc
-silent_optional (fields c fs) h = cc
+silent_optional f h = cc
 
 silent_formatted : (f : Form) → is_silent formatted f ≡ true → unset ≡ f
-silent_formatted absent h = cc
-silent_formatted (leaf t) h = cc
-silent_formatted (of_code c) h = cc
-silent_formatted (known s) h = cc
-silent_formatted (other s) h = cc
 silent_formatted unset h = refl
-silent_formatted (reference s) h = cc
-silent_formatted (an_item f) h = cc
-silent_formatted (sequence fs) h = cc
-silent_formatted (named es) h = cc
-silent_formatted (deciding n f) h = cc
-silent_formatted (fields c fs) h = cc
+silent_formatted f h = cc
 
 silent_flagged : (f : Form) → is_silent flagged f ≡ true → leaf (flag false) ≡ f
-silent_flagged absent h = cc
-silent_flagged (leaf null) h = cc
-silent_flagged (leaf (flag true)) h = cc
 silent_flagged (leaf (flag false)) h = refl
-silent_flagged (leaf (whole z)) h = cc
-silent_flagged (leaf (text s)) h = cc
-silent_flagged (leaf (list ts)) h = cc
-silent_flagged (leaf (object ms)) h = cc
-silent_flagged (of_code c) h = cc
-silent_flagged (known s) h = cc
-silent_flagged (other s) h = cc
-silent_flagged unset h = cc
-silent_flagged (reference s) h = cc
-silent_flagged (an_item f) h = cc
-silent_flagged (sequence fs) h = cc
-silent_flagged (named es) h = cc
-silent_flagged (deciding n f) h = cc
-silent_flagged (fields c fs) h = cc
+silent_flagged (leaf null) h = cc
+silent_flagged f h = cc
 
 pub silent_default : (T : Tables) (m : Mode) (k : Kind) (t : Tree) (f : Form) → Taken T k t f → mode_fits m k ≡ true
     → is_silent m f ≡ true → default_of m k ≡ f
-silent_default T required k t f x g h = cc
 silent_default T optional k t f x g h = silent_optional f h
-silent_default T nullable k t f x g h = cc
 silent_default T listed k t f x g h = silent_listed T k t f x g h
 silent_default T flagged k t f x g h = silent_flagged f h
-silent_default T (styled s) k t f x g h = cc
 silent_default T formatted k t f x g h = silent_formatted f h
+silent_default T m k t f x g h = cc
 
 -- a row takes what it writes for a form, and reads that form again
 abbrev pub Settled : (T : Tables) → Row → Form → Type 0

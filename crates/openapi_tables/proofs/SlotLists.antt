@@ -1,17 +1,13 @@
 -- Lists of slots: what they write and lose together, and which names they take.
-use Rattle.std.proofs.Common.{◌≡◌, ℕ, Bool, true, false, cond, ◌||◌, List, [], ◌∷◌, ◌++◌}
-use Rattle.std.proofs.Common.{Some, None, refl, sym, ap, ◌∙◌, subst, bytes_eq, true≢false, inl}
-use Rattle.std.proofs.Common.{inr}
+use Rattle.std.proofs.Common.{◌≡◌, ℕ, Bool, true, false, cond, ◌||◌, List, [], ◌∷◌, ◌++◌, Some, None, refl, sym, ap}
+use Rattle.std.proofs.Common.{◌∙◌, subst, bytes_eq, true≢false, inl, inr}
 use Rattle.std.proofs.lemmas.Bool.{and_parts, and_from}
 use Rattle.openapi_map.specs.Entries.{Entries, get}
 use Rattle.openapi_node.specs.Place.{Step, Place}
 use Rattle.openapi_node.specs.Tree.{Tree, object, member, members_of as node_members}
 use Rattle.openapi_tables.specs.Lists.{each, join, every}
 use Rattle.openapi_tables.specs.Tree.{Entry, members_of}
-use Rattle.openapi_tables.specs.Kind.{Kind, any_text, any_flag, number, any_tree, one_of, format, null_or, list_of}
-use Rattle.openapi_tables.specs.Kind.{map_of, by, tagged, ref_to, flag_or_schema, a_schema, a_schema_kind, status_code}
-use Rattle.openapi_tables.specs.Kind.{Row}
-use Rattle.openapi_tables.specs.Kind.{takes, Tables, TableName}
+use Rattle.openapi_tables.specs.Kind.{Kind, by, tagged, a_schema, a_schema_kind, Row, takes, Tables, TableName}
 use Rattle.openapi_tables.specs.Members.{Choice, choice, rows_of}
 use Rattle.openapi_tables.specs.Form.{Form, fields, forms_of}
 use Rattle.openapi_tables.specs.Print.{print, row_print, rows_print}
@@ -67,18 +63,7 @@ fields_lost T a_schema c es fs h =
 fields_lost T a_schema_kind c es fs h =
     ap (λ l. rows_lost (rows_of T a_schema_kind c) l) (of_forms-of (face_lost T) fs)
     ∙ slots_lost-rows T (rows_of T a_schema_kind c) fs
-fields_lost T any_text c es fs h = cc
-fields_lost T any_flag c es fs h = cc
-fields_lost T (number w) c es fs h = cc
-fields_lost T any_tree c es fs h = cc
-fields_lost T (one_of ws) c es fs h = cc
-fields_lost T (format ws b) c es fs h = cc
-fields_lost T (null_or k) c es fs h = cc
-fields_lost T (list_of k) c es fs h = cc
-fields_lost T (map_of k) c es fs h = cc
-fields_lost T (ref_to k) c es fs h = cc
-fields_lost T flag_or_schema c es fs h = cc
-fields_lost T status_code c es fs h = cc
+fields_lost T k c es fs h = cc
 
 -- the slots of apart rows are apart
 pub slots_part : (w : Row) (ws : List Row) (fs : List Form) → every (apart w) ws ≡ true

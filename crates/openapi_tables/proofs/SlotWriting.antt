@@ -1,23 +1,18 @@
 -- Slots that are written one after another.
 pub use Rattle.openapi_tables.proofs.SlotLists.{fields_print, fields_lost, slots_apart-rows, table_apart, below_each}
-use Rattle.std.proofs.Common.{◌≡◌, ℕ, suc, zero, Bool, true, false, cond, ◌&&◌, List, [], ◌∷◌, ◌++◌}
-use Rattle.std.proofs.Common.{take, slice_get, Some, None, refl, sym, ap, ◌∙◌, subst, inl}
-use Rattle.std.proofs.Common.{inr}
+use Rattle.std.proofs.Common.{◌≡◌, ℕ, suc, zero, Bool, true, false, cond, ◌&&◌, List, [], ◌∷◌, ◌++◌, take, slice_get}
+use Rattle.std.proofs.Common.{Some, None, refl, sym, ap, ◌∙◌, subst, inl, inr}
 use Rattle.std.proofs.lemmas.Bool.{and_parts, and_from}
 use Rattle.openapi_map.specs.Entries.{Entries, get, HasDistinctNames}
 use Rattle.openapi_map.proofs.EntryLemmas.{absent-next}
 use Rattle.openapi_node.specs.Place.{Place, named as at_name}
 use Rattle.openapi_node.specs.Tree.{Tree}
 use Rattle.openapi_tables.specs.Lists.{each, join, every, is_empty}
-use Rattle.openapi_tables.specs.Kind.{Kind}
-use Rattle.openapi_tables.specs.Kind.{map_of}
-use Rattle.openapi_tables.specs.Kind.{Mode, Class, Row, row}
-use Rattle.openapi_tables.specs.Kind.{class, takes, in_class, Tables, TableName}
+use Rattle.openapi_tables.specs.Kind.{Kind, map_of, Mode, Class, Row, row, class, takes, in_class, Tables, TableName}
 use Rattle.openapi_tables.specs.Tables.{final_tables}
 use Rattle.openapi_tables.specs.Form.{Form, named, named_of, Pair}
 use Rattle.openapi_tables.specs.Print.{print, is_silent, row_print, one, members_in, text_of_key}
-use Rattle.openapi_tables.specs.Unwritable.{unwritable, each_below, row_lost, face_lost, lost_keys}
-use Rattle.openapi_tables.specs.Unwritable.{lost_pairs}
+use Rattle.openapi_tables.specs.Unwritable.{unwritable, each_below, row_lost, face_lost, lost_keys, lost_pairs}
 use Rattle.openapi_tables.specs.Proper.{is_written}
 use Rattle.openapi_tables.specs.Laws.{Among}
 use Rattle.openapi_tables.specs.ByRow.{is_named, is_class}

@@ -4,7 +4,7 @@ use Rattle.std.proofs.Common.{ℕ, Bool, true, false, not, cond, ◌||◌, List,
 use Rattle.std.proofs.Common.{codes}
 use Rattle.std.proofs.lemmas.Bool.{and_parts, and_from, not_from_false, both_ways}
 use Rattle.openapi_tables.specs.Lists.{join, every, same_text, has}
-use Rattle.openapi_node.specs.Tree.{Tree, null, flag, whole, text, list, object}
+use Rattle.openapi_node.specs.Tree.{Tree, null, text}
 use Rattle.openapi_tables.specs.Tree.{Entry}
 use Rattle.openapi_tables.specs.Kind.{Kind, list_of, required, Row, row, constant, Tables}
 use Rattle.openapi_tables.specs.Tables.{any_rows, schema_ref, string_rows, object_rows, array_rows, boolean_rows}
@@ -82,28 +82,19 @@ chain_picks false false false false = tt
 
 named_picks : (s : Sort) (a b c d : Bool) → is_named s ≡ true → picked s a b c d
 unfolding is_named
-named_picks string_sort a b c d h = tt
-named_picks number_sort a b c d h = tt
-named_picks integer_sort a b c d h = tt
-named_picks boolean_sort a b c d h = tt
-named_picks object_sort a b c d h = tt
-named_picks array_sort a b c d h = tt
 named_picks one_of_sort a b c d h = cc
 named_picks all_of_sort a b c d h = cc
 named_picks any_of_sort a b c d h = cc
 named_picks not_sort a b c d h = cc
-named_picks any_sort a b c d h = tt
+named_picks s a b c d h = tt
 
 pub possible_picks : (t : Tree) (es : List (Entry Tree))
     → picked (possible_sort t es) (is_present es (codes "oneOf")) (is_present es (codes "allOf"))
     (is_present es (codes "anyOf")) (is_present es (codes "not"))
 possible_picks null es = chain_picks (is_present es (codes "oneOf")) (is_present es (codes "allOf"))
     (is_present es (codes "anyOf")) (is_present es (codes "not"))
-possible_picks (flag b) es = tt
-possible_picks (whole z) es = tt
 possible_picks (text s) es = named_picks (named_sort s) _ _ _ _ (named_is s)
-possible_picks (list ts) es = tt
-possible_picks (object ms) es = tt
+possible_picks t es = tt
 
 -- what a required row writes for a member that is present is present
 required_value : (T : Tables) (n : List ℕ) (k : Kind) (t : Tree) (b : Bool) → is_null t ≡ b → not b ≡ true

@@ -4,9 +4,8 @@ use Rattle.openapi_tables.proofs.TreeLaws.{null_tree}
 use Rattle.std.proofs.Common.{ℕ, Bool, true, false, not, cond, ◌&&◌, ◌||◌, List, [], ◌∷◌, ◌≡◌, refl, sym, ap, ◌∙◌}
 use Rattle.std.proofs.Common.{codes, ⊎_elim}
 use Rattle.std.proofs.lemmas.Bool.{and_parts, and_from, or_left, or_right, or_cases, both_ways}
-use Rattle.openapi_tables.specs.Kind.{Kind, Tables, Row, Mode, any_flag, any_text, constant}
-use Rattle.openapi_tables.specs.Kind.{list_of, listed, null_or, number}
-use Rattle.openapi_tables.specs.Kind.{optional, required, row, signed, unlimited}
+use Rattle.openapi_tables.specs.Kind.{Kind, Tables, Row, Mode, any_flag, any_text, constant, list_of, listed, null_or}
+use Rattle.openapi_tables.specs.Kind.{number, optional, required, row, signed, unlimited}
 use Rattle.openapi_tables.proofs.FaultLaws.{judged, own_judged}
 use Rattle.openapi_tables.proofs.ListLaws.{Each, every_each, same_text_eq}
 use Rattle.openapi_tables.proofs.MemberLaws.{kind_names_known}
@@ -18,12 +17,11 @@ use Rattle.openapi_tables.specs.Lists.{every, has}
 use Rattle.openapi_tables.specs.Members.{Sort, all_of_sort, allowed, any_of_sort, any_sort, array_sort, boolean_sort}
 use Rattle.openapi_tables.specs.Members.{entries_pass, first_tree, further, held, integer_sort, is_null}
 use Rattle.openapi_tables.specs.Members.{is_null_or_flag, is_null_or_signed, is_null_or_text, is_null_or_whole}
-use Rattle.openapi_tables.specs.Members.{is_present, kind_names, not_sort, number_sort, object_sort}
-use Rattle.openapi_tables.specs.Members.{one_of_sort, own, possible_sort, sort_of, sort_rows, string_sort}
+use Rattle.openapi_tables.specs.Members.{is_present, kind_names, not_sort, number_sort, object_sort, one_of_sort, own}
+use Rattle.openapi_tables.specs.Members.{possible_sort, sort_of, sort_rows, string_sort}
 use Rattle.openapi_tables.specs.Stays.{is_any}
 use Rattle.openapi_tables.specs.Tables.{any_rows, array_rows, boolean_rows, object_rows, schema_ref, string_rows}
-use Rattle.openapi_node.specs.Tree.{Items, Tree, flag, item, list, no_items, null, object}
-use Rattle.openapi_node.specs.Tree.{text, whole}
+use Rattle.openapi_node.specs.Tree.{Items, Tree, flag, item, list, no_items, null, text, whole}
 use Rattle.openapi_tables.specs.Tree.{Entry, Seen, items_list, of_items}
 
 -- a test that null passes, and each tree of a kind, is passed by what a row of that kind holds of
@@ -40,11 +38,7 @@ first_passes T q m k (e ∷ l) h n g =
 pub not_null_conforms : (T : Tables) (k : Kind) (t : Tree) → conforms T k null ≡ false → conforms T k t ≡ true
     → not (is_null t) ≡ true
 not_null_conforms T k null h g = absurd (both_ways (conforms T k null) h g)
-not_null_conforms T k (flag b) h g = refl
-not_null_conforms T k (whole z) h g = refl
-not_null_conforms T k (text s) h g = refl
-not_null_conforms T k (list ts) h g = refl
-not_null_conforms T k (object ms) h g = refl
+not_null_conforms T k t h g = refl
 
 required_held : (T : Tables) (k : Kind) (l : List (Entry Tree)) → conforms T k null ≡ false
     → name_holds required k (judged T l) ≡ true → not (is_null (first_tree l)) ≡ true
@@ -52,12 +46,8 @@ required_held T k [] h g = cc
 required_held T k (e ∷ l) h g = not_null_conforms T k e.value h g
 
 pub text_held : (v : List ℕ) (t : Tree) → is_text v t ≡ true → t ≡ text v
-text_held v null h = cc
-text_held v (flag b) h = cc
-text_held v (whole z) h = cc
 text_held v (text s) h = ap text (sym (same_text_eq v s h))
-text_held v (list ts) h = cc
-text_held v (object ms) h = cc
+text_held v t h = cc
 
 constant_held : (T : Tables) (v : List ℕ) (l : List (Entry Tree)) → constant_holds v (judged T l) ≡ true
     → first_tree l ≡ text v
@@ -77,50 +67,31 @@ entries_conform : (T : Tables) (q : Tree → Bool) (k : Kind) → ((t : Tree) �
     → (t : Tree) → conforms T (list_of k) t ≡ true → entries_pass q t ≡ true
 entries_conform T q k g null h = refl
 entries_conform T q k g (list ts) h = entries_of T q k g ts h
-entries_conform T q k g (flag b) h = cc
-entries_conform T q k g (whole z) h = cc
-entries_conform T q k g (text s) h = cc
-entries_conform T q k g (object ms) h = cc
+entries_conform T q k g t h = cc
 
 text_entry : (T : Tables) (t : Tree) → conforms T (null_or any_text) t ≡ true → is_null_or_text t ≡ true
 text_entry T null h = refl
 text_entry T (text s) h = refl
-text_entry T (flag b) h = cc
-text_entry T (whole z) h = cc
-text_entry T (list ts) h = cc
-text_entry T (object ms) h = cc
+text_entry T t h = cc
 
 flag_entry : (T : Tables) (t : Tree) → conforms T (null_or any_flag) t ≡ true → is_null_or_flag t ≡ true
 flag_entry T null h = refl
 flag_entry T (flag b) h = refl
-flag_entry T (text s) h = cc
-flag_entry T (whole z) h = cc
-flag_entry T (list ts) h = cc
-flag_entry T (object ms) h = cc
+flag_entry T t h = cc
 
 whole_entry : (T : Tables) (t : Tree) → conforms T (null_or (number unlimited)) t ≡ true → is_null_or_whole t ≡ true
 whole_entry T null h = refl
 whole_entry T (whole z) h = refl
-whole_entry T (text s) h = cc
-whole_entry T (flag b) h = cc
-whole_entry T (list ts) h = cc
-whole_entry T (object ms) h = cc
+whole_entry T t h = cc
 
 signed_entry : (T : Tables) (t : Tree) → conforms T (null_or (number signed)) t ≡ true → is_null_or_signed t ≡ true
 signed_entry T null h = refl
 signed_entry T (whole z) h = h
-signed_entry T (text s) h = cc
-signed_entry T (flag b) h = cc
-signed_entry T (list ts) h = cc
-signed_entry T (object ms) h = cc
+signed_entry T t h = cc
 
 signed_tree : (T : Tables) (t : Tree) → conforms T (number signed) t ≡ true → is_null_or_signed t ≡ true
-signed_tree T null h = cc
 signed_tree T (whole z) h = h
-signed_tree T (text s) h = cc
-signed_tree T (flag b) h = cc
-signed_tree T (list ts) h = cc
-signed_tree T (object ms) h = cc
+signed_tree T t h = cc
 
 -- each row holds of a list of members
 abbrev pub AllHold : (T : Tables) → List (Entry Tree) → List Row → Type 0
@@ -175,13 +146,7 @@ further_holds T boolean_sort es h =
     first_passes T (entries_pass is_null_or_flag) listed (list_of (null_or any_flag))
     (own (row (codes "enum") listed (list_of (null_or any_flag))) es) h.1.0 refl
     (entries_conform T is_null_or_flag (null_or any_flag) (flag_entry T))
-further_holds T object_sort es h = refl
-further_holds T array_sort es h = refl
-further_holds T one_of_sort es h = refl
-further_holds T all_of_sort es h = refl
-further_holds T any_of_sort es h = refl
-further_holds T not_sort es h = refl
-further_holds T any_sort es h = refl
+further_holds T s es h = refl
 
 -- the kind names that a sort does not allow are absent
 abbrev pub Others : Sort → List (Entry Tree) → Type 0

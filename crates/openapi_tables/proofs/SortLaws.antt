@@ -9,9 +9,8 @@ use Rattle.openapi_tables.specs.Kind.{Kind, any_text, any_flag, number, unlimite
 use Rattle.openapi_tables.specs.Kind.{optional, listed, Row, row, takes, Tables}
 use Rattle.openapi_tables.specs.Tables.{any_rows, string_rows, object_rows, array_rows, boolean_rows}
 use Rattle.openapi_tables.specs.Members.{is_null, own, first_tree, held, Sort, string_sort, number_sort, integer_sort}
-use Rattle.openapi_tables.specs.Members.{boolean_sort, object_sort, array_sort, one_of_sort, all_of_sort, any_of_sort}
-use Rattle.openapi_tables.specs.Members.{not_sort, any_sort, kind_names, sort_rows, allowed, entries_pass}
-use Rattle.openapi_tables.specs.Members.{is_null_or_text, is_null_or_whole, is_null_or_signed, is_null_or_flag, further}
+use Rattle.openapi_tables.specs.Members.{boolean_sort, kind_names, sort_rows, allowed, entries_pass, is_null_or_text}
+use Rattle.openapi_tables.specs.Members.{is_null_or_whole, is_null_or_signed, is_null_or_flag, further}
 use Rattle.openapi_tables.specs.Form.{Form}
 use Rattle.openapi_tables.specs.Print.{row_print}
 use Rattle.openapi_tables.specs.Sound.{sorts, untaken, names_fit}
@@ -121,10 +120,4 @@ further_again T boolean_sort es l h f =
     held_passes T (entries_pass is_null_or_flag) (codes "enum") listed (list_of (null_or any_flag)) es l refl f
     (written_again T (codes "enum") listed (list_of (null_or any_flag))
     (own (row (codes "enum") listed (list_of (null_or any_flag))) es) refl refl) h.1.0
-further_again T object_sort es l h f = refl
-further_again T array_sort es l h f = refl
-further_again T one_of_sort es l h f = refl
-further_again T all_of_sort es l h f = refl
-further_again T any_of_sort es l h f = refl
-further_again T not_sort es l h f = refl
-further_again T any_sort es l h f = refl
+further_again T s es l h f = refl

@@ -1,32 +1,25 @@
 -- The rows of a sort read, where the 24 names of a schema's kind hold as optional rows.
 use Prim.Native.String.{String}
-use Rattle.std.proofs.Common.{ℕ, Bool, true, false, cond, ◌||◌, List, [], ◌∷◌, Option, Some, None, ◌≡◌, refl}
-use Rattle.std.proofs.Common.{subst, codes}
+use Rattle.std.proofs.Common.{ℕ, Bool, true, false, cond, ◌||◌, List, [], ◌∷◌, Option, Some, None, ◌≡◌, refl, subst}
+use Rattle.std.proofs.Common.{codes}
 use Rattle.std.proofs.lemmas.Bool.{and_parts, and_from}
-use Rattle.openapi_tables.specs.Kind.{Kind, Tables, Row}
-use Rattle.openapi_tables.specs.Kind.{any_flag, any_text, class, constant, either}
-use Rattle.openapi_tables.specs.Kind.{flagged, format, formatted, list_of, listed}
-use Rattle.openapi_tables.specs.Kind.{null_or, nullable, number, optional, required, row}
-use Rattle.openapi_tables.specs.Kind.{signed, styled}
-use Rattle.openapi_tables.specs.Kind.{unlimited}
+use Rattle.openapi_tables.specs.Kind.{Kind, Tables, Row, any_flag, any_text, class, constant, either, format, list_of}
+use Rattle.openapi_tables.specs.Kind.{null_or, number, optional, required, row, signed, unlimited}
 use Rattle.openapi_tables.proofs.FaultLaws.{judged}
 use Rattle.openapi_tables.proofs.RowWrites.{row_holds_own}
 use Rattle.openapi_tables.proofs.SortAgain.{picked, possible_picks, sort_meets}
 use Rattle.openapi_tables.proofs.SortHolds.{AllHold}
-use Rattle.openapi_tables.specs.Conforms.{conforms, name_holds}
-use Rattle.openapi_tables.specs.Conforms.{root_conforms}
+use Rattle.openapi_tables.specs.Conforms.{conforms, name_holds, root_conforms}
 use Rattle.openapi_tables.specs.Lists.{each, every, has, same_text}
-use Rattle.openapi_tables.specs.Members.{Sort, all_of_sort, allowed, any_of_sort, any_sort, array_sort}
-use Rattle.openapi_tables.specs.Members.{boolean_sort, entries_pass, first_tree, further, held}
-use Rattle.openapi_tables.specs.Members.{integer_sort, is_null, is_null_or_flag, is_null_or_signed, is_null_or_text}
-use Rattle.openapi_tables.specs.Members.{is_null_or_whole, is_present, kind_names, made_optional, not_sort, number_sort}
-use Rattle.openapi_tables.specs.Members.{object_sort, one_of_sort, own, sort_of, sort_rows}
-use Rattle.openapi_tables.specs.Members.{string_sort}
+use Rattle.openapi_tables.specs.Members.{Sort, all_of_sort, allowed, any_of_sort, any_sort, array_sort, boolean_sort}
+use Rattle.openapi_tables.specs.Members.{entries_pass, first_tree, further, held, integer_sort, is_null}
+use Rattle.openapi_tables.specs.Members.{is_null_or_flag, is_null_or_signed, is_null_or_text, is_null_or_whole}
+use Rattle.openapi_tables.specs.Members.{is_present, kind_names, made_optional, not_sort, number_sort, object_sort}
+use Rattle.openapi_tables.specs.Members.{one_of_sort, own, sort_of, sort_rows, string_sort}
 use Rattle.openapi_tables.specs.Stays.{is_any}
 use Rattle.openapi_tables.specs.Tables.{any_rows, array_rows, boolean_rows, integer_formats, number_formats}
 use Rattle.openapi_tables.specs.Tables.{object_rows, string_formats, string_rows}
-use Rattle.openapi_node.specs.Tree.{Items, Tree, flag, item, list, no_items, null, object}
-use Rattle.openapi_node.specs.Tree.{text, whole}
+use Rattle.openapi_node.specs.Tree.{Items, Tree, flag, item, list, no_items, null, text, whole}
 use Rattle.openapi_tables.specs.Tree.{Entry, Seen, items_list, of_items}
 use Rattle.openapi_tables.specs.Tables.{list_row, format_row}
 use Rattle.openapi_tables.specs.Rows.{optional_row}
@@ -42,10 +35,7 @@ text_format T ws (e ∷ l) h = at e.value h
     at : (t : Tree) → (is_null t || conforms T any_text t) ≡ true → (is_null t || conforms T (format ws true) t) ≡ true
     at null h = refl
     at (text s) h = refl
-    at (flag b) h = cc
-    at (whole z) h = cc
-    at (list ts) h = cc
-    at (object ms) h = cc
+    at t h = cc
 
 conform_items : (T : Tables) (q : Tree → Bool) (k : Kind) → ((u : Tree) → q u ≡ true → conforms T k u ≡ true)
     → (ts : Items) → every q (items_list ts) ≡ true
@@ -63,10 +53,7 @@ conform_entries T q k g (e ∷ l) h = at e.value h
     at : (t : Tree) → entries_pass q t ≡ true → (is_null t || conforms T (list_of k) t) ≡ true
     at null h = refl
     at (list ts) h = conform_items T q k g ts h
-    at (flag b) h = cc
-    at (whole z) h = cc
-    at (text s) h = cc
-    at (object ms) h = cc
+    at t h = cc
 
 conform_signed : (T : Tables) (l : List (Entry Tree)) → is_null_or_signed (first_tree l) ≡ true
     → name_holds optional (number signed) (judged T l) ≡ true
@@ -76,42 +63,27 @@ conform_signed T (e ∷ l) h = at e.value h
     at : (t : Tree) → is_null_or_signed t ≡ true → (is_null t || conforms T (number signed) t) ≡ true
     at null h = refl
     at (whole z) h = h
-    at (flag b) h = cc
-    at (text s) h = cc
-    at (list ts) h = cc
-    at (object ms) h = cc
+    at t h = cc
 
 text_conforms : (T : Tables) (u : Tree) → is_null_or_text u ≡ true → conforms T (null_or any_text) u ≡ true
 text_conforms T null h = refl
-text_conforms T (flag b) h = cc
-text_conforms T (whole z) h = cc
 text_conforms T (text s) h = refl
-text_conforms T (list ts) h = cc
-text_conforms T (object ms) h = cc
+text_conforms T u h = cc
 
 flag_conforms : (T : Tables) (u : Tree) → is_null_or_flag u ≡ true → conforms T (null_or any_flag) u ≡ true
 flag_conforms T null h = refl
 flag_conforms T (flag b) h = refl
-flag_conforms T (whole z) h = cc
-flag_conforms T (text s) h = cc
-flag_conforms T (list ts) h = cc
-flag_conforms T (object ms) h = cc
+flag_conforms T u h = cc
 
 whole_conforms : (T : Tables) (u : Tree) → is_null_or_whole u ≡ true → conforms T (null_or (number unlimited)) u ≡ true
 whole_conforms T null h = refl
-whole_conforms T (flag b) h = cc
 whole_conforms T (whole z) h = refl
-whole_conforms T (text s) h = cc
-whole_conforms T (list ts) h = cc
-whole_conforms T (object ms) h = cc
+whole_conforms T u h = cc
 
 signed_conforms : (T : Tables) (u : Tree) → is_null_or_signed u ≡ true → conforms T (null_or (number signed)) u ≡ true
 signed_conforms T null h = refl
-signed_conforms T (flag b) h = cc
 signed_conforms T (whole z) h = h
-signed_conforms T (text s) h = cc
-signed_conforms T (list ts) h = cc
-signed_conforms T (object ms) h = cc
+signed_conforms T u h = cc
 
 further_of : (es : List (Entry Tree)) (s : Sort) → is_any s ≡ false → sort_of es ≡ s → further s es ≡ true
 further_of es s a e =
@@ -152,15 +124,11 @@ named_holds T es n (v ∷ ws) w e h = at (same_text n (row_name v)) (λ q. named
 optional_reads : (T : Tables) (w : Row) (es : List (Entry Tree)) → never_misses w ≡ true → OptionalHolds T es w
     → RowReads T (own w es) w
 optional_reads T (row n required k) es m h = cc
-optional_reads T (row n optional k) es m h = (h, refl)
-optional_reads T (row n nullable k) es m h = (h, refl)
-optional_reads T (row n listed k) es m h = (h, refl)
-optional_reads T (row n flagged k) es m h = (h, refl)
-optional_reads T (row n (styled s) k) es m h = (h, refl)
-optional_reads T (row n formatted k) es m h = (h, refl)
 optional_reads T (either a j b k) es m h = cc
 optional_reads T (class c k) es m h = h
 optional_reads T (constant n v) es m h = cc
+optional_reads T (row n optional k) es m h = (h, refl)
+optional_reads T w es m h = (h, refl)
 
 all_optional_read : (T : Tables) (ws : List Row) (es : List (Entry Tree)) → every never_misses ws ≡ true
     → AllHold T es (each made_optional ws) → AllRead T es ws

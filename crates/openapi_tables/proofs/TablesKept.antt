@@ -3,7 +3,7 @@ use Rattle.std.proofs.Common.{ℕ, Bool, true, List, [], ◌∷◌, Option, Some
 use Rattle.std.proofs.lemmas.Bool.{and_parts, and_from}
 use Rattle.openapi_tables.proofs.KindsHold.{any_conforms}
 use Rattle.openapi_tables.specs.Lists.{every}
-use Rattle.openapi_node.specs.Tree.{Tree, null, flag, whole, text, list, object, Members}
+use Rattle.openapi_node.specs.Tree.{Tree, list, object, Members}
 use Rattle.openapi_tables.specs.Tree.{members_list, Entry, Seen}
 use Rattle.openapi_tables.specs.Kind.{Kind, map_of, by, ref_to, any_tree, Row, class, callback_names, extensions, takes}
 use Rattle.openapi_tables.specs.Kind.{TableName, Tables, operation, components, path_item, schema_data, callback_object}
@@ -129,21 +129,8 @@ widened (object ms) g j k (of_each i l c) s h o =
     (judged_each tables_before_callbacks i (members_list ms)
     (subst (λ es. every (λ (e : Entry (Seen (Kind → Bool))). e.value.answer i) es ≡ true)
     (of_members_lem (root_conforms tables_before_callbacks) ms) h))))
-widened null g j k of_map s h o = cc
-widened null g j k of_reference s h o = cc
-widened null g j k (of_each i l c) s h o = cc
-widened (flag b) g j k of_map s h o = cc
-widened (flag b) g j k of_reference s h o = cc
-widened (flag b) g j k (of_each i l c) s h o = cc
-widened (whole z) g j k of_map s h o = cc
-widened (whole z) g j k of_reference s h o = cc
-widened (whole z) g j k (of_each i l c) s h o = cc
-widened (text u) g j k of_map s h o = cc
-widened (text u) g j k of_reference s h o = cc
-widened (text u) g j k (of_each i l c) s h o = cc
-widened (list ts) g j k of_map s h o = cc
-widened (list ts) g j k of_reference s h o = cc
-widened (list ts) g j k (of_each i l c) s h o = cc
+widened t g j k of_map s h o = cc
+widened t g j k x s h o = cc
 
 pub callbacks_kept : CallbacksKept
 callbacks_kept k t s h =
@@ -169,12 +156,9 @@ XmlConforms k t = k ≡ by xml_object → conforms final_tables (by xml_object) 
 
 root_asked : (T : Tables) (P : Kind → Tree → Type 0) (i : TableName) (t : Tree) → OfAsked P (asked T (by i) t)
     → P (by i) t
-root_asked T P i null o = o.0
-root_asked T P i (flag b) o = o.0
-root_asked T P i (whole z) o = o.0
-root_asked T P i (text s) o = o.0
 root_asked T P i (list ts) o = subst (λ u. P (by i) u) (tree_of_root-seen (root_asks T) (list ts)) o.0
 root_asked T P i (object ms) o = subst (λ u. P (by i) u) (tree_of_root-seen (root_asks T) (object ms)) o.0
+root_asked T P i t o = o.0
 
 xml_conforms : (t : Tree) → OfAsked XmlConforms (asked final_tables (by xml_object) t)
     → conforms final_tables (by xml_object) t ≡ true

@@ -1,12 +1,11 @@
 -- What reading gives of a tree under a kind, one rule for each way.
-use Rattle.std.proofs.Common.{ℕ, pos, negsuc, Bool, true, false, cond, ◌&&◌, nat_le, List, Option, Some, None, ◌≡◌}
-use Rattle.std.proofs.Common.{refl, sym, ap, ◌∙◌, subst, codes}
+use Rattle.std.proofs.Common.{ℕ, pos, Bool, true, false, cond, ◌&&◌, nat_le, List, Option, Some, None, ◌≡◌, refl, sym}
+use Rattle.std.proofs.Common.{ap, ◌∙◌, subst, codes}
 use Rattle.openapi_tables.specs.Lists.{each, has}
 use Rattle.openapi_node.specs.Tree.{Tree, null, flag, whole, text, list, object, Items, Members}
 use Rattle.openapi_tables.specs.Tree.{items_list, members_list, on_entry, Seen, Shape, of_items, of_members}
-use Rattle.openapi_tables.specs.Kind.{Kind, any_text, any_flag, number, any_tree, one_of, format, null_or, list_of}
-use Rattle.openapi_tables.specs.Kind.{map_of, by, tagged, ref_to, flag_or_schema, a_schema, a_schema_kind, status_code}
-use Rattle.openapi_tables.specs.Kind.{Code, code, code_of, Tables}
+use Rattle.openapi_tables.specs.Kind.{Kind, format, null_or, list_of, map_of, by, tagged, ref_to, flag_or_schema}
+use Rattle.openapi_tables.specs.Kind.{a_schema, a_schema_kind, status_code, Code, code, code_of, Tables}
 use Rattle.openapi_tables.specs.Members.{trees, held, Choice, choice, rows_of}
 use Rattle.openapi_tables.specs.Conforms.{text_in}
 use Rattle.openapi_tables.specs.Form.{Form, leaf, of_code, known, other, unset, reference, an_item, sequence, fields}
@@ -106,109 +105,26 @@ taken_ref_object T k ms f h =
     (ap (λ es. text_in (held (codes "$ref") es)) (sym (trees_of-members (root_form T) ms))) h
 
 pub taken : (T : Tables) (k : Kind) (t : Tree) → Taken T k t (form T k t)
-taken T any_text null = leaf_at T any_text null refl
-taken T any_text (flag v) = leaf_at T any_text (flag v) refl
-taken T any_text (whole z) = leaf_at T any_text (whole z) refl
-taken T any_text (text s) = leaf_at T any_text (text s) refl
-taken T any_text (list ts) = leaf_at T any_text (list ts) refl
-taken T any_text (object ms) = leaf_at T any_text (object ms) refl
-taken T any_flag null = leaf_at T any_flag null refl
-taken T any_flag (flag v) = leaf_at T any_flag (flag v) refl
-taken T any_flag (whole z) = leaf_at T any_flag (whole z) refl
-taken T any_flag (text s) = leaf_at T any_flag (text s) refl
-taken T any_flag (list ts) = leaf_at T any_flag (list ts) refl
-taken T any_flag (object ms) = leaf_at T any_flag (object ms) refl
-taken T (number w) null = leaf_at T (number w) null refl
-taken T (number w) (flag v) = leaf_at T (number w) (flag v) refl
-taken T (number w) (whole z) = leaf_at T (number w) (whole z) refl
-taken T (number w) (text s) = leaf_at T (number w) (text s) refl
-taken T (number w) (list ts) = leaf_at T (number w) (list ts) refl
-taken T (number w) (object ms) = leaf_at T (number w) (object ms) refl
-taken T any_tree null = leaf_at T any_tree null refl
-taken T any_tree (flag v) = leaf_at T any_tree (flag v) refl
-taken T any_tree (whole z) = leaf_at T any_tree (whole z) refl
-taken T any_tree (text s) = leaf_at T any_tree (text s) refl
-taken T any_tree (list ts) = leaf_at T any_tree (list ts) refl
-taken T any_tree (object ms) = leaf_at T any_tree (object ms) refl
-taken T (one_of ws) null = leaf_at T (one_of ws) null refl
-taken T (one_of ws) (flag v) = leaf_at T (one_of ws) (flag v) refl
-taken T (one_of ws) (whole z) = leaf_at T (one_of ws) (whole z) refl
-taken T (one_of ws) (text s) = leaf_at T (one_of ws) (text s) refl
-taken T (one_of ws) (list ts) = leaf_at T (one_of ws) (list ts) refl
-taken T (one_of ws) (object ms) = leaf_at T (one_of ws) (object ms) refl
 taken T (format ws b) null = as_unset ws b
-taken T (format ws b) (flag v) = leaf_at T (format ws b) (flag v) refl
-taken T (format ws b) (whole z) = leaf_at T (format ws b) (whole z) refl
 taken T (format ws b) (text s) = taken_format T ws b s (has ws s) refl
-taken T (format ws b) (list ts) = leaf_at T (format ws b) (list ts) refl
-taken T (format ws b) (object ms) = leaf_at T (format ws b) (object ms) refl
 taken T (null_or k) null = as_inner k null (form T k null) (taken T k null)
-taken T (null_or k) (flag v) = as_inner k (flag v) (form T k (flag v)) (taken T k (flag v))
-taken T (null_or k) (whole z) = as_inner k (whole z) (form T k (whole z)) (taken T k (whole z))
-taken T (null_or k) (text s) = as_inner k (text s) (form T k (text s)) (taken T k (text s))
-taken T (null_or k) (list ts) = as_inner k (list ts) (form T k (list ts)) (taken T k (list ts))
-taken T (null_or k) (object ms) = as_inner k (object ms) (form T k (object ms)) (taken T k (object ms))
-taken T (list_of k) null = leaf_at T (list_of k) null refl
-taken T (list_of k) (flag v) = leaf_at T (list_of k) (flag v) refl
-taken T (list_of k) (whole z) = leaf_at T (list_of k) (whole z) refl
-taken T (list_of k) (text s) = leaf_at T (list_of k) (text s) refl
+taken T (null_or k) t = as_inner k t (form T k t) (taken T k t)
 taken T (list_of k) (list ts) = taken_list T k ts
-taken T (list_of k) (object ms) = leaf_at T (list_of k) (object ms) refl
-taken T (map_of k) null = leaf_at T (map_of k) null refl
-taken T (map_of k) (flag v) = leaf_at T (map_of k) (flag v) refl
-taken T (map_of k) (whole z) = leaf_at T (map_of k) (whole z) refl
-taken T (map_of k) (text s) = leaf_at T (map_of k) (text s) refl
-taken T (map_of k) (list ts) = leaf_at T (map_of k) (list ts) refl
 taken T (map_of k) (object ms) = as_map k ms
-taken T (by i) null = leaf_at T (by i) null refl
-taken T (by i) (flag v) = leaf_at T (by i) (flag v) refl
-taken T (by i) (whole z) = leaf_at T (by i) (whole z) refl
-taken T (by i) (text s) = leaf_at T (by i) (text s) refl
-taken T (by i) (list ts) = leaf_at T (by i) (list ts) refl
 taken T (by i) (object ms) = taken_object T (by i) ms refl
-taken T (tagged n cs) null = leaf_at T (tagged n cs) null refl
-taken T (tagged n cs) (flag v) = leaf_at T (tagged n cs) (flag v) refl
-taken T (tagged n cs) (whole z) = leaf_at T (tagged n cs) (whole z) refl
-taken T (tagged n cs) (text s) = leaf_at T (tagged n cs) (text s) refl
-taken T (tagged n cs) (list ts) = leaf_at T (tagged n cs) (list ts) refl
 taken T (tagged n cs) (object ms) = taken_object T (tagged n cs) ms refl
-taken T (ref_to k) null = as_item k null (form T k null) refl (taken T k null)
-taken T (ref_to k) (flag v) = as_item k (flag v) (form T k (flag v)) refl (taken T k (flag v))
-taken T (ref_to k) (whole z) = as_item k (whole z) (form T k (whole z)) refl (taken T k (whole z))
-taken T (ref_to k) (text s) = as_item k (text s) (form T k (text s)) refl (taken T k (text s))
-taken T (ref_to k) (list ts) = as_item k (list ts) (form T k (list ts)) refl (taken T k (list ts))
 taken T (ref_to k) (object ms) = taken_ref_object T k ms (form T k (object ms)) (taken T k (object ms))
-taken T flag_or_schema null = as_schema null (form T flag_or_schema null) refl
-    (as_item a_schema null (form T a_schema null) refl (leaf_at T a_schema null refl))
+taken T (ref_to k) t = as_item k t (form T k t) refl (taken T k t)
 taken T flag_or_schema (flag v) = leaf_at T flag_or_schema (flag v) refl
-taken T flag_or_schema (whole z) =
-    as_schema (whole z) (form T flag_or_schema (whole z)) refl
-    (as_item a_schema (whole z) (form T a_schema (whole z)) refl (leaf_at T a_schema (whole z) refl))
-taken T flag_or_schema (text s) =
-    as_schema (text s) (form T flag_or_schema (text s)) refl
-    (as_item a_schema (text s) (form T a_schema (text s)) refl (leaf_at T a_schema (text s) refl))
-taken T flag_or_schema (list ts) =
-    as_schema (list ts) (form T flag_or_schema (list ts)) refl
-    (as_item a_schema (list ts) (form T a_schema (list ts)) refl (leaf_at T a_schema (list ts) refl))
 taken T flag_or_schema (object ms) =
     as_schema (object ms) (form T flag_or_schema (object ms)) refl
     (taken_ref_object T a_schema ms (form T a_schema (object ms)) (taken_object T a_schema ms refl))
-taken T a_schema null = leaf_at T a_schema null refl
-taken T a_schema (flag v) = leaf_at T a_schema (flag v) refl
-taken T a_schema (whole z) = leaf_at T a_schema (whole z) refl
-taken T a_schema (text s) = leaf_at T a_schema (text s) refl
-taken T a_schema (list ts) = leaf_at T a_schema (list ts) refl
+taken T flag_or_schema t =
+    as_schema t (form T flag_or_schema t) refl
+    (as_item a_schema t (form T a_schema t) refl (leaf_at T a_schema t refl))
 taken T a_schema (object ms) = taken_object T a_schema ms refl
-taken T a_schema_kind null = leaf_at T a_schema_kind null refl
-taken T a_schema_kind (flag v) = leaf_at T a_schema_kind (flag v) refl
-taken T a_schema_kind (whole z) = leaf_at T a_schema_kind (whole z) refl
-taken T a_schema_kind (text s) = leaf_at T a_schema_kind (text s) refl
-taken T a_schema_kind (list ts) = leaf_at T a_schema_kind (list ts) refl
 taken T a_schema_kind (object ms) = taken_object T a_schema_kind ms refl
-taken T status_code null = leaf_at T status_code null refl
-taken T status_code (flag v) = leaf_at T status_code (flag v) refl
 taken T status_code (whole (pos n)) = taken_number T n (nat_le 100 n && nat_le n 999) refl
-taken T status_code (whole (negsuc n)) = leaf_at T status_code (whole (negsuc n)) refl
 taken T status_code (text s) = taken_code T s (code_of s) refl
-taken T status_code (list ts) = leaf_at T status_code (list ts) refl
-taken T status_code (object ms) = leaf_at T status_code (object ms) refl
+taken T k null = leaf_at T k null refl
+taken T k t = leaf_at T k t refl

@@ -68,19 +68,12 @@ seen_root f (object ms) = an_object (of_members f ms)
 
 pub of_tree_lem : {X : Type 0} → (f : Shape (Seen X) → X) (t : Tree) → of_tree f t ≡ f (seen_root f t)
 of_tree_lem f null = refl
-of_tree_lem f (flag b) = refl
-of_tree_lem f (whole z) = refl
-of_tree_lem f (text s) = refl
-of_tree_lem f (list ts) = refl
-of_tree_lem f (object ms) = refl
+of_tree_lem f t = refl
 
 pub tree_of_root-seen : {X : Type 0} → (f : Shape (Seen X) → X) (t : Tree) → tree_of_root (seen_root f t) ≡ t
-tree_of_root-seen f null = refl
-tree_of_root-seen f (flag b) = refl
-tree_of_root-seen f (whole z) = refl
-tree_of_root-seen f (text s) = refl
 tree_of_root-seen f (list ts) = ap list (seen_items f ts)
 tree_of_root-seen f (object ms) = ap object (seen_members f ms)
+tree_of_root-seen f t = refl
 
 -- P holds of each tree that stands directly inside
 abbrev pub Inside : (Tree → Type 0) → Tree → Type 0
@@ -112,8 +105,4 @@ mutual
 
 pub null_tree : (t : Tree) → is_null t ≡ true → t ≡ null
 null_tree null h = refl
-null_tree (flag b) h = cc
-null_tree (whole z) h = cc
-null_tree (text s) h = cc
-null_tree (list ts) h = cc
-null_tree (object ms) h = cc
+null_tree t h = cc

@@ -1,17 +1,12 @@
 -- What the rows of an object weigh together is at most what its members weigh.
-use Rattle.std.proofs.Common.{ℕ, ◌+◌, ◌≤◌, Bool, true, false, cond, List, [], ◌∷◌}
-use Rattle.std.proofs.Common.{◌≡◌, refl, ap, ◌∙◌, arith}
+use Rattle.std.proofs.Common.{ℕ, ◌+◌, ◌≤◌, Bool, true, false, cond, List, [], ◌∷◌, ◌≡◌, refl, ap, ◌∙◌, arith}
 use Rattle.std.proofs.lemmas.Bool.{and_parts}
-use Rattle.openapi_node.specs.Tree.{Tree, Members, no_members, member}
-use Rattle.openapi_node.specs.Tree.{members_size, size_of}
+use Rattle.openapi_node.specs.Tree.{Tree, Members, no_members, member, members_size, size_of}
 use Rattle.openapi_tables.specs.Lists.{every}
-use Rattle.openapi_tables.specs.Tree.{Entry}
-use Rattle.openapi_tables.specs.Tree.{members_list}
-use Rattle.openapi_tables.specs.Kind.{Row, takes, Tables}
-use Rattle.openapi_tables.specs.Kind.{TableName}
+use Rattle.openapi_tables.specs.Tree.{Entry, members_list}
+use Rattle.openapi_tables.specs.Kind.{Row, takes, Tables, TableName}
 use Rattle.openapi_tables.specs.Members.{own}
-use Rattle.openapi_tables.specs.Sound.{apart, rows_apart, row_sound}
-use Rattle.openapi_tables.specs.Sound.{tables_sound}
+use Rattle.openapi_tables.specs.Sound.{apart, rows_apart, row_sound, tables_sound}
 use Rattle.openapi_tables.specs.ByRow.{weight, row_weight, rows_weight}
 use Rattle.openapi_tables.proofs.ListLaws.{Each, every_each}
 use Rattle.openapi_tables.proofs.RowLaws.{apart_takes}

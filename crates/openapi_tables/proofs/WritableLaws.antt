@@ -4,12 +4,11 @@ use Rattle.std.proofs.Common.{ℕ, suc, Bool, true, false, not, cond, ◌&&◌, 
 use Rattle.std.proofs.Common.{refl, sym, ap, ◌∙◌, subst, codes}
 use Rattle.std.proofs.lemmas.Bool.{and_parts, and_from, both_ways}
 use Rattle.openapi_tables.specs.Lists.{join, every, same_text, has, is_empty}
-use Rattle.openapi_node.specs.Tree.{Tree, null, flag, whole, text, list, object}
+use Rattle.openapi_node.specs.Tree.{Tree, null, flag}
 use Rattle.openapi_node.specs.Place.{Step, named as at_name, indexed as at_index}
 use Rattle.openapi_tables.specs.Kind.{Kind, null_or, format, list_of, map_of, ref_to, flag_or_schema, status_code}
-use Rattle.openapi_tables.specs.Kind.{Class, extensions, callback_names, path_names, status_names, Row, row, either}
-use Rattle.openapi_tables.specs.Kind.{class, constant, Mode, optional, nullable, Code, writable_code, code_of, text_of}
-use Rattle.openapi_tables.specs.Kind.{begins, Tables, is_code}
+use Rattle.openapi_tables.specs.Kind.{Class, status_names, Row, row, either, class, constant, Mode, optional, nullable}
+use Rattle.openapi_tables.specs.Kind.{Code, writable_code, code_of, text_of, begins, Tables, is_code}
 use Rattle.openapi_tables.specs.Members.{rows_of}
 use Rattle.openapi_tables.specs.Form.{Form, absent, leaf, of_code, known, other, unset, reference, an_item, sequence}
 use Rattle.openapi_tables.specs.Form.{named, deciding, fields, Forms, no_forms, more, forms_list, Named, no_named}
@@ -71,18 +70,13 @@ pairs_split T k (under n f es) g =
 
 -- what is written as a name of a class is a key of it
 written_is_key : (c : Class) (n : Key) → is_written c n ≡ (is_key c n && is_written c n)
-written_is_key extensions (name n) = refl
-written_is_key extensions (coded c) = refl
-written_is_key callback_names (name n) = refl
-written_is_key callback_names (coded c) = refl
-written_is_key path_names (name n) = refl
-written_is_key path_names (coded c) = refl
-written_is_key status_names (coded c) = refl
 written_is_key status_names (name n) = at (code_of n)
   where
     at : (o : Option Code) → (same_key (code_key n o) (name n) && is_code o) ≡ false
     at None = and_false (same_key (name n) (name n))
     at (Some c) = refl
+written_is_key c (name n) = refl
+written_is_key c n = refl
 
 class_bools : (q w s u r l m : Bool) → (((q && w) && (s && u)) && (r && (l && m)))
     ≡ (((q && s) && r) && ((w && l) && (u && m)))
@@ -162,14 +156,13 @@ row_split T (constant n v) f g = and_true (is_absent f)
 rows_split : (T : Tables) (ws : List Row) (fs : Forms) → Each (Deep (Splits T)) (forms_list fs)
     → rows_proper ws (of_forms (face_proper T) fs)
     ≡ (rows_proper ws (of_forms (face_held is_key T) fs) && is_empty (rows_lost ws (of_forms (face_lost T) fs)))
-rows_split T [] no_forms g = refl
-rows_split T [] (more f fs) g = refl
-rows_split T (w ∷ ws) no_forms g = refl
 rows_split T (w ∷ ws) (more f fs) g =
     two (row_proper w (show (face_proper T) f)) (row_proper w (show (face_held is_key T) f))
     (is_empty (row_lost w (show (face_lost T) f))) _ _ _ (row_split T w f g.0) (rows_split T ws fs g.1)
     ∙ ap (λ b. (row_proper w (show (face_held is_key T) f) && rows_proper ws (of_forms (face_held is_key T) fs)) && b)
     (sym (is_empty-join (row_lost w (show (face_lost T) f)) (rows_lost ws (of_forms (face_lost T) fs))))
+rows_split T ws no_forms g = refl
+rows_split T ws fs g = refl
 
 -- one root, under a bare kind
 leaf_split : (T : Tables) (t : Tree) (k : Kind)
@@ -178,10 +171,7 @@ leaf_split T null (null_or k) = refl
 leaf_split T null k = and_true (proper T k (leaf null))
 leaf_split T (flag b) flag_or_schema = refl
 leaf_split T (flag b) k = and_true (proper T k (leaf (flag b)))
-leaf_split T (whole z) k = and_true (leaf_proper (whole z) (bare k))
-leaf_split T (text u) k = and_true (leaf_proper (text u) (bare k))
-leaf_split T (list ts) k = and_true (leaf_proper (list ts) (bare k))
-leaf_split T (object ms) k = and_true (leaf_proper (object ms) (bare k))
+leaf_split T t k = and_true (leaf_proper t (bare k))
 
 code_split : (T : Tables) (c : Code) (j : Kind)
     → bare_held is_written T (f_code c) j ≡ (bare_held is_key T (f_code c) j && is_empty (bare_lost T (f_code c) j))

@@ -2,10 +2,9 @@
 use Rattle.std.proofs.Common.{ℕ, Bool, true, ◌&&◌, List, [], ◌∷◌, Option, Some, None, ◌≡◌, refl, sym, ap, ◌∙◌, subst}
 use Rattle.std.proofs.lemmas.Bool.{and_parts, and_from}
 use Rattle.openapi_tables.proofs.KindsHold.{any_conforms}
-use Rattle.openapi_tables.specs.Kind.{Kind, Tables, Row, Case, TableName, a_schema, a_schema_kind, any_flag}
-use Rattle.openapi_tables.specs.Kind.{any_text, any_tree, by, flag_or_schema, format, in_class, list_of}
-use Rattle.openapi_tables.specs.Kind.{map_of, null_or, number, one_of, ref_to, schema_data, status_code, status_names}
-use Rattle.openapi_tables.specs.Kind.{tagged, text_of}
+use Rattle.openapi_tables.specs.Kind.{Kind, Tables, Row, Case, TableName, a_schema, a_schema_kind, any_text, any_tree}
+use Rattle.openapi_tables.specs.Kind.{by, flag_or_schema, format, in_class, list_of, map_of, null_or, number, one_of}
+use Rattle.openapi_tables.specs.Kind.{ref_to, schema_data, status_code, status_names, tagged, text_of}
 use Rattle.openapi_tables.proofs.FaultLaws.{judged, seen_members}
 use Rattle.openapi_tables.proofs.FormLaws.{Deep, Within, by_deep, of_forms_lem, show}
 use Rattle.openapi_tables.proofs.ListLaws.{Each, Each-join, each_under, every_each, every_from}
@@ -15,14 +14,13 @@ use Rattle.openapi_tables.proofs.ReadAgain.{names_of_data, names_of_none, tag_ag
 use Rattle.openapi_tables.proofs.RowLaws.{Found, OwnWrites, found}
 use Rattle.openapi_tables.proofs.RowWrites.{SlotsProper, Writes, proper_writes, row_holds_own, rows_write, slots_proper}
 use Rattle.openapi_tables.proofs.SortHolds.{AllHold, Others, all_hold, from_all_hold}
-use Rattle.openapi_tables.proofs.KindsHold.{kinds_hold}
-use Rattle.openapi_tables.proofs.KindsHold.{others_written}
+use Rattle.openapi_tables.proofs.KindsHold.{kinds_hold, others_written}
 use Rattle.openapi_tables.proofs.TreeLaws.{of_members-of}
 use Rattle.openapi_tables.specs.Conforms.{chosen_holds, conforms, is_reference, object_holds, reference_or}
 use Rattle.openapi_tables.specs.Conforms.{root_conforms, row_holds}
-use Rattle.openapi_tables.specs.Form.{Form, Forms, Named, Pair, absent, an_item, coded, deciding, fields, forms_list}
-use Rattle.openapi_tables.specs.Form.{known, leaf, more, named, named_list, no_forms, no_named, of_code, of_forms}
-use Rattle.openapi_tables.specs.Form.{of_named, other, reference, sequence, under, unset}
+use Rattle.openapi_tables.specs.Form.{Form, Forms, Named, Pair, an_item, coded, fields, forms_list, leaf, more, named}
+use Rattle.openapi_tables.specs.Form.{named_list, no_forms, no_named, of_code, of_forms, of_named, sequence, under}
+use Rattle.openapi_tables.specs.Form.{unset}
 use Rattle.openapi_tables.specs.Lists.{each, every, join}
 use Rattle.openapi_tables.specs.Members.{Choice, Sort, checked_rows, choice, made_optional, own, plain, rows_of, sort}
 use Rattle.openapi_tables.specs.Members.{sort_rows, tag}
@@ -31,7 +29,7 @@ use Rattle.openapi_tables.specs.Proper.{Held, choice_proper, face_proper, is_nam
 use Rattle.openapi_tables.specs.Read.{key_in, same_key}
 use Rattle.openapi_tables.specs.Sound.{row_sound, rows_apart, rows_sound, sound, tables_sound, under_ref}
 use Rattle.openapi_tables.specs.Tables.{any_rows}
-use Rattle.openapi_node.specs.Tree.{Tree, flag, items_of, list, null, object, text, whole}
+use Rattle.openapi_node.specs.Tree.{Tree, items_of, object, text, whole, null}
 use Rattle.openapi_tables.specs.Tree.{Entry, Seen, an_object, members_of, of_items, of_members}
 
 -- the rows of a sound kind, by a choice that its forms may have
@@ -39,25 +37,11 @@ pub rows_proper_sound : (T : Tables) (W : tables_sound T ≡ true) (k : Kind) (c
     → choice_proper k c ≡ true → rows_sound T (rows_of T k c) ≡ true
 unfolding rows_of
 rows_proper_sound T W (by i) plain s h = table_sound T W i
-rows_proper_sound T W (by i) c s h = cc
 rows_proper_sound T W (tagged n cs) (tag u) s h = case_sound T W n u cs (every_each _ cs s) h
-rows_proper_sound T W (tagged n cs) c s h = cc
 rows_proper_sound T W a_schema (sort s') s h = schema_sound T W s'
-rows_proper_sound T W a_schema c s h = cc
 rows_proper_sound T W a_schema_kind (sort s') s h = sort_sound T W s'
-rows_proper_sound T W a_schema_kind c s h = cc
-rows_proper_sound T W any_text c s h = cc
-rows_proper_sound T W any_flag c s h = cc
-rows_proper_sound T W (number w) c s h = cc
-rows_proper_sound T W any_tree c s h = cc
-rows_proper_sound T W (one_of ws) c s h = cc
-rows_proper_sound T W (format ws b) c s h = cc
-rows_proper_sound T W (null_or k) c s h = cc
-rows_proper_sound T W (list_of k) c s h = cc
-rows_proper_sound T W (map_of k) c s h = cc
-rows_proper_sound T W (ref_to k) c s h = cc
-rows_proper_sound T W flag_or_schema c s h = cc
-rows_proper_sound T W status_code c s h = cc
+rows_proper_sound T W (by i) c s h = cc
+rows_proper_sound T W k c s h = cc
 
 pub print-proper : (T : Tables) (k : Kind) (c : Choice) (fs : Forms) → choice_proper k c ≡ true
     → print T k (fields c fs) ≡ object (members_of (members_for T (rows_of T k c) (forms_list fs)))
@@ -69,18 +53,7 @@ print-proper T a_schema c fs h = ap (λ l. object (members_of (rows_print (rows_
     (of_forms_lem (face_print T) fs)
 print-proper T a_schema_kind c fs h =
     ap (λ l. object (members_of (rows_print (rows_of T a_schema_kind c) l))) (of_forms_lem (face_print T) fs)
-print-proper T any_text c fs h = cc
-print-proper T any_flag c fs h = cc
-print-proper T (number w) c fs h = cc
-print-proper T any_tree c fs h = cc
-print-proper T (one_of ws) c fs h = cc
-print-proper T (format ws b) c fs h = cc
-print-proper T (null_or k) c fs h = cc
-print-proper T (list_of k) c fs h = cc
-print-proper T (map_of k) c fs h = cc
-print-proper T (ref_to k) c fs h = cc
-print-proper T flag_or_schema c fs h = cc
-print-proper T status_code c fs h = cc
+print-proper T k c fs h = cc
 
 -- what is known of the members that an object of a kind writes for a proper form
 pub record Written (T : Tables) (k : Kind) (c : Choice) (fs : List Form) : Type 0 where
@@ -217,57 +190,25 @@ fields_write T W c fs g k s h = at k s h
         let p = parts a_schema_kind h in
         ap (conforms T a_schema_kind) (print-proper T a_schema_kind c fs p.0)
         ∙ kind_at c p.0 (written T W a_schema_kind c (forms_list fs) s p.0 p.1)
-    at any_text s h = cc
-    at any_flag s h = cc
-    at (number w) s h = cc
-    at any_tree s h = cc
-    at (one_of ws) s h = cc
-    at (format ws b) s h = cc
     at (null_or any_text) s h = cc
-    at (null_or any_flag) s h = cc
-    at (null_or (number w)) s h = cc
-    at (null_or k) s h = cc
-    at (list_of k) s h = cc
-    at (map_of k) s h = cc
-    at (ref_to k) s h = cc
-    at flag_or_schema s h = cc
-    at status_code s h = cc
+    at k s h = cc
 
 reference_conforms : (T : Tables) (k : Kind) (t : Tree) → conforms T k t ≡ true → conforms T (ref_to k) t ≡ true
-reference_conforms T k null h = h
-reference_conforms T k (flag b) h = h
-reference_conforms T k (whole z) h = h
-reference_conforms T k (text s) h = h
-reference_conforms T k (list ts) h = h
 reference_conforms T k (object ms) h = at (is_reference (an_object (of_members (root_conforms T) ms)))
   where
     at : (r : Option (List ℕ)) → reference_or r (conforms T k (object ms)) ≡ true
     at None = h
     at (Some s) = refl
+reference_conforms T k t h = h
 
 leaf_writes : (T : Tables) (t : Tree) (k : Kind) → sound T k ≡ true → proper T k (leaf t) ≡ true → conforms T k t ≡ true
 leaf_writes T t any_tree s h = any_conforms T t
-leaf_writes T (text u) any_text s h = refl
 leaf_writes T (text u) (one_of ws) s h = h
-leaf_writes T (flag b) any_flag s h = refl
 leaf_writes T (whole z) (number w) s h = h
-leaf_writes T null (null_or k) s h = refl
-leaf_writes T (text u) (null_or any_text) s h = refl
-leaf_writes T (flag b) (null_or any_flag) s h = refl
 leaf_writes T (whole z) (null_or (number w)) s h = h
-leaf_writes T (flag b) flag_or_schema s h = refl
+leaf_writes T t (null_or any_text) s h = cc
 leaf_writes T null k s h = cc
-leaf_writes T (flag b) k s h = cc
-leaf_writes T (whole z) k s h = cc
-leaf_writes T (text u) k s h = cc
-leaf_writes T (list ts) (null_or any_text) s h = cc
-leaf_writes T (list ts) (null_or any_flag) s h = cc
-leaf_writes T (list ts) (null_or (number w)) s h = cc
-leaf_writes T (list ts) k s h = cc
-leaf_writes T (object ms) (null_or any_text) s h = cc
-leaf_writes T (object ms) (null_or any_flag) s h = cc
-leaf_writes T (object ms) (null_or (number w)) s h = cc
-leaf_writes T (object ms) k s h = cc
+leaf_writes T t k s h = cc
 
 sequence_writes : (T : Tables) (k : Kind) (fs : Forms) → sound T k ≡ true → Each (Writes T) (forms_list fs)
     → every (λ (p : Held). p.answer (of_kind k)) (of_forms (face_proper T) fs) ≡ true
@@ -291,35 +232,10 @@ named_writes T k (under n f es) s g h =
     (named_writes T k es s g.1 p.1)
 
 writes_step : (T : Tables) (W : tables_sound T ≡ true) (f : Form) → Within (Deep (Writes T)) f → Writes T f
-writes_step T W absent g k s h = cc
 writes_step T W (leaf t) g k s h = leaf_writes T t k s h
 writes_step T W (of_code c) g status_code s h =
     (and_parts (same_key (key_in status_names (text_of c)) (coded c)) (in_class status_names (text_of c)) h).1
-writes_step T W (of_code c) g (null_or any_text) s h = cc
-writes_step T W (of_code c) g (null_or any_flag) s h = cc
-writes_step T W (of_code c) g (null_or (number w)) s h = cc
-writes_step T W (of_code c) g k s h = cc
-writes_step T W (known u) g (format ws b) s h = refl
-writes_step T W (known u) g (null_or any_text) s h = cc
-writes_step T W (known u) g (null_or any_flag) s h = cc
-writes_step T W (known u) g (null_or (number w)) s h = cc
-writes_step T W (known u) g k s h = cc
-writes_step T W (other u) g (format ws b) s h = refl
-writes_step T W (other u) g (null_or any_text) s h = cc
-writes_step T W (other u) g (null_or any_flag) s h = cc
-writes_step T W (other u) g (null_or (number w)) s h = cc
-writes_step T W (other u) g k s h = cc
 writes_step T W unset g (format ws b) s h = h
-writes_step T W unset g (null_or any_text) s h = cc
-writes_step T W unset g (null_or any_flag) s h = cc
-writes_step T W unset g (null_or (number w)) s h = cc
-writes_step T W unset g k s h = cc
-writes_step T W (reference u) g (ref_to k) s h = refl
-writes_step T W (reference u) g flag_or_schema s h = refl
-writes_step T W (reference u) g (null_or any_text) s h = cc
-writes_step T W (reference u) g (null_or any_flag) s h = cc
-writes_step T W (reference u) g (null_or (number w)) s h = cc
-writes_step T W (reference u) g k s h = cc
 writes_step T W (an_item f) g (ref_to k) s h =
     reference_conforms T k (print T k f) (g.0 k (and_parts (under_ref T k) (sound T k) s).1 h)
 writes_step T W (an_item f) g flag_or_schema s h = flag_or_conforms (print T a_schema f) (g.0 a_schema refl h)
@@ -327,24 +243,13 @@ writes_step T W (an_item f) g flag_or_schema s h = flag_or_conforms (print T a_s
     flag_or_conforms : (t : Tree) → conforms T a_schema t ≡ true → conforms T flag_or_schema t ≡ true
     flag_or_conforms (object ms) x = reference_conforms T a_schema (object ms) x
     flag_or_conforms t x = cc
-writes_step T W (an_item f) g (null_or any_text) s h = cc
-writes_step T W (an_item f) g (null_or any_flag) s h = cc
-writes_step T W (an_item f) g (null_or (number w)) s h = cc
-writes_step T W (an_item f) g k s h = cc
 writes_step T W (sequence fs) g (list_of k) s h =
     sequence_writes T k fs s (each_under (λ (f : Form) (x : Deep (Writes T) f). x.0) (forms_list fs) g) h
-writes_step T W (sequence fs) g (null_or any_text) s h = cc
-writes_step T W (sequence fs) g (null_or any_flag) s h = cc
-writes_step T W (sequence fs) g (null_or (number w)) s h = cc
-writes_step T W (sequence fs) g k s h = cc
 writes_step T W (named es) g (map_of k) s h =
     named_writes T k es s (each_under (λ (e : Pair Form) (x : Deep (Writes T) e.value). x.0) (named_list es) g) h
-writes_step T W (named es) g (null_or any_text) s h = cc
-writes_step T W (named es) g (null_or any_flag) s h = cc
-writes_step T W (named es) g (null_or (number w)) s h = cc
-writes_step T W (named es) g k s h = cc
-writes_step T W (deciding n f) g k s h = cc
 writes_step T W (fields c fs) g k s h = fields_write T W c fs g k s h
+writes_step T W f g (null_or any_text) s h = cc
+writes_step T W f g k s h = cc
 
 -- a proper form is written as a tree that conforms
 pub writes_all : (T : Tables) (W : tables_sound T ≡ true) (f : Form) → Writes T f

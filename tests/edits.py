@@ -9,10 +9,9 @@ usage: tests/edits.py [--jobs N] [--together N] [CRATE ..]
            tries nothing: tells of each crate which of its edits have no verdict on the text as it stands
 
 An edit (edits/CRATE/NAME.edit) turns one meaning of a crate: a line `file:` names a file of the crate, and each pair of
-lines `old:` and `new:` replaces a text that stands in it once. The prover must refuse the crate with the edit. The edits
-of crates that are proved quickly stand in crates/CRATE/must-fail, where `rt ci` tries them each time; those here are dear,
-so each is tried when what its verdict rests on has changed. `edits/verdicts` has a line for each edit that was refused: its
-name, and a hash of what the refusal rests on. The line above them is that of `rt version`. The verdicts hold for each
+lines `old:` and `new:` replaces a text that stands in it once. The prover must refuse the crate with the edit. Edits are
+dear, so each is tried when what its verdict rests on has changed. `edits/verdicts` has a line for each edit that was refused:
+its name, and a hash of what the refusal rests on. The line above them is that of `rt version`. The verdicts hold for each
 release of the kit that has the same logic, which that line names too.
 
 No body is seen by the proof of another function. So the refusal of an edit in the body of one function rests on:

@@ -8,11 +8,13 @@ usage: tests/edits.py [--jobs N] [--together N] [CRATE ..]
        tests/edits.py --compare
            tries nothing: tells of each crate which of its edits have no verdict on the text as it stands
 
-An edit (edits/CRATE/NAME.edit) turns one meaning of a crate: a line `file:` names a file of the crate, and each pair of
-lines `old:` and `new:` replaces a text that stands in it once. The prover must refuse the crate with the edit. Edits are
-dear, so each is tried when what its verdict rests on has changed. `edits/verdicts` has a line for each edit that was refused:
-its name, and a hash of what the refusal rests on. The line above them is that of `rt version`. The verdicts hold for each
-release of the kit that has the same logic, which that line names too.
+The edits of a crate stand in edits/CRATE.txt. A line `file:` between two empty lines names a file of the crate, and the edits
+below change it, up to the next such line. An edit is a line with its name, and below it pairs of lines `old:` and `new:`, of
+which each replaces a text that stands in the file once. (A line `file:` within an edit leads to another file.) A line that
+begins with `#` is a comment. The prover must refuse the crate with the edit. Edits are dear, so each is tried when what its
+verdict rests on has changed. `edits/verdicts` has a line for each edit that was refused: its name, and a hash of what the
+refusal rests on. The line above them is that of `rt version`. The verdicts hold for each release of the kit that has the
+same logic, which that line names too.
 
 No body is seen by the proof of another function. So the refusal of an edit in the body of one function rests on:
 - the edit, and the text of the function with its attributes;
@@ -25,19 +27,18 @@ No body is seen by the proof of another function. So the refusal of an edit in t
 Lemmas do not count: a lemma means what its statement says, and is proved. Any other edit (of a definition, a constant,
 several functions, ..) rests on all sources, specs and proofs of the crate. Other crates do not count.
 
-Edits of different functions are tried together: each of these functions has to be refused for itself, at a place in its body
-or in its own proof (in that of its circle, at a goal of its own). One that is not refused so is tried alone, and at last from
-nothing. Checks go over a copy of what a check of the crate left, as many side by side as there are processors. Which edits
-were refused is kept in the crate's out/edits, so that a run that was ended goes on where it stopped. The last line is
-`N passed, M failed`, and counts edits.
+Edits are tried by `rt check`, in a copy of the crate with what a check of it left. Edits of different functions are tried
+together: each of these functions has to be refused for itself, at a place in its body or in its own proof (in that of its
+circle, at a goal of its own). One that is not refused so is tried by itself, and at last from nothing. What makes a text that
+the prover can't read, or that breaks a rule of the language, is not refused. As many checks run side by side as there are
+processors. Which edits were refused is kept in the crate's out/edits, so that a run that was ended goes on where it stopped.
+The last line is `N passed, M failed`, and counts edits.
 
 Lines of a source that are a comment count for no hash, nor do those that say no more than how a function is to be inlined:
 they are hints to the compiler that makes a program of what is proved. No proof sees either.
 """
 import argparse
 import hashlib
-import importlib.machinery
-import importlib.util
 import itertools
 import os
 import queue
@@ -63,33 +64,55 @@ BEGINS = re.compile(
 IMPL = re.compile(r"(?:unsafe )?impl(?:<(?:[^<>]|<[^<>]*>)*>)?([^{]*?)(?:\bwhere\b|\{)")
 
 
-def the_kit():
-    """Returns the functions of `rt`, by which `rt ci` tries its own edits."""
-    program = os.path.realpath(shutil.which("rt") or sys.exit("tests/edits.py: no rt is on the path"))
-    loader = importlib.machinery.SourceFileLoader("rt", program)
-    kit = importlib.util.module_from_spec(importlib.util.spec_from_loader("rt", loader))
-    arguments, sys.argv = sys.argv, ["rt"]
-    loader.exec_module(kit)
-    sys.argv = arguments
-    kit.rtlib.Crate = kit.Crate
-    return kit
-
-
 def version():
     return subprocess.run(["rt", "version"], capture_output=True, text=True, check=True).stdout.strip()
 
 
-def edits_of(name):
-    folder = f"{TOP}/edits/{name}"
-    return [f"{folder}/{it}" for it in sorted(os.listdir(folder)) if it.endswith(".edit")]
+class Edit:
+    """An edit: its crate and its name, and the lines `file:`, `old:` and `new:` that it has."""
+
+    def __init__(self, crate, name, lines):
+        self.name, self.lines = f"{crate}/{name}", lines
+
+    def pairs(self):
+        """Returns the texts that it replaces: for each its file, itself, and what takes its place."""
+        file, old = "", ""
+        for line in self.lines:
+            word, _, text = line.partition(":")
+            text = text.removeprefix(" ")
+            if word == "file":
+                file = text.strip()
+            elif word == "old":
+                old = text
+            elif word == "new":
+                yield file, old, text
+
+    def applied(self, files):
+        """Returns the files that it changes, as it leaves them; or None, where a text that it replaces doesn't stand once."""
+        changed = {}
+        for file, old, new in self.pairs():
+            text = changed.get(file, files.get(file, ""))
+            if text.count(old) != 1:
+                return None
+            changed[file] = text.replace(old, new)
+        return changed or None
+
+
+def edits_of(crate):
+    """Returns the edits of a crate."""
+    with open(f"{TOP}/edits/{crate}.txt", encoding="utf-8") as it:
+        lines = [line for line in it.read().split("\n") if not line.startswith("#")]
+    found, file = [], ""
+    for name, *text in ([*part] for is_part, part in itertools.groupby(lines, bool) if is_part):
+        if text:
+            found.append(Edit(crate, name, [file, *text]))
+        else:
+            file = name
+    return found
 
 
 def crates_with_edits():
-    return [it for it in sorted(os.listdir(f"{TOP}/edits")) if os.path.isdir(f"{TOP}/edits/{it}")]
-
-
-def name_of(edit):
-    return os.path.relpath(edit, f"{TOP}/edits").removesuffix(".edit")
+    return [it.removesuffix(".txt") for it in sorted(os.listdir(f"{TOP}/edits")) if it.endswith(".txt")]
 
 
 def words(text):
@@ -235,17 +258,12 @@ class Sources:
         return found + [it for it in self.seen.items() if it[0].startswith("specs/") or function.is_proved_in(it[0])]
 
     def hash_of(self, edit):
-        with open(edit, encoding="utf-8") as it:
-            text = it.read()
         function = function_of(edit, self)
         key = function and function.item
         if key not in self.rests:
             texts = self.of_function(function) if function else self.seen.items()
             self.rests[key] = hash_of_texts(texts)
-        return hash_of_texts([(name_of(edit), text), ("", self.rests[key])])
-
-    def hashes(self):
-        return {name_of(it): self.hash_of(it) for it in edits_of(self.crate)}
+        return hash_of_texts([(edit.name, "\n".join([*edit.lines, ""])), ("", self.rests[key])])
 
 
 def logic_of(kit):
@@ -267,39 +285,19 @@ def verdicts(kit):
 def record(kit, refused):
     """Keeps the hashes of these edits, which were refused. Those of the other edits stand."""
     before, found = verdicts(kit)
-    found = {name: whole for name, whole in (found | refused).items() if os.path.exists(f"{TOP}/edits/{name}.edit")}
+    known = {it.name for crate in crates_with_edits() for it in edits_of(crate)}
+    lines = [f"{name} {whole}\n" for name, whole in sorted((found | refused).items()) if name in known]
     with open(f"{VERDICTS}.new", "w") as it:
-        it.write(HEAD + before + "\n" + "".join(f"{name} {found[name]}\n" for name in sorted(found)))
+        it.write(HEAD + before + "\n" + "".join(lines))
     os.replace(f"{VERDICTS}.new", VERDICTS)
 
 
-def pairs_of(lines):
-    """Returns the texts that an edit replaces, each with what takes its place."""
-    pairs = [it for it in lines if it.startswith(("old: ", "new:"))]
-    return [(old.removeprefix("old: "), new.removeprefix("new:").removeprefix(" ")) for old, new in zip(pairs[::2], pairs[1::2])]
-
-
-def stands(edit, files):
-    """Returns whether each text that the edit replaces stands once in its file, when those before it are replaced."""
-    with open(edit, encoding="utf-8") as it:
-        parts = re.split(r"(?m)^file: ", it.read())[1:]
-    for part in parts:
-        file, *lines = part.split("\n")
-        text = files.get(file.strip(), "")
-        for old, new in pairs_of(lines):
-            if text.count(old) != 1:
-                return False
-            text = text.replace(old, new)
-    return bool(parts)
-
-
 def due_of(crate, found):
-    """Returns the edits of the crate, and those that are to be tried, since these verdicts are not on the text that stands, or
-    since the edit itself does not fit it any more."""
-    sources = Sources(crate)
-    hashes = sources.hashes()
-    fit = {name_of(it): stands(it, sources.files) for it in edits_of(crate)}
-    return [*hashes], [it for it in hashes if found.get(it) != hashes[it] or not fit[it]]
+    """Returns the names of the crate's edits, and of those that are to be tried, since these verdicts are not on the text that
+    stands, or since the edit itself does not fit it any more."""
+    sources, edits = Sources(crate), edits_of(crate)
+    due = [it.name for it in edits if found.get(it.name) != sources.hash_of(it) or it.applied(sources.files) is None]
+    return [it.name for it in edits], due
 
 
 def compare():
@@ -363,19 +361,14 @@ NAMES = re.compile(r"(\./)?proofs/.*(has no field|is not in scope|has no `|was n
 
 def function_of(edit, sources):
     """Returns the one function in whose body the edit changes something; or None."""
-    found = set()
-    with open(edit, encoding="utf-8") as it:
-        lines = it.read().split("\n")
-    file = lines[0].removeprefix("file: ").strip()
-    text = sources.files.get(file, "")
-    if not file.startswith("src/") or sum(it.startswith("file: ") for it in lines) > 1:
-        return None
-    for old, new in pairs_of(lines):
+    found, texts = set(), {}
+    for file, old, new in edit.pairs():
+        text = texts.get(file, sources.files.get(file, ""))
         if text.count(old) != 1:
             return None
-        found.add(sources.function_at(file, text[: text.index(old)].count("\n") + 1))
-        text = text.replace(old, new)
-    item = found.pop() if len(found) == 1 else None
+        found.add(sources.function_at(file, text[: text.index(old)].count("\n") + 1) if file.startswith("src/") else None)
+        texts[file] = text.replace(old, new)
+    item = found.pop() if len(found) == 1 and len(texts) == 1 else None
     return Function(item) if item else None
 
 
@@ -390,128 +383,146 @@ def refusals(said, functions):
     return found
 
 
+# A line that tells a place in a proof that is not one any more, or of which nothing is proved; NAMES says which say little.
+PLACE = re.compile(r"(?m)^(?:note: )?(?:\./)?(?:proofs/\S+?:\d+:\d+: (?!.*(?:has no|is not in scope|was not admitted))|\S+?:\d+:\d+: it is not proved).*$")
+# What the prover says where it meets a limit of its own, which it meets wherever it checks the same.
+LIMIT = re.compile(r"antt ran out of (stack|the (steps|memory) that the check)|outgrew the memory limit|stopped at the step limit")
+
+
+def is_bad(said):
+    """Returns whether a check did not come to its proofs, since it can't read a text or a rule of the language is broken."""
+    return "logic=not-proved" not in said or re.search(r"(?m)^\S+:\d+:\d+: error\[[\w-]+\]", said)
+
+
+def linked(one, other):
+    """Makes a file another name of this one, or a copy where that can't be."""
+    try:
+        os.link(one, other)
+    except OSError:
+        shutil.copy2(one, other)
+
+
+class Copy:
+    """A copy of a crate in which edits are tried: its text, with what a check of it left, or with nothing. It stands in a folder
+    of its own, beside the other crates as they are, with what was kept of them as libraries."""
+
+    def __init__(self, crate, files, with_kept):
+        self.files, self.room = files, tempfile.TemporaryDirectory(prefix="edits-")
+        shutil.copy(f"{TOP}/crates.txt", self.room.name)
+        for it in os.listdir(f"{TOP}/crates"):
+            if it != crate:
+                left_out = shutil.ignore_patterns("incremental", "edits", "*.unproved")
+                shutil.copytree(f"{TOP}/crates/{it}", f"{self.room.name}/crates/{it}", ignore=left_out, copy_function=linked)
+        self.folder, self.kept = f"{self.room.name}/crates/{crate}", f"{TOP}/crates/{crate}/out/incremental"
+        os.makedirs(f"{self.folder}/out")
+        if with_kept and os.path.isdir(self.kept):
+            shutil.copytree(self.kept, f"{self.folder}/out/incremental")
+
+    def said(self, edits):
+        """Returns the status and the output of a check of the crate with these edits; or None, where one doesn't fit the text."""
+        texts = dict(self.files)
+        for edit in edits:
+            changed = edit.applied(texts)
+            if changed is None:
+                return None
+            texts |= changed
+        for path, text in texts.items():
+            os.makedirs(os.path.dirname(f"{self.folder}/{path}"), exist_ok=True)
+            with open(f"{self.folder}/{path}", "w", encoding="utf-8") as it:
+                it.write(text)
+        ran = subprocess.run(["rt", "check", "--jobs", "1"], cwd=self.folder, stdin=subprocess.DEVNULL, stdout=subprocess.PIPE,
+                             stderr=subprocess.STDOUT, text=True, errors="replace")
+        return ran.returncode, ran.stdout
+
+    def tried(self, group):
+        """Returns for each of these edits that the check refuses what it says of it. They are of different functions, or there
+        is only one."""
+        ran = self.said([edit for _, edit in group])
+        if ran is None:
+            return {}
+        status, said = ran
+        if status == 3 and len(group) == 1 and LIMIT.search(said):
+            return {group[0][1]: f"refused, only by a limit of the prover: {LIMIT.search(said)[0]}"}
+        if status != 1 or is_bad(said):
+            return {}
+        found = refusals(said, [it for it, _ in group if it])
+        told = {edit: found[function.key] for function, edit in group if function and function.key in found}
+        at = PLACE.search(said)
+        told |= {edit: at[0] for function, edit in group if function is None and at}
+        return {edit: f"refused: {line[:160]}" for edit, line in told.items()}
+
+
 class Trial:
     """The edits of one crate, and those of them that were refused."""
 
-    def __init__(self, kit, crate, together, line):
-        self.kit, self.crate, self.name, self.at_most, self.line = kit, crate, crate.name, together, line
-        self.sources = Sources(self.name)
-        self.edits, self.lock, self.hashes = edits_of(self.name), threading.Lock(), self.sources.hashes()
-        self.kept = f"{crate.folder}/out/edits"
+    def __init__(self, crate, together, line):
+        self.crate, self.at_most, self.line, self.lock = crate, together, line, threading.Lock()
+        self.sources, self.edits = Sources(crate), edits_of(crate)
+        self.hashes = {it: self.sources.hash_of(it) for it in self.edits}
+        self.kept = f"{TOP}/crates/{crate}/out/edits"
         found = verdicts(line)[1]
-        self.came = {whole for name, whole in self.hashes.items() if found.get(name) == whole}
+        self.came = {it for it in self.edits if found.get(it.name) == self.hashes[it]}
         if os.path.exists(self.kept):
             with open(self.kept) as it:
                 kept = {line.strip() for line in it}
-            self.came |= {it for it in self.hashes.values() if f"{it} {logic_of(line)}" in kept}
-
-    def is_refused(self, edit):
-        return self.hashes[name_of(edit)] in self.came
+            self.came |= {it for it in self.edits if f"{self.hashes[it]} {logic_of(line)}" in kept}
 
     def left(self):
-        return [it for it in self.edits if not self.is_refused(it)]
+        return [it for it in self.edits if it not in self.came]
 
-    def keep(self, edit, refused, told, how):
-        if refused:
-            whole = self.hashes[name_of(edit)]
+    def keep(self, edit, told, how):
+        """Prints what came of an edit, and keeps it where it was refused."""
+        if told:
             with self.lock, open(self.kept, "a") as it:
-                self.came.add(whole)
-                it.write(f"{whole} {logic_of(self.line)}\n")
-        print(f"{name_of(edit)}: {told} ({how})", flush=True)
-
-    def refused(self):
-        return [it for it in self.edits if self.is_refused(it)]
-
-    def record(self):
-        """Keeps the verdicts on what was refused of the text that was tried."""
-        record(self.line, {name_of(it): self.hashes[name_of(it)] for it in self.refused()})
+                self.came.add(edit)
+                it.write(f"{self.hashes[edit]} {logic_of(self.line)}\n")
+        print(f"{edit.name}: {told or 'NOT REFUSED for itself'} ({how})", flush=True)
 
     def ready(self):
-        """Checks the crate over what its out/ has, and so brings that up to date; returns whether it is proved."""
-        flags = ["--jobs", "2"]
-        with tempfile.TemporaryFile("w+") as log:
-            for it in self.crate.below():
-                it.out = log
-                if it.build_rlib(flags, anew=False):
-                    log.seek(0)
-                    print(f"{self.name} waits for {it.name}, which is not proved: {log.read()[-300:]}", flush=True)
-                    return False
-        words = [self.kit.rtlib.RATTLE, "check", *self.crate.words(flags), *self.kit.rtlib.KEPT]
-        ran = subprocess.run(words, cwd=self.crate.folder, stdin=subprocess.DEVNULL, capture_output=True, text=True)
+        """Checks the crate as it stands, and so brings what is kept of it up to date; returns whether it is proved."""
+        ran = subprocess.run(["rt", "check"], cwd=f"{TOP}/crates/{self.crate}", stdin=subprocess.DEVNULL, capture_output=True, text=True)
         if ran.returncode:
-            print(f"{self.name} is not proved as it stands: {ran.stdout.strip()[-300:]}", flush=True)
+            print(f"{self.crate} is not proved as it stands: {ran.stdout.strip()[-300:]}", flush=True)
         return not ran.returncode
 
     def groups(self, edits):
-        """Returns the edits in groups, in each of which no two change the same function: each group by its functions."""
+        """Returns the edits in groups, each beside its function, in each of which no two change the same function."""
         found = []
         for edit in edits:
             function = function_of(edit, self.sources)
-            key = function.key if function else None
-            room = next((it for it in found if key and None not in it and key not in it and len(it) < self.at_most), None)
+            keys = {function.key} if function else set()
+            room = next((it for it in found if keys and it[0] and not keys & it[0] and len(it[1]) < self.at_most), None)
             if room is None:
-                room = {}
+                room = set(), []
                 found.append(room)
-            room[key] = function, edit
-        return found
+            room[0].update(keys)
+            room[1].append((function, edit))
+        return [it for _, it in found]
 
     def try_group(self, group):
-        """Tries the edits of a group together, and those that are not refused so alone, over a copy of the crate's kept work;
-        and from nothing what is not refused even so, and all where the crate itself is not proved over that copy any more."""
-        with tempfile.TemporaryDirectory(prefix="edits-") as room:
-            kept = f"{room}/kept"
-            shutil.copytree(f"{self.crate.folder}/out/incremental", kept)
-            came, took = self.together(group, kept) if len(group) > 1 else {}, {}
-            for _, edit in group.values():
-                if edit not in came:
-                    at = time.time()
-                    came[edit] = self.alone(edit, kept)
-                    took[edit] = f"alone, {time.time() - at:.0f} s"
-            is_sound = not self.kit.checked(self.crate, {}, ["--jobs", "1"], kept).returncode
-        for edit, (refused, told) in came.items():
-            if not (refused and is_sound):
-                refused, told = self.alone(edit, None)
-                took[edit] = "from nothing"
-            self.keep(edit, refused, told, took.get(edit, f"with {len(group) - 1} others"))
-
-    def alone(self, edit, kept):
-        came, told = self.kit.must_fail(self.crate, edit, ["--jobs", "1"], kept)
-        return came in (self.kit.REFUSED, self.kit.AT_LIMIT), told.partition(": ")[2]
-
-    def together(self, group, kept):
-        """Returns what a check of the crate with all these edits says of each whose function it refuses."""
-        texts = {}
-        with tempfile.TemporaryDirectory(prefix="edits-text-") as room:
-            for part in self.kit.rtlib.PARTS:
-                if os.path.isdir(f"{self.crate.folder}/{part}"):
-                    shutil.copytree(f"{self.crate.folder}/{part}", f"{room}/{part}")
-            for _, edit in group.values():
-                changed, why = self.kit.read_edit(edit, room)
-                if why:
-                    return {}
-                for path, text in changed.items():
-                    texts[path] = text
-                    with open(f"{room}/{path}", "w", encoding="utf-8") as it:
-                        it.write(text)
-        ran = self.kit.checked(self.crate, texts, ["--jobs", "1"], kept)
-        lines = ran.stdout.rstrip("\n").split("\n")
-        reached = ran.returncode == 1 and lines[-1].startswith("logic=not-proved")
-        if not reached or any(self.kit.unread(it, texts) for it in lines) or self.kit.rtlib.STALE.search(ran.stdout):
-            return {}
-        found = refusals(ran.stdout, [it for it, _ in group.values()])
-        return {edit: (True, f"refused: {found[it][:160]}") for it, (_, edit) in group.items() if it in found}
+        """Tries the edits of a group together, those that are not refused so by themselves, and from nothing what is not refused
+        even so, or where the crate itself is not proved over what is kept any more."""
+        copy, came = Copy(self.crate, self.sources.files, True), {}
+        told = copy.tried(group) if len(group) > 1 else {}
+        for function, edit in group:
+            if edit in told:
+                came[edit] = told[edit], f"with {len(group) - 1} others"
+            else:
+                came[edit] = copy.tried([(function, edit)]).get(edit), "by itself"
+        is_sound = copy.said([])[0] == 0
+        for function, edit in group:
+            if not came[edit][0] or not is_sound:
+                came[edit] = Copy(self.crate, self.sources.files, False).tried([(function, edit)]).get(edit), "from nothing"
+            self.keep(edit, *came[edit])
 
 
 def try_all(names, jobs, together):
-    kit, now = the_kit(), version()
-    kit.rtlib.guarded()
     os.chdir(TOP)
-    crates = {it.name: it for it in kit.rtlib.crates_below(TOP)}
-    trials = [Trial(kit, crates[it], together, now) for it in names]
-    todo = queue.SimpleQueue()
+    now, todo = version(), queue.SimpleQueue()
+    trials = [Trial(it, together, now) for it in names]
     for trial in trials:
         left = trial.left()
-        print(f"{trial.name}: {len(trial.edits)} edits, {len(left)} to be tried", flush=True)
+        print(f"{trial.crate}: {len(trial.edits)} edits, {len(left)} to be tried", flush=True)
         if left and trial.ready():
             for group in trial.groups(left):
                 todo.put((trial, group))
@@ -531,11 +542,10 @@ def try_all(names, jobs, together):
         it.join()
     passed = failed = 0
     for trial in trials:
-        refused = trial.refused()
-        passed, failed = passed + len(refused), failed + len(trial.edits) - len(refused)
-        for edit in sorted({*trial.edits} - {*refused}):
-            print(f"FAILED: {trial.name}/{os.path.basename(edit)}")
-        trial.record()
+        passed, failed = passed + len(trial.came), failed + len(trial.left())
+        for edit in trial.left():
+            print(f"FAILED: {edit.name}")
+        record(now, {it.name: trial.hashes[it] for it in trial.came})
     print(f"{passed} passed, {failed} failed")
     return 1 if failed else 0
 

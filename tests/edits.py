@@ -30,9 +30,10 @@ several functions, ..) rests on all sources, specs and proofs of the crate. Othe
 Edits are tried by `rt check`, in a copy of the crate with what a check of it left. Edits of different functions are tried
 together: each of these functions has to be refused for itself, at a place in its body or in its own proof (in that of its
 circle, at a goal of its own). One that is not refused so is tried by itself, and at last from nothing. What makes a text that
-the prover can't read, or that breaks a rule of the language, is not refused. As many checks run side by side as there are
-processors. Which edits were refused is kept in the crate's out/edits, so that a run that was ended goes on where it stopped.
-The last line is `N passed, M failed`, and counts edits.
+the prover can't read, or that breaks a rule of the language, is not refused; where the prover meets a limit of its own with
+an edit by itself, the edit is refused, and that is told. As many checks run side by side as there are processors. Which edits
+were refused is kept in the crate's out/edits, so that a run that was ended goes on where it stopped. The last line is
+`N passed, M failed`, and counts edits.
 
 Lines of a source that are a comment count for no hash, nor do those that say no more than how a function is to be inlined:
 they are hints to the compiler that makes a program of what is proved. No proof sees either.
@@ -383,8 +384,8 @@ def refusals(said, functions):
     return found
 
 
-# A line that tells a place in a proof that is not one any more, or of which nothing is proved; NAMES says which say little.
-PLACE = re.compile(r"(?m)^(?:note: )?(?:\./)?(?:proofs/\S+?:\d+:\d+: (?!.*(?:has no|is not in scope|was not admitted))|\S+?:\d+:\d+: it is not proved).*$")
+# A line that tells a place in a proof that is not one any more, or of which it is not proved what it has to be.
+PLACE = re.compile(r"(?:note: )?(?:\./)?(?:proofs/\S+?:\d+:\d+: |\S+?:\d+:\d+: it is not proved)")
 # What the prover says where it meets a limit of its own, which it meets wherever it checks the same.
 LIMIT = re.compile(r"antt ran out of (stack|the (steps|memory) that the check)|outgrew the memory limit|stopped at the step limit")
 
@@ -447,8 +448,8 @@ class Copy:
             return {}
         found = refusals(said, [it for it, _ in group if it])
         told = {edit: found[function.key] for function, edit in group if function and function.key in found}
-        at = PLACE.search(said)
-        told |= {edit: at[0] for function, edit in group if function is None and at}
+        at = next((it for it in said.split("\n") if PLACE.match(it) and not NAMES.match(it)), None)
+        told |= {edit: at for function, edit in group if function is None and at}
         return {edit: f"refused: {line[:160]}" for edit, line in told.items()}
 
 
@@ -480,7 +481,8 @@ class Trial:
 
     def ready(self):
         """Checks the crate as it stands, and so brings what is kept of it up to date; returns whether it is proved."""
-        ran = subprocess.run(["rt", "check"], cwd=f"{TOP}/crates/{self.crate}", stdin=subprocess.DEVNULL, capture_output=True, text=True)
+        folder = f"{TOP}/crates/{self.crate}"
+        ran = subprocess.run(["rt", "check"], cwd=folder, stdin=subprocess.DEVNULL, capture_output=True, text=True)
         if ran.returncode:
             print(f"{self.crate} is not proved as it stands: {ran.stdout.strip()[-300:]}", flush=True)
         return not ran.returncode

@@ -1,6 +1,6 @@
 -- The index: what it is once a name comes or goes, and what a look-up by it finds.
 use Rattle.std.proofs.Common.{◌≡◌, ◌≢◌, ℕ, suc, ◌+◌, ◌-◌, ◌<◌, ◌≤◌, Bool, true, false, cond, eqb, nat_lt, List, [], ◌∷◌}
-use Rattle.std.proofs.Common.{◌++◌, length, get_or, set, remove, replicate, position, Option, Some, None, IfSome, Vec}
+use Rattle.std.proofs.Common.{◌++◌, length, get_or, set, remove, replicate, position, Some, None, Vec}
 use Rattle.std.proofs.Common.{vec_len, slice_index, refl, sym, ap, subst, ◌∙◌, arith, true≢false, get_or-set_other}
 use Rattle.std.proofs.lemmas.Bool.{cases_lt, eqb-true, eq-eqb, lt-ltb}
 use Rattle.std.proofs.lemmas.Bool.Decides.{eqb_tells, nat_tests}
@@ -17,7 +17,6 @@ use Rattle.std.specs.List.{IsDistinct, position_or_len}
 use Rattle.std.specs.Str.{bytes_eq}
 use Rattle.std.specs.Vec.{with_item}
 use Rattle.std.specs.declared.alloc.Global.{Global}
-use Rattle.std.specs.declared.boxed.Box.{Box}
 use mathlib.Core.Logic.{inl, inr}
 use Rattle.openapi_map.specs.Entries.{Entries, entries_of, names_of, get, HasDistinctNames}
 use Rattle.openapi_map.specs.Index.{bucket, link_at, moved_link, HasPlace, IsIndex, IsIndexAt}

@@ -20,7 +20,7 @@ ghost use Rattle.openapi_map.specs.Lends.{lends_index, lends_name, lends_place};
 
 pub use crate::entry::{Entry, OccupiedEntry, VacantEntry};
 pub use crate::iter::{IntoIter, Iter, Keys, Values};
-use crate::lookup::{add_name, drop_name, kept_entries, place_in, Names};
+use crate::lookup::{Names, add_name, drop_name, kept_entries, place_in};
 use std::alloc::{AllocError, Global};
 use std::marker::Model;
 use std::mem;

@@ -51,7 +51,11 @@ fn mark_of(name: &str) -> usize
     ensures within { result < 64 }
 {
     let bytes = name.as_bytes();
-    let first = if bytes.is_empty() { 0 } else { bytes[0] as usize };
+    let first = if bytes.is_empty() {
+        0
+    } else {
+        bytes[0] as usize
+    };
     (bytes.len() + 8 * first) % 64
 }
 

@@ -6,7 +6,7 @@ ghost use Rattle.openapi_map.specs.Entries.{entries_of, names_of};
 ghost use Rattle.openapi_map.specs.Held.{kept, IsHeldIndexed};
 ghost use Rattle.openapi_map.specs.Index.{HasRoomFor, IsIndexAt};
 
-use crate::lookup::{marks_of, Names};
+use crate::lookup::{Names, marks_of};
 use crate::{Held, Member, OrderedMap};
 
 /// Keeps the entries for which `keep` answers true, in their order.

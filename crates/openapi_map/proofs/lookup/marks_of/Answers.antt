@@ -15,8 +15,8 @@ loop-entry-preserved g c =
     let within : i < length es = omega (arith, c.loop-entry-test.true, ap length items) in
     let name = c.as_str.ensures.value ∙ ap (λ x. string_bytes x.name) (c.entry-item.is ∙ ap (λ xs. get_or xs i e) items) in
     let longer = ap (λ x. take i (names_of es) ++ x ∷ []) name ∙ names-next es i e within in
-    subst (λ ns. AreMarked ns c.with_mark.result) longer
-    (subst (AreMarked (take i (names_of es) ++ c.as_str.result.now ∷ [])) (sym c.with_mark.ensures)
+    subst (λ ns. AreMarked ns c.with_mark-marks.result) longer
+    (subst (AreMarked (take i (names_of es) ++ c.as_str.result.now ∷ [])) (sym c.with_mark-marks.ensures)
     (marked-push (take i (names_of es)) c.as_str.result.now c.loop-entry.marks c.loop-entry.invariant))
 
 pub returns : goal.returns

@@ -110,6 +110,7 @@ fn sample(alloc: Global) -> Result<OrderedMap<u8>, AllocError> {
 fn gives_its_entries(rt: HostRuntime) -> Result<(), Fail> {
     let alloc = rt.alloc();
     let map = sample(alloc)?;
+    assert!(rt; map.len() == 3);
     assert_eq!(rt;
         (map.first(), map.last()),
         (Some(("b", &1)), Some(("c", &3)))

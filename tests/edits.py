@@ -331,7 +331,10 @@ class Function:
 
     def __init__(self, item):
         self.item, self.file, self.name, self.lines = item, item.file, item.name, item.lines
-        self.owner = item.block and (item.block.name or owner_in(re.sub(r"\s+", " ", item.block.opening))) or ""
+        head = re.sub(r"\s+", " ", item.block.opening) if item.block else ""
+        self.owner = item.block and (item.block.name or owner_in(head)) or ""
+        # What a trait is of stands behind its name, as the prover calls an impl of it.
+        self.more = r"\w*" if re.match(r"impl(?:<[^>]*>)? (?:\w+::)*\w+<.*> for ", head) else ""
         cycle = re.search(r"#\[cycle\((\w+)\)\]", item.text)
         self.cycle = cycle[1] if cycle else ""
         inside = self.file.removeprefix("src/").removesuffix(".rt").replace("/", "::")
@@ -358,7 +361,7 @@ class Function:
             own = rf"`{self.name}-"
             return at[1].startswith(f"{proofs}+{self.cycle}/") and bool(re.search(own, at[3])) and "error" in at[3]
         # The proofs of an impl stand with its type, in whatever file the impl is.
-        own = rf"proofs/(\S*/)?{self.owner}/{self.name}/" if self.owner else rf"{proofs}{self.name}/"
+        own = rf"proofs/(\S*/)?{self.owner}{self.more}/{self.name}/" if self.owner else rf"{proofs}{self.name}/"
         return bool(re.match(own, at[1])) and "error" in at[3]
 
 

@@ -2,5 +2,6 @@ pub mod Left
 pub mod Numbers
 pub mod Order
 pub mod Printed
+pub mod Shuffled
 pub mod Sorted
 pub mod Turns

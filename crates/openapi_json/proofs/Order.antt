@@ -24,7 +24,8 @@ use Rattle.openapi_json.proofs.Sorted.{some_same}
 pub turned : (n m : List ℕ) {o : Ordering} → slice_cmp nat_cmp n m ≡ o → slice_cmp nat_cmp m n ≡ ordering_reverse o
 turned n m is = nat_list_cmp_total.antisymm m n ∙ ap ordering_reverse is
 
-equal_names : (n m : List ℕ) → slice_cmp nat_cmp n m ≡ Equal → n ≡ m
+-- names of which none is below the other are the same
+pub equal_names : (n m : List ℕ) → slice_cmp nat_cmp n m ≡ Equal → n ≡ m
 equal_names n m e = same_text n m (sym (ap is_eq e) ∙ is_eq-slice_cmp n m)
 
 rises_ascends : (k : List ℕ) (es : Entries Tree) → Rises k es → Ascends es

@@ -1,17 +1,15 @@
 -- Members in the order of their names, as they stand and as data.
-use Rattle.std.proofs.Common.{◌≡◌, ℕ, zero, suc, ◌<◌, ◌≤◌, List, [], ◌∷◌, ◌++◌, take, slice_get, length, Some, Bor, ◌+◌}
-use Rattle.std.proofs.Common.{Ordering, Less, Equal, Greater, nat_cmp, refl, sym, ap, ◌∙◌, arith, append_assoc, append-nil}
+use Rattle.std.proofs.Common.{◌≡◌, ℕ, zero, suc, ◌<◌, ◌≤◌, List, [], ◌∷◌, ◌++◌, slice_get, length, Some}
+use Rattle.std.proofs.Common.{Less, Greater, nat_cmp, refl, sym, ap, ◌∙◌, arith, append_assoc, append-nil}
 use Rattle.std.proofs.lemmas.Cmp.{nat_list_cmp_total}
-use Rattle.std.specs.BTreeMap.{insert_entry}
 use Rattle.std.specs.Cmp.Lexicographic.{slice_cmp}
 use Rattle.std.specs.Ordering.{match_ordering, ordering_reverse}
-use Rattle.serde_json.specs.Data.{Members, no_members, member, put}
+use Rattle.serde_json.specs.Data.{no_members, member, put}
 use Rattle.openapi_map.specs.Entries.{Entries}
 use Rattle.openapi_node.specs.Json.{data_of, members_data}
 use Rattle.openapi_node.specs.Tree.{Tree, members_of, members_size, size_of}
-use Rattle.openapi_node.proofs.TreeLemmas.{take_next}
 use Rattle.openapi_json.specs.Gathered.{AllBelow, Rises, Ascends}
-use Rattle.openapi_json.specs.Writing.{AllFit, lent, standing}
+use Rattle.openapi_json.specs.Writing.{standing}
 
 abbrev Named : Type 0
 Named = List ℕ × Tree
@@ -68,49 +66,6 @@ rises e (f ∷ es) h =
 pub all_ascending : (es : Entries Tree) → AscendsTo (length es) es → Ascends es
 all_ascending [] h = tt
 all_ascending (e ∷ es) h = rises e es h
-
--- a lent pair goes among lent pairs as its data goes among data
-standing-match : (o : Ordering) (a b c : List (Bor (List ℕ) × Bor Tree)) → standing (lent (match_ordering o a b c))
-    ≡ match_ordering o (standing (lent a)) (standing (lent b)) (standing (lent c))
-standing-match Less a b c = refl
-standing-match Equal a b c = refl
-standing-match Greater a b c = refl
-
-abbrev pub name_cmp : Bor (List ℕ) → Bor (List ℕ) → Ordering
-name_cmp a b = slice_cmp nat_cmp a.now b.now
-
--- a lent pair that is inserted among lent pairs is put among their data
-pub lent-insert : (es : List (Bor (List ℕ) × Bor Tree)) (k : Bor (List ℕ)) (v : Bor Tree)
-    → standing (lent (insert_entry name_cmp es k v)) ≡ put k.now (data_of v.now) (standing (lent es))
-lent-insert [] k v = refl
-lent-insert (e ∷ es) k v = standing-match (name_cmp k e.0) _ _ _ ∙ rw (lent-insert es k v)
-
-members_data-push : (ms : Entries Tree) (e : Named) (ds : Members)
-    → members_data (members_of (ms ++ e ∷ [])) ds ≡ put e.0 (data_of e.1) (members_data (members_of ms) ds)
-members_data-push [] e ds = refl
-members_data-push (m ∷ ms) e ds = members_data-push ms e (put m.0 (data_of m.1) ds)
-
--- the data of one member more is that of the members before it, with the member put among them
-pub put_next : (ms : Entries Tree) (i : ℕ) (e : Named) → slice_get ms i ≡ Some e
-    → members_data (members_of (take (i + 1) ms)) no_members
-    ≡ put e.0 (data_of e.1) (members_data (members_of (take i ms)) no_members)
-put_next ms i e at = ap (λ l. members_data (members_of l) no_members) (take_next ms i e at)
-    ∙ members_data-push (take i ms) e no_members
-
--- and none is larger than all members together
-fit-match : (s : ℕ) (o : Ordering) (a b c : List (Bor (List ℕ) × Bor Tree)) → AllFit s (lent a) → AllFit s (lent b)
-    → AllFit s (lent c) → AllFit s (lent (match_ordering o a b c))
-fit-match s Less a b c x y z = x
-fit-match s Equal a b c x y z = y
-fit-match s Greater a b c x y z = z
-
--- lent trees that fit a size still do once one more that fits is inserted
-pub fit-insert : (s : ℕ) (es : List (Bor (List ℕ) × Bor Tree)) (k : Bor (List ℕ)) (v : Bor Tree) → AllFit s (lent es)
-    → size_of v.now ≤ s → AllFit s (lent (insert_entry name_cmp es k v))
-fit-insert s [] k v h g = (g, tt)
-fit-insert s (e ∷ es) k v h g =
-    fit-match s (name_cmp k e.0) ((k, v) ∷ e ∷ es) ((e.0, v) ∷ es) (e ∷ insert_entry name_cmp es k v) (g, h) (g, h.1)
-    (h.0, fit-insert s es k v h.1 g)
 
 -- a member is no larger than all members together
 pub fits_in : (ms : Entries Tree) (i : ℕ) (e : Named) → slice_get ms i ≡ Some e → size_of e.1 ≤ members_size (members_of ms)

@@ -1,6 +1,7 @@
 -- The tokens that a tree is written as.
-use Rattle.std.specs.Prelude.{ℕ, ◌≤◌, List, [], ◌∷◌}
+use Rattle.std.specs.Prelude.{ℕ, ◌≤◌, List, [], ◌∷◌, map}
 use Rattle.std.specs.Borrow.{Bor}
+use Rattle.std.specs.List.{AllByRecursion}
 use Rattle.json.specs.Token.{Token}
 use Rattle.json.specs.Tree.{json_tokens, items_tokens, members_tokens}
 use Rattle.serde_json.specs.Data.{Data, Items, Members, no_members, member}
@@ -24,12 +25,10 @@ abbrev pub standing : Entries Tree → Members
 standing [] = no_members
 standing (e ∷ es) = member e.0 (data_of e.1) (standing es)
 
--- the same of names and trees that are lent
+-- the members of names and trees that are lent
 abbrev pub lent : List (Bor (List ℕ) × Bor Tree) → Entries Tree
-lent [] = []
-lent (e ∷ es) = (e.0.now, e.1.now) ∷ lent es
+lent es = map (λ e. (e.0.now, e.1.now)) es
 
 -- none of the trees is larger than a size
 abbrev pub AllFit : ℕ → Entries Tree → Type 0
-AllFit s [] = Unit {0}
-AllFit s (e ∷ es) = (size_of e.1 ≤ s) × AllFit s es
+AllFit s es = AllByRecursion (λ e. size_of e.1 ≤ s) es

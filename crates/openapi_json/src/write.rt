@@ -13,7 +13,6 @@ use openapi_map::OrderedMap;
 use openapi_node::{Node, Steps, View, Whole};
 use std::alloc::{AllocError, Global};
 use std::cmp::Ordering;
-use std::collections::BTreeMap;
 
 /// The compact JSON text of a node, with the members of each object in the order of their names.
 ///
@@ -59,15 +58,15 @@ fn are_in_order(members: &OrderedMap<Node>) -> bool
 fn by_name<'a>(
     alloc: Global,
     members: &'a OrderedMap<Node>,
-) -> Result<BTreeMap<&'a str, &'a Node>, AllocError>
-    ensures same { IfOk result (λ m. standing (lent m.entries) ≡ members_data (members_of members.now) no_members) }
-    ensures fit { IfOk result (λ m. AllFit (members_size (members_of members.now)) (lent m.entries)) }
+) -> Result<Vec<(&'a str, &'a Node)>, AllocError>
+    ensures same { IfOk result (λ m. standing (lent m.items) ≡ members_data (members_of members.now) no_members) }
+    ensures fit { IfOk result (λ m. AllFit (members_size (members_of members.now)) (lent m.items)) }
 {
-    let mut sorted = BTreeMap::new(alloc);
+    let mut sorted = Vec::with_capacity(alloc, members.len())?;
     for i in 0..members.len() {
-        let (name, node) = members.entry_at(i);
-        drop(sorted.insert(name, node)?);
+        sorted.push_reserved(members.entry_at(i));
     }
+    sorted.sort_unstable_by_key(|entry| entry.0);
     Ok(sorted)
 }
 

@@ -1,4 +1,5 @@
 use Rattle.std.proofs.Common.{◌≡◌, ◌+◌, ◌*◌, ◌++◌, drop}
+use Rattle.std.specs.Vec.Iter.{into_iter_items}
 use Rattle.openapi_node.specs.Json.{items_data}
 use Rattle.openapi_node.specs.Tree.{size_of, items_size, members_size, items_of, members_of}
 use Rattle.openapi_json.specs.Writing.{AllFit, items_data_tokens, lent, members_data_tokens, standing}
@@ -28,10 +29,10 @@ invariant-write_items-loop-item l =
 abbrev pub invariant-write_members-loop-name : goal.invariant-write_members-loop-name
 invariant-write_members-loop-name l =
     record {
-      written : l.out.tokens ++ members_data_tokens (standing (lent l.name-iterator))
-          ≡ l.initial.out.tokens ++ members_data_tokens (standing (lent l.initial.name-iterator));
+      written : l.out.tokens ++ members_data_tokens (standing (lent (into_iter_items l.name-iterator)))
+          ≡ l.initial.out.tokens ++ members_data_tokens (standing (lent (into_iter_items l.initial.name-iterator)));
       before : l.out.before ≡ l.initial.out.before;
-      fit : AllFit (members_size (members_of l.fn.members)) (lent l.name-iterator);
+      fit : AllFit (members_size (members_of l.fn.members)) (lent (into_iter_items l.name-iterator));
     }
 
 abbrev pub invariant-write_standing-loop-i : goal.invariant-write_standing-loop-i

@@ -1,23 +1,37 @@
-use Rattle.std.proofs.Common.{ap, subst, sym, ◌∙◌}
-use Rattle.openapi_node.specs.Json.{data_of}
-use Rattle.openapi_node.specs.Tree.{members_of, members_size}
-use Rattle.serde_json.specs.Data.{put}
-use Rattle.openapi_json.specs.Writing.{AllFit, lent, standing}
-use Rattle.openapi_json.proofs.Sorted.{fit-insert, fits_in, lent-insert, put_next}
+use Rattle.std.proofs.Common.{◌≡◌, ◌∷◌, [], ◌++◌, subst, sym, ap, ◌∙◌, arith, rules}
+use Rattle.std.proofs.lemmas.List.{map-append, take_all}
+use Rattle.std.proofs.lemmas.List.Sorted.{IsPermutation-map, answers_always}
+use Rattle.std.specs.List.Sorted.{IsPermutation}
+use Rattle.openapi_node.proofs.TreeLemmas.{take_next}
+use Rattle.openapi_json.specs.Writing.{lent}
+use Rattle.openapi_json.proofs.Shuffled.{data_still, distinct_still, fit_still, lent_ascends}
+use Rattle.openapi_json.proofs.Sorted.{ascending}
 use Rattle.openapi_json.proofs.write.by_name.Goals as goal
 
 pub loop-i-preserved : goal.loop-i-preserved
 loop-i-preserved c =
     let ms = c.args.members.now in
-    let l = c.loop-i.invariant in
     let i = c.loop-i.i in
-    let k = c.entry_at.result.0 in
-    let v = c.entry_at.result.1 in
-    let at = c.entry_at.ensures in
-    let put_in = c.in_ok-insert.ensures.entries in
-    record {
-      same = ap (λ es. standing (lent es)) put_in ∙ lent-insert c.loop-i.sorted.entries k v
-          ∙ ap (put k.now (data_of v.now)) l.same ∙ sym (put_next ms i (k.now, v.now) at);
-      fit = subst (λ es. AllFit (members_size (members_of ms)) (lent es)) (sym put_in)
-          (fit-insert (members_size (members_of ms)) c.loop-i.sorted.entries k v l.fit (fits_in ms i (k.now, v.now) at));
-    }
+    let e = c.entry_at.result in
+    ap lent c.push_reserved.ensures.items ∙ map-append (λ x. (x.0.now, x.1.now)) c.loop-i.sorted.items (e ∷ [])
+    ∙ ap (λ l. l ++ (e.0.now, e.1.now) ∷ []) c.loop-i.invariant ∙ sym (take_next ms i (e.0.now, e.1.now) c.entry_at.ensures)
+
+pub returns-clause-same : goal.returns-clause-same
+returns-clause-same c =
+    let ms = c.args.members.now in
+    let vs = c.sort_unstable_by_key.new.self.items in
+    let all : lent c.loop-i.sorted.items ≡ ms = c.loop-i.invariant ∙ take_all c.loop-i.i ms (omega (arith, c.loop-i-test.false, c.len-i-end.ensures.len)) in
+    let moved : IsPermutation ms (lent vs) = subst (λ l. IsPermutation l (lent vs)) all
+    (IsPermutation-map (λ x. (x.0.now, x.1.now)) c.loop-i.sorted.items vs c.sort_unstable_by_key.ensures.permutation) in
+    let distinct = c.len-i-end.ensures.distinct in
+    let sorted = c.sort_unstable_by_key.ensures.sorted (λ e. e.0) (answers_always _ _ _ (λ f a r g h. search rules)) in
+    sym (ascending (lent vs) (lent_ascends vs (distinct_still ms (lent vs) moved distinct) sorted))
+    ∙ data_still ms (lent vs) moved distinct
+
+pub returns-clause-fit : goal.returns-clause-fit
+returns-clause-fit c =
+    let ms = c.args.members.now in
+    let vs = c.sort_unstable_by_key.new.self.items in
+    let all : lent c.loop-i.sorted.items ≡ ms = c.loop-i.invariant ∙ take_all c.loop-i.i ms (omega (arith, c.loop-i-test.false, c.len-i-end.ensures.len)) in
+    fit_still ms (lent vs) (subst (λ l. IsPermutation l (lent vs)) all
+    (IsPermutation-map (λ x. (x.0.now, x.1.now)) c.loop-i.sorted.items vs c.sort_unstable_by_key.ensures.permutation))

@@ -1,0 +1,76 @@
+-- Members that are sorted by their names: they have the data that they had, and each name is below the next.
+use Rattle.std.proofs.Common.{◌≡◌, ℕ, zero, suc, ◌+◌, ◌≤◌, List, [], ◌∷◌, get_or, All, Bor, Ordering, Less, Equal}
+use Rattle.std.proofs.Common.{Greater, is_lt, false, true≢false, nat_cmp, refl, sym, subst, ◌∙◌, arith}
+use Rattle.std.proofs.lemmas.List.Elements.{recursion_from_All}
+use Rattle.std.proofs.lemmas.List.Sorted.{All-permutation, IsPermutation-map, IsPermutation-sym, length_permutation}
+use Rattle.std.proofs.lemmas.Map.Keys.{IsDistinct-IsPermutation}
+use Rattle.std.proofs.lemmas.Option.{slice_get-get_or}
+use Rattle.std.proofs.lemmas.Slice.Eq.{bytes_eq-Decides}
+use Rattle.std.specs.Cmp.Lexicographic.{slice_cmp, nat_list_eq_equiv}
+use Rattle.std.specs.List.{AllByRecursion, IsDistinct}
+use Rattle.std.specs.List.Sorted.{IsPermutation, IsSortedByKey}
+use Rattle.std.specs.Map.{keys_of}
+use Rattle.std.specs.Str.{bytes_eq}
+use Rattle.serde_json.specs.Data.{no_members}
+use Rattle.openapi_map.specs.Entries.{Entries, HasDistinctNames}
+use Rattle.openapi_node.specs.Json.{members_data}
+use Rattle.openapi_node.specs.Tree.{Tree, members_of, members_size, size_of}
+use Rattle.openapi_node.proofs.EqualLemmas.{AreFoundIn, IsFoundIn, equal_members, found_from_equal}
+use Rattle.openapi_json.specs.Gathered.{Ascends, Rises}
+use Rattle.openapi_json.specs.Writing.{AllFit, lent}
+use Rattle.openapi_json.proofs.Order.{equal_names, turned}
+use Rattle.openapi_json.proofs.Sorted.{fits_in}
+
+-- members in another order
+module _ (ms ns : Entries Tree) (shuffled : IsPermutation ms ns) where
+  -- they fit what all did
+  pub fit_still : AllFit (members_size (members_of ms)) ns
+  fit_still =
+      let P : List ℕ × Tree → Type 0 = λ e. size_of e.1 ≤ members_size (members_of ms) in
+      recursion_from_All P ns (All-permutation P ms ns shuffled
+      (λ k d h. fits_in ms k (get_or ms k d) (slice_get-get_or ms k d h)))
+
+  module _ (distinct : HasDistinctNames ms) where
+    -- their names still differ
+    pub distinct_still : HasDistinctNames ns
+    distinct_still = IsDistinct-IsPermutation bytes_eq nat_list_eq_equiv.symm (keys_of ms) (keys_of ns)
+        (IsPermutation-map (λ e. e.0) ms ns shuffled) distinct
+
+    as_found : (es : Entries Tree) → AllByRecursion (IsFoundIn ns) es → AreFoundIn ns es
+    as_found [] h = tt
+    as_found (e ∷ es) h = (h.0, as_found es h.1)
+
+    -- and they have the same data
+    pub data_still : members_data (members_of ns) no_members ≡ members_data (members_of ms) no_members
+    data_still =
+        let own : All (IsFoundIn ns) ns = λ k d h. found_from_equal ns ns distinct_still distinct_still refl k (get_or ns k d) (slice_get-get_or ns k d h) in
+        let all = All-permutation (IsFoundIn ns) ns ms (IsPermutation-sym ms ns shuffled) own in
+        let same = equal_members ms ns distinct distinct_still (sym (length_permutation ms ns shuffled))
+        (as_found ms (recursion_from_All (IsFoundIn ns) ms all)) in
+        cc
+
+-- what is lent, in an order in which no name is below the one before it
+abbrev Sorted : List (Bor (List ℕ) × Bor Tree) → Type 0
+Sorted vs = IsSortedByKey (λ e. e.0) (λ (a b : Bor (List ℕ)). slice_cmp nat_cmp a.now b.now) vs
+
+above : (a b : List ℕ) (o : Ordering) → slice_cmp nat_cmp b a ≡ o → is_lt o ≡ false → bytes_eq a b ≡ false
+    → slice_cmp nat_cmp a b ≡ Less
+above a b Less is low apart = absurd (true≢false low)
+above a b Equal is low apart = absurd (true≢false (sym ((bytes_eq-Decides a b).1 (sym (equal_names b a is))) ∙ apart))
+above a b Greater is low apart = turned b a is
+
+lent_rises : (v : Bor (List ℕ) × Bor Tree) (vs : List (Bor (List ℕ) × Bor Tree)) → HasDistinctNames (lent (v ∷ vs))
+    → Sorted (v ∷ vs) → Rises v.0.now (lent vs)
+unfolding IsDistinct
+lent_rises v [] d s = tt
+lent_rises v (w ∷ vs) d s = (
+  above v.0.now w.0.now (slice_cmp nat_cmp w.0.now v.0.now) refl (s zero v (omega arith) (omega arith)) d.0.0,
+  lent_rises w vs d.1 (λ k x a b.
+      subst (λ n. is_lt (slice_cmp nat_cmp (get_or (v ∷ w ∷ vs) n x).0.now (get_or (w ∷ vs) k x).0.now) ≡ false)
+      {x = suc k + 1} {y = suc (k + 1)} (omega arith) (s (suc k) x (omega arith) (omega (arith, b)))),
+)
+
+-- stands in the order of the names, where no two are the same
+pub lent_ascends : (vs : List (Bor (List ℕ) × Bor Tree)) → HasDistinctNames (lent vs) → Sorted vs → Ascends (lent vs)
+lent_ascends [] d s = tt
+lent_ascends (v ∷ vs) d s = lent_rises v vs d s

@@ -236,11 +236,11 @@ trees-insert [] k d = refl
 trees-insert (p ∷ ps) k d = map-match tree_pair (slice_cmp nat_cmp k p.0) _ _ _ ∙ rw (trees-insert ps k d)
 
 -- and no float comes in
-none : (b c : Bool) → (b || c) ≡ false → (b ≡ false) × (c ≡ false)
+pub none : (b c : Bool) → (b || c) ≡ false → (b ≡ false) × (c ≡ false)
 none true c e = cc
 none false c e = (refl, e)
 
-both : (b c : Bool) → b ≡ false → c ≡ false → (b || c) ≡ false
+pub both : (b c : Bool) → b ≡ false → c ≡ false → (b || c) ≡ false
 both b c e f = (λ j. e j || c) ∙ f
 
 whole-match : (o : Ordering) (a b c : List Pair) → members_have_float (pairs_data a) ≡ false

@@ -1,3 +1,4 @@
 pub mod Gathered
+pub mod Ordered
 pub mod Reading
 pub mod Writing

@@ -2,6 +2,7 @@
 //! Nodes from JSON text, and JSON text from nodes, with no value of `serde_json` between the two.
 mod by_value;
 mod fault;
+mod in_order;
 mod members;
 mod number;
 mod read;
@@ -10,4 +11,5 @@ mod write;
 
 pub use by_value::node_from_json;
 pub use fault::JsonFault;
+pub use in_order::node_from_json_in_order;
 pub use write::json_from_node;

@@ -1,7 +1,8 @@
 //! Whole numbers from the text of a token of JSON.
-ghost use Rattle.std.specs.Prelude.{◌≡◌, ◌<◌, ◌==◌, false, true, length, slice_index, IfSome, IsTrue, Some};
+ghost use Rattle.std.specs.Prelude.{◌≡◌, ◌<◌, ◌==◌, false, true, length, slice_index, IfSome, IsTrue, None, Some};
 ghost use Rattle.serde_json.specs.Find.{of_integer};
 ghost use Rattle.serde_json.specs.Read.{number_from, number_of};
+ghost use Rattle.openapi_json.specs.Ordered.{holds_whole, writes_whole};
 
 use fast_float::Numeral;
 use openapi_node::Whole;
@@ -16,7 +17,8 @@ fn has_minus(bytes: &[u8]) -> bool
 
 /// A number with no sign.
 fn natural(numeral: &Numeral<'_>) -> Option<Whole>
-    ensures { IfSome result (λ w. number_from false numeral.now ≡ Some (of_integer w)) }
+    ensures some { IfSome result (λ w. number_from false numeral.now ≡ Some (of_integer w)) }
+    ensures none { result ≡ None → holds_whole (number_from false numeral.now) ≡ false }
 {
     match numeral.to_u64() {
         Some(n) => Some(Whole::from(n)),
@@ -26,7 +28,8 @@ fn natural(numeral: &Numeral<'_>) -> Option<Whole>
 
 /// A number below 0, whose digits stand behind a minus.
 fn below_zero(numeral: &Numeral<'_>) -> Option<Whole>
-    ensures { IfSome result (λ w. number_from true numeral.now ≡ Some (of_integer w)) }
+    ensures some { IfSome result (λ w. number_from true numeral.now ≡ Some (of_integer w)) }
+    ensures none { result ≡ None → holds_whole (number_from true numeral.now) ≡ false }
 {
     if let Some(n) = numeral.to_i64(true) {
         if n < 0 {
@@ -38,7 +41,8 @@ fn below_zero(numeral: &Numeral<'_>) -> Option<Whole>
 
 /// The whole number that a token of JSON writes, where it writes one as `serde_json` reads it.
 pub(crate) fn whole_of(text: &str) -> Option<Whole>
-    ensures { IfSome result (λ w. number_of text.now ≡ Some (of_integer w)) }
+    ensures some { IfSome result (λ w. number_of text.now ≡ Some (of_integer w)) }
+    ensures none { result ≡ None → writes_whole text.now ≡ false }
 {
     let bytes = text.as_bytes();
     if has_minus(bytes) {

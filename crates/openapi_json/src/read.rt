@@ -12,7 +12,7 @@ use openapi_node::Node;
 use std::alloc::Global;
 
 /// How deep arrays and objects may nest, as for `serde_json`.
-const MAX_DEPTH: usize = 127;
+pub(crate) const MAX_DEPTH: usize = 127;
 
 /// The node of bytes that are JSON text whose numbers are whole, with the members of each object in the order of their
 /// names, and of one name the last. It answers [`Unread::Other`] for other bytes, and does not find out why.

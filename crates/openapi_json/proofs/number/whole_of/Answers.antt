@@ -2,6 +2,7 @@ use Rattle.std.proofs.Common.{◌≡◌, drop, get_or, true, false, ◌==◌, If
 use Rattle.fast_float.specs.Text.{scan}
 use Rattle.serde_json.specs.Find.{of_integer}
 use Rattle.serde_json.specs.Read.{number_of, number_from}
+use Rattle.openapi_json.specs.Ordered.{holds_whole}
 use Rattle.openapi_json.proofs.number.whole_of.Goals as goal
 
 pub returns-then-has_minus : goal.returns-then-has_minus
@@ -12,8 +13,11 @@ returns-then-has_minus c =
     let parts : c.scan.result ≡ scan (drop 1 s) =
     c.scan.ensures.parts ∙ ap scan (take_all _ (drop 1 s) (omega (arith, length-drop 1 s))) in
     let read : number_from true (scan (drop 1 s)) ≡ number_of s = rw signed in
-    subst (λ n. IfSome c.below_zero.result (λ w. n ≡ Some (of_integer w)))
-    (ap (number_from true) parts ∙ read ∙ ap number_of c.as_bytes-bytes.ensures.value) c.below_zero.ensures
+    let same = ap (number_from true) parts ∙ read ∙ ap number_of c.as_bytes-bytes.ensures.value in
+    record {
+      some = subst (λ n. IfSome c.below_zero.result (λ w. n ≡ Some (of_integer w))) same c.below_zero.ensures.some;
+      none = λ is. subst (λ n. holds_whole n ≡ false) same (c.below_zero.ensures.none is);
+    }
 
 pub returns-else-has_minus : goal.returns-else-has_minus
 unfolding number_of
@@ -21,6 +25,9 @@ returns-else-has_minus c =
     let s = c.as_bytes-bytes.result.now in
     let unsigned : (get_or s 0 0 == 45) ≡ false = sym c.if-has_minus.ensures.value in
     let read : number_from false (scan s) ≡ number_of s = rw unsigned in
-    subst (λ n. IfSome c.natural.result (λ w. n ≡ Some (of_integer w)))
-    (ap (number_from false) c.scan-else-has_minus.ensures.parts ∙ read ∙ ap number_of c.as_bytes-bytes.ensures.value)
-    c.natural.ensures
+    let same =
+    ap (number_from false) c.scan-else-has_minus.ensures.parts ∙ read ∙ ap number_of c.as_bytes-bytes.ensures.value in
+    record {
+      some = subst (λ n. IfSome c.natural.result (λ w. n ≡ Some (of_integer w))) same c.natural.ensures.some;
+      none = λ is. subst (λ n. holds_whole n ≡ false) same (c.natural.ensures.none is);
+    }

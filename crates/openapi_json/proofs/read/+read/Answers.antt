@@ -120,7 +120,7 @@ read_node-returns-in-Some-clause-ok t c =
       json = json.number s;
       reads = ap (value c.args.depth) is ∙ value_is c.args.depth _;
       value = number (of_integer w);
-      converts = ap (option_map number) c.in-Some.ensures;
+      converts = ap (option_map number) c.in-Some.ensures.some;
       is = record { whole_numbers = no_float w; same = c.whole.ensures ∙ sym (whole_tree w) };
     }
 

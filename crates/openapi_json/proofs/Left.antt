@@ -4,9 +4,9 @@ use Rattle.std.proofs.lemmas.List.{drop_more}
 use Rattle.std.proofs.lemmas.Option.{get_or_from_slice_get, slice_get_within}
 use Rattle.json.specs.Token.{Token}
 use Rattle.openapi_map.specs.Entries.{Entries}
-use Rattle.openapi_node.specs.Json.{data_of}
 use Rattle.openapi_node.specs.Tree.{Tree}
-use Rattle.openapi_json.specs.Writing.{data_tokens, members_data_tokens, standing}
+use Rattle.openapi_json.specs.Writing.{data_in, data_tokens, members_data_tokens, standing}
+use Rattle.openapi_json.specs.declared.write.Order.{Order}
 
 -- what is left from an index on is the element there, and then what is left behind it
 pub left_after : {A : Type 0} (xs : List A) (i : ℕ) (x : A) → slice_get xs i ≡ Some x → drop i xs ≡ x ∷ drop (i + 1) xs
@@ -14,12 +14,12 @@ left_after xs i x at =
     drop_more xs i x (slice_get_within xs i x at) ∙ ap (λ y. y ∷ drop (i + 1) xs) (get_or_from_slice_get xs i x x at)
 
 -- the next member was written
-pub member_next : (old named new whole : List Token) (es : Entries Tree) (e : List ℕ × Tree) (rest : Entries Tree)
-    → es ≡ e ∷ rest → named ≡ old ++ Token.key e.0 ∷ [] → new ≡ named ++ data_tokens (data_of e.1)
-    → old ++ members_data_tokens (standing es) ≡ whole → new ++ members_data_tokens (standing rest) ≡ whole
-member_next old named new whole es e rest is key put so_far =
-    let more = members_data_tokens (standing rest) in
-    ap (λ l. l ++ more) (put ∙ ap (λ l. l ++ data_tokens (data_of e.1)) key)
-    ∙ append_assoc (old ++ Token.key e.0 ∷ []) (data_tokens (data_of e.1)) more
-    ∙ append_assoc old (Token.key e.0 ∷ []) (data_tokens (data_of e.1) ++ more)
-    ∙ ap (λ l. old ++ members_data_tokens (standing l)) (sym is) ∙ so_far
+pub member_next : (o : Order) (old named new whole : List Token) (es : Entries Tree) (e : List ℕ × Tree) (rest : Entries Tree)
+    → es ≡ e ∷ rest → named ≡ old ++ Token.key e.0 ∷ [] → new ≡ named ++ data_tokens (data_in o e.1)
+    → old ++ members_data_tokens (standing o es) ≡ whole → new ++ members_data_tokens (standing o rest) ≡ whole
+member_next o old named new whole es e rest is key put so_far =
+    let more = members_data_tokens (standing o rest) in
+    ap (λ l. l ++ more) (put ∙ ap (λ l. l ++ data_tokens (data_in o e.1)) key)
+    ∙ append_assoc (old ++ Token.key e.0 ∷ []) (data_tokens (data_in o e.1)) more
+    ∙ append_assoc old (Token.key e.0 ∷ []) (data_tokens (data_in o e.1) ++ more)
+    ∙ ap (λ l. old ++ members_data_tokens (standing o l)) (sym is) ∙ so_far

@@ -1,5 +1,5 @@
 -- The data of a text in its order, beside that by name: what is read by name is what is read in order, sorted.
-use Rattle.std.proofs.Common.{◌≡◌, List, [], ◌∷◌, Bool, true, false, cond, ◌||◌, ◌&&◌, Option, Some, None, IfSome, option_map}
+use Rattle.std.proofs.Common.{◌≡◌, List, [], ◌∷◌, Bool, true, false, cond, ◌&&◌, Option, Some, None, IfSome, option_map}
 use Rattle.std.proofs.Common.{option_and_then, ℕ, Ordering, Less, Equal, Greater, nat_cmp, refl, sym, ap, subst, ◌∙◌, true≢false}
 use Rattle.std.proofs.lemmas.Cmp.{nat_list_cmp_total, tied_itself}
 use Rattle.std.proofs.lemmas.Slice.Eq.{bytes_eq-Decides}
@@ -14,12 +14,12 @@ use Rattle.serde_json.specs.Find.{get_member}
 use Rattle.serde_json.specs.Read.{number_of, of_json, of_items, of_members, read}
 use Rattle.serde_json.specs.Written.{has_float, items_have_float, members_have_float}
 use Rattle.openapi_map.specs.Entries.{Entries, insert_entry}
-use Rattle.openapi_node.specs.Json.{tree_of_data, items_of_data, members_of_data, number_tree, IsTreeOf}
+use Rattle.openapi_node.specs.Json.{tree_of_data, items_of_data, members_of_data, IsTreeOf}
 use Rattle.openapi_node.specs.Tree as tree
 use Rattle.openapi_node.specs.Tree.{Tree, items_of, members_of}
 use Rattle.openapi_node.proofs.DataOrder.{InOrder, InOrder-put, fits}
 use Rattle.openapi_json.specs.Ordered.{put_in_place, in_order, items_in_order, members_in_order, by_name, items_by_name}
-use Rattle.openapi_json.specs.Ordered.{members_by_name, tree_of_any, tree_of, trees_of, entries_of, is_whole, holds_whole}
+use Rattle.openapi_json.specs.Ordered.{members_by_name, tree_of_any, tree_of, trees_of, entries_of, holds_whole}
 use Rattle.openapi_json.specs.Ordered.{all_whole, items_whole, members_whole, parsed, IsTreeInOrder}
 use Rattle.openapi_json.proofs.Order.{both, none}
 
@@ -290,7 +290,7 @@ mutual
   members_plain no_members acc c o h = refl
   members_plain (member k d ms) acc c o h =
       let first = put_plain k (by_name d) (members_by_name ms acc)
-          (ap members_have_float (sym (moved k (by_name d) ms acc c.0.0 o)) ∙ h) in
+      (ap members_have_float (sym (moved k (by_name d) ms acc c.0.0 o)) ∙ h) in
       both (has_float d) (members_have_float ms) (plain d c.1.0 first)
       (members_plain ms (put k (by_name d) acc) (c.0.1, c.1.1) (InOrder-put k (by_name d) acc o) h)
 

@@ -17,9 +17,10 @@ use Rattle.openapi_node.specs.Json.{members_data}
 use Rattle.openapi_node.specs.Tree.{Tree, members_of, members_size, size_of}
 use Rattle.openapi_node.proofs.EqualLemmas.{AreFoundIn, IsFoundIn, equal_members, found_from_equal}
 use Rattle.openapi_json.specs.Gathered.{Ascends, Rises}
-use Rattle.openapi_json.specs.Writing.{AllFit, lent}
+use Rattle.openapi_json.specs.Writing.{AllFit, arranged, lent, standing}
+use Rattle.openapi_json.specs.declared.write.Order.TheVariants.{ByName}
 use Rattle.openapi_json.proofs.Order.{equal_names, turned}
-use Rattle.openapi_json.proofs.Sorted.{fits_in}
+use Rattle.openapi_json.proofs.Sorted.{fits_in, members-by_name}
 
 -- members in another order
 module _ (ms ns : Entries Tree) (shuffled : IsPermutation ms ns) where
@@ -40,14 +41,18 @@ module _ (ms ns : Entries Tree) (shuffled : IsPermutation ms ns) where
     as_found [] h = tt
     as_found (e ∷ es) h = (h.0, as_found es h.1)
 
-    -- and they have the same data
-    pub data_still : members_data (members_of ns) no_members ≡ members_data (members_of ms) no_members
-    data_still =
+    same_data : members_data (members_of ns) no_members ≡ members_data (members_of ms) no_members
+    same_data =
         let own : All (IsFoundIn ns) ns = λ k d h. found_from_equal ns ns distinct_still distinct_still refl k (get_or ns k d) (slice_get-get_or ns k d h) in
         let all = All-permutation (IsFoundIn ns) ns ms (IsPermutation-sym ms ns shuffled) own in
         let same = equal_members ms ns distinct distinct_still (sym (length_permutation ms ns shuffled))
         (as_found ms (recursion_from_All (IsFoundIn ns) ms all)) in
         cc
+
+    -- and they have the same data by name
+    pub data_still : arranged ByName (standing ByName ms) ≡ arranged ByName (standing ByName ns)
+    data_still =
+        sym (members-by_name (members_of ms) no_members) ∙ sym same_data ∙ members-by_name (members_of ns) no_members
 
 -- what is lent, in an order in which no name is below the one before it
 abbrev Sorted : List (Bor (List ℕ) × Bor Tree) → Type 0

@@ -1,14 +1,17 @@
--- The tokens that a tree is written as.
-use Rattle.std.specs.Prelude.{ℕ, ◌≤◌, List, [], ◌∷◌, map}
+-- The tokens that a tree is written as, with its members by name or as they stand.
+use Rattle.std.specs.Prelude.{ℕ, ◌≤◌, List, map}
 use Rattle.std.specs.Borrow.{Bor}
 use Rattle.std.specs.List.{AllByRecursion}
 use Rattle.json.specs.Token.{Token}
 use Rattle.json.specs.Tree.{json_tokens, items_tokens, members_tokens}
-use Rattle.serde_json.specs.Data.{Data, Items, Members, no_members, member}
+use Rattle.serde_json.specs.Data.{Data, null, boolean, number, string, array, object, Items, no_items, item, Members, no_members, member, put}
+use Rattle.serde_json.specs.Find.{of_integer}
 use Rattle.serde_json.specs.Written.{outline, items_outline, members_outline}
 use Rattle.openapi_map.specs.Entries.{Entries}
-use Rattle.openapi_node.specs.Json.{data_of}
-use Rattle.openapi_node.specs.Tree.{Tree, size_of}
+use Rattle.openapi_node.specs.Tree as tree
+use Rattle.openapi_node.specs.Tree.{Tree, members_of, size_of}
+use Rattle.openapi_json.specs.declared.write.Order.{Order}
+use Rattle.openapi_json.specs.declared.write.Order.TheVariants.{ByName, AsTheyStand}
 
 -- the tokens of data that have no float
 abbrev pub data_tokens : Data → List Token
@@ -20,10 +23,42 @@ items_data_tokens ds = items_tokens (items_outline ds)
 abbrev pub members_data_tokens : Members → List Token
 members_data_tokens ms = members_tokens (members_outline ms)
 
+-- the members with each of these put among them
+abbrev pub put_all : Members → Members → Members
+put_all no_members found = found
+put_all (member k d ms) found = put_all ms (put k d found)
+
+-- members in an order
+abbrev pub arranged : Order → Members → Members
+arranged ByName ms = put_all ms no_members
+arranged AsTheyStand ms = ms
+
+-- the data of a tree, with the members of each object in an order
+abbrev mutual
+  pub data_in : Order → Tree → Data
+  data_in o tree.null = null
+  data_in o (tree.flag b) = boolean b
+  data_in o (tree.whole z) = number (of_integer z)
+  data_in o (tree.text s) = string s
+  data_in o (tree.list ts) = array (items_in o ts)
+  data_in o (tree.object ms) = object (arranged o (members_in o ms))
+
+  pub items_in : Order → tree.Items → Items
+  items_in o tree.no_items = no_items
+  items_in o (tree.item t ts) = item (data_in o t) (items_in o ts)
+
+  -- as they stand
+  pub members_in : Order → tree.Members → Members
+  members_in o tree.no_members = no_members
+  members_in o (tree.member k t ms) = member k (data_in o t) (members_in o ms)
+
+-- the data of a tree whose members stay as they stand
+abbrev pub data_in_order : Tree → Data
+data_in_order t = data_in AsTheyStand t
+
 -- members as they stand, each by the data of its tree
-abbrev pub standing : Entries Tree → Members
-standing [] = no_members
-standing (e ∷ es) = member e.0 (data_of e.1) (standing es)
+abbrev pub standing : Order → Entries Tree → Members
+standing o es = members_in o (members_of es)
 
 -- the members of names and trees that are lent
 abbrev pub lent : List (Bor (List ℕ) × Bor Tree) → Entries Tree

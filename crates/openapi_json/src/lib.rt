@@ -12,4 +12,4 @@ mod write;
 pub use by_value::node_from_json;
 pub use fault::JsonFault;
 pub use in_order::node_from_json_in_order;
-pub use write::json_from_node;
+pub use write::{json_from_node, json_from_node_in_order};

@@ -1,12 +1,13 @@
 //! From nodes to compact JSON text.
-ghost use Rattle.std.specs.Prelude.{◌≡◌, ◌≤◌, ◌++◌, ◌∷◌, [], IfOk, OnOk, IsTrue, string_bytes};
+ghost use Rattle.std.specs.Prelude.{◌≡◌, ◌≤◌, ◌++◌, ◌∷◌, [], IfOk, OnOk, IsFalse, IsTrue, string_bytes};
 ghost use Rattle.json.specs.Token.{number};
-ghost use Rattle.serde_json.specs.Data.{no_members};
 ghost use Rattle.serde_json.specs.Find.{of_integer};
 ghost use Rattle.serde_json.specs.Written.{compact_text, number_text};
-ghost use Rattle.openapi_node.specs.Json.{data_of, items_data, members_data};
+ghost use Rattle.openapi_node.specs.Json.{data_of};
 ghost use Rattle.openapi_node.specs.Tree.{items_of, members_of, members_size};
-ghost use Rattle.openapi_json.specs.Writing.{AllFit, data_tokens, items_data_tokens, lent, members_data_tokens, standing};
+ghost use Rattle.openapi_json.specs.Gathered.{Ascends};
+ghost use Rattle.openapi_json.specs.Writing.{AllFit, arranged, data_in, data_in_order, data_tokens};
+ghost use Rattle.openapi_json.specs.Writing.{items_data_tokens, items_in, lent, members_data_tokens, standing};
 
 use json::{Token, Writer};
 use openapi_map::OrderedMap;
@@ -14,14 +15,48 @@ use openapi_node::{Node, Steps, View, Whole};
 use std::alloc::{AllocError, Global};
 use std::cmp::Ordering;
 
+/// In which order the members of an object are written.
+#[derive(Clone, Copy, Drop)]
+pub(crate) enum Order {
+    /// By their names.
+    ByName,
+    /// In the order in which they stand.
+    AsTheyStand,
+}
+
 /// The compact JSON text of a node, with the members of each object in the order of their names.
 ///
 /// Err says that memory ran out.
 pub fn json_from_node(alloc: Global, node: &Node, steps: &mut Steps) -> Result<String, AllocError>
     ensures { IfOk result (λ s. string_bytes s ≡ compact_text (data_of node.now)) }
 {
+    text_of(alloc, node, Order::ByName, steps)
+}
+
+/// The compact JSON text of a node, with the members of each object in the order in which they stand.
+///
+/// Err says that memory ran out.
+pub fn json_from_node_in_order(
+    alloc: Global,
+    node: &Node,
+    steps: &mut Steps,
+) -> Result<String, AllocError>
+    ensures { IfOk result (λ s. string_bytes s ≡ compact_text (data_in_order node.now)) }
+{
+    text_of(alloc, node, Order::AsTheyStand, steps)
+}
+
+/// The compact JSON text of a node, with its members in an order.
+fn text_of(
+    alloc: Global,
+    node: &Node,
+    order: Order,
+    steps: &mut Steps,
+) -> Result<String, AllocError>
+    ensures { IfOk result (λ s. string_bytes s ≡ compact_text (data_in order node.now)) }
+{
     let mut out = Writer::new(Vec::with_capacity(alloc, 128)?);
-    write_node(alloc, node, &mut out, steps)?;
+    write_node(alloc, node, order, &mut out, steps)?;
     match String::from_utf8(out.into_inner()) {
         Ok(text) => Ok(text),
         Err(_) => Err(AllocError),
@@ -41,7 +76,7 @@ fn write_whole(value: Whole, out: &mut Writer) -> Result<(), AllocError>
 
 /// Whether each name is below the next one. (Members that were read stand so.)
 fn are_in_order(members: &OrderedMap<Node>) -> bool
-    ensures { IsTrue result → members_data (members_of members.now) no_members ≡ standing members.now }
+    ensures { IsTrue result → Ascends members.now }
 {
     for i in 1..members.len() {
         let (name, _) = members.entry_at(i - 1);
@@ -54,13 +89,25 @@ fn are_in_order(members: &OrderedMap<Node>) -> bool
     true
 }
 
-/// Members by their names.
+/// Whether members are in an order as they stand.
+fn may_stand(members: &OrderedMap<Node>, order: Order) -> bool
+    ensures yes { IsTrue result → arranged order (standing order members.now) ≡ standing order members.now }
+    ensures no { IsFalse result → order ≡ Order.ByName }
+{
+    match order {
+        Order::ByName => are_in_order(members),
+        Order::AsTheyStand => true,
+    }
+}
+
+/// The members of an object in the order of their names.
 fn by_name<'a>(
     alloc: Global,
     members: &'a OrderedMap<Node>,
 ) -> Result<Vec<(&'a str, &'a Node)>, AllocError>
-    ensures same { IfOk result (λ m. standing (lent m.items) ≡ members_data (members_of members.now) no_members) }
-    ensures fit { IfOk result (λ m. AllFit (members_size (members_of members.now)) (lent m.items)) }
+    ensures same { IfOk result (λ v. standing Order.ByName (lent v.items)
+        ≡ arranged Order.ByName (standing Order.ByName members.now)) }
+    ensures fit { IfOk result (λ v. AllFit (members_size (members_of members.now)) (lent v.items)) }
 {
     let mut sorted = Vec::with_capacity(alloc, members.len())?;
     for i in 0..members.len() {
@@ -75,10 +122,11 @@ fn by_name<'a>(
 fn write_node(
     alloc: Global,
     node: &Node,
+    order: Order,
     out: &mut Writer,
     steps: &mut Steps,
 ) -> Result<(), AllocError>
-    ensures ok { OnOk result (out.new.tokens ≡ out.old.tokens ++ data_tokens (data_of node.now)) }
+    ensures ok { OnOk result (out.new.tokens ≡ out.old.tokens ++ data_tokens (data_in order node.now)) }
     ensures before { OnOk result (out.new.before ≡ out.old.before) }
 {
     match node.open(steps) {
@@ -88,11 +136,11 @@ fn write_node(
         View::Text(text) => out.token(Token::String(text)),
         View::List(items) => {
             out.begin_array()?;
-            write_items(alloc, items, out, steps)
+            write_items(alloc, items, order, out, steps)
         }
         View::Object(members) => {
             out.begin_object()?;
-            write_members(alloc, members, out, steps)
+            write_members(alloc, members, order, out, steps)
         }
     }
 }
@@ -102,36 +150,38 @@ fn write_node(
 fn write_items(
     alloc: Global,
     items: &[Node],
+    order: Order,
     out: &mut Writer,
     steps: &mut Steps,
 ) -> Result<(), AllocError>
-    ensures ok { OnOk result (out.new.tokens ≡ out.old.tokens ++ items_data_tokens (items_data (items_of items.now))) }
+    ensures ok { OnOk result (out.new.tokens ≡ out.old.tokens ++ items_data_tokens (items_in order (items_of items.now))) }
     ensures before { OnOk result (out.new.before ≡ out.old.before) }
 {
     for item in items {
-        write_node(alloc, item, out, steps)?;
+        write_node(alloc, item, order, out, steps)?;
     }
     out.end_array()
 }
 
-/// Writes the members of an object by their names, and its end.
+/// Writes the members of an object in an order, and its end.
 #[cycle(write)]
 fn write_members(
     alloc: Global,
     members: &OrderedMap<Node>,
+    order: Order,
     out: &mut Writer,
     steps: &mut Steps,
 ) -> Result<(), AllocError>
     ensures ok { OnOk result (out.new.tokens ≡ out.old.tokens
-        ++ members_data_tokens (members_data (members_of members.now) no_members)) }
+        ++ members_data_tokens (arranged order (standing order members.now))) }
     ensures before { OnOk result (out.new.before ≡ out.old.before) }
 {
-    if are_in_order(members) {
-        return write_standing(alloc, members, out, steps);
+    if may_stand(members, order) {
+        return write_standing(alloc, members, order, out, steps);
     }
     for (name, node) in by_name(alloc, members)? {
         out.key(name)?;
-        write_node(alloc, node, out, steps)?;
+        write_node(alloc, node, order, out, steps)?;
     }
     out.end_object()
 }
@@ -141,16 +191,17 @@ fn write_members(
 fn write_standing(
     alloc: Global,
     members: &OrderedMap<Node>,
+    order: Order,
     out: &mut Writer,
     steps: &mut Steps,
 ) -> Result<(), AllocError>
-    ensures ok { OnOk result (out.new.tokens ≡ out.old.tokens ++ members_data_tokens (standing members.now)) }
+    ensures ok { OnOk result (out.new.tokens ≡ out.old.tokens ++ members_data_tokens (standing order members.now)) }
     ensures before { OnOk result (out.new.before ≡ out.old.before) }
 {
     for i in 0..members.len() {
         let (name, node) = members.entry_at(i);
         out.key(name)?;
-        write_node(alloc, node, out, steps)?;
+        write_node(alloc, node, order, out, steps)?;
     }
     out.end_object()
 }

@@ -1,6 +1,10 @@
-use Rattle.std.proofs.Common.{◌+◌, drop, List, ◌∙◌, arith}
+use Rattle.std.proofs.Common.{◌≡◌, ◌++◌, ◌+◌, drop, List, OnOk, subst, sym, ap, ◌∙◌, arith}
+use Rattle.std.proofs.lemmas.List.{nil_from_length}
+use Rattle.std.specs.Vec.Iter.{into_iter_items}
 use Rattle.openapi_node.specs.Tree.{Tree}
 use Rattle.openapi_node.proofs.TreeLemmas.{next_item}
+use Rattle.openapi_json.specs.Writing.{arranged, lent, members_data_tokens, standing}
+use Rattle.openapi_json.specs.declared.write.Order.TheVariants.{ByName}
 use Rattle.openapi_json.proofs.Left.{left_after, member_next}
 use Rattle.openapi_json.proofs.Sorted.{fits_in}
 use Rattle.openapi_json.proofs.write.+write.Goals as goal
@@ -22,8 +26,30 @@ write_standing-loop-i-preserved t c =
     let e : List _ × Tree = (c.entry_at.result.0.now, c.entry_at.result.1.now) in
     let l = c.loop-i.invariant in
     record {
-      written = member_next c.loop-i.out.tokens c.key.new.self.tokens c.write_node.new.out.tokens _ (drop i ms) e
+      written = member_next c.args.order c.loop-i.out.tokens c.key.new.self.tokens c.write_node.new.out.tokens _ (drop i ms) e
           (drop (i + 1) ms) (left_after ms i e c.entry_at.ensures) c.in_ok-key.ensures.ok
           c.in_ok-write_node.ensures.ok l.written;
       before = c.in_ok-write_node.ensures.before ∙ c.in_ok-key.ensures.room.0 ∙ l.before;
     }
+
+pub write_members-returns-then-may_stand-clause-ok : goal.write_members-returns-then-may_stand-clause-ok
+write_members-returns-then-may_stand-clause-ok t c =
+    subst (λ ms. OnOk c.write_standing.result (c.write_standing.new.out.tokens ≡ c.args.out.now.tokens ++ members_data_tokens ms))
+    (sym (c.may_stand.ensures.yes c.if-may_stand.true)) c.write_standing.ensures.ok
+
+pub write_members-returns-clause-ok : goal.write_members-returns-clause-ok
+write_members-returns-clause-ok t c =
+    let ms = c.args.members.now in
+    let vs = into_iter_items c.into_iter-name-iterator.result in
+    let by_name : c.args.order ≡ ByName = c.may_stand.ensures.no c.if-may_stand.false in
+    let given : vs ≡ c.in_ok-items.items.items = c.into_iter-name-iterator.ensures.into_iter_gives.0 in
+    let same : standing c.args.order (lent vs) ≡ arranged c.args.order (standing c.args.order ms) =
+    subst (λ o. standing o (lent vs) ≡ arranged o (standing o ms)) (sym by_name)
+    (ap (λ es. standing ByName (lent es)) given ∙ c.in_ok-items.ensures.same) in
+    let old = c.args.out.now.tokens in
+    let left = c.loop-name.name-iterator in
+    let none = nil_from_length (into_iter_items left) (sym left.rest.ok.0 ∙ c.in-None.ensures.steps.0) in
+    subst (λ ts. OnOk c.end_object.result (c.end_object.new.self.tokens ≡ ts))
+    (ap (λ es. c.loop-name.out.tokens ++ members_data_tokens (standing c.args.order (lent es))) (sym none)
+    ∙ c.loop-name.invariant.written ∙ ap (λ ds. old ++ members_data_tokens ds) same)
+    c.end_object.ensures.ok

@@ -1,8 +1,7 @@
 use Rattle.std.proofs.Common.{◌≡◌, ◌+◌, ◌*◌, ◌++◌, drop}
 use Rattle.std.specs.Vec.Iter.{into_iter_items}
-use Rattle.openapi_node.specs.Json.{items_data}
 use Rattle.openapi_node.specs.Tree.{size_of, items_size, members_size, items_of, members_of}
-use Rattle.openapi_json.specs.Writing.{AllFit, items_data_tokens, lent, members_data_tokens, standing}
+use Rattle.openapi_json.specs.Writing.{AllFit, items_data_tokens, items_in, lent, members_data_tokens, standing}
 use Rattle.openapi_json.proofs.write.+write.Given as goal
 
 abbrev pub decreases-write_node : goal.decreases-write_node
@@ -21,16 +20,16 @@ decreases-write_standing l = 3 * members_size (members_of l.members.now) + 1
 abbrev pub invariant-write_items-loop-item : goal.invariant-write_items-loop-item
 invariant-write_items-loop-item l =
     record {
-      written : l.out.tokens ++ items_data_tokens (items_data (items_of (drop l.item-index l.items)))
-          ≡ l.initial.out.tokens ++ items_data_tokens (items_data (items_of l.items));
+      written : l.out.tokens ++ items_data_tokens (items_in l.order (items_of (drop l.item-index l.items)))
+          ≡ l.initial.out.tokens ++ items_data_tokens (items_in l.order (items_of l.items));
       before : l.out.before ≡ l.initial.out.before;
     }
 
 abbrev pub invariant-write_members-loop-name : goal.invariant-write_members-loop-name
 invariant-write_members-loop-name l =
     record {
-      written : l.out.tokens ++ members_data_tokens (standing (lent (into_iter_items l.name-iterator)))
-          ≡ l.initial.out.tokens ++ members_data_tokens (standing (lent (into_iter_items l.initial.name-iterator)));
+      written : l.out.tokens ++ members_data_tokens (standing l.order (lent (into_iter_items l.name-iterator)))
+          ≡ l.initial.out.tokens ++ members_data_tokens (standing l.order (lent (into_iter_items l.initial.name-iterator)));
       before : l.out.before ≡ l.initial.out.before;
       fit : AllFit (members_size (members_of l.fn.members)) (lent (into_iter_items l.name-iterator));
     }
@@ -38,7 +37,7 @@ invariant-write_members-loop-name l =
 abbrev pub invariant-write_standing-loop-i : goal.invariant-write_standing-loop-i
 invariant-write_standing-loop-i l =
     record {
-      written : l.out.tokens ++ members_data_tokens (standing (drop l.i l.members))
-          ≡ l.initial.out.tokens ++ members_data_tokens (standing l.members);
+      written : l.out.tokens ++ members_data_tokens (standing l.order (drop l.i l.members))
+          ≡ l.initial.out.tokens ++ members_data_tokens (standing l.order l.members);
       before : l.out.before ≡ l.initial.out.before;
     }

@@ -3,6 +3,7 @@ pub mod Numbers
 pub mod Order
 pub mod Ordered
 pub mod Printed
+pub mod Scanned
 pub mod Shuffled
 pub mod Sorted
 pub mod Turns

@@ -1,4 +1,5 @@
 pub mod Gathered
 pub mod Ordered
 pub mod Reading
+pub mod Scanned
 pub mod Writing

@@ -6,6 +6,7 @@ mod in_order;
 mod members;
 mod number;
 mod read;
+mod scan;
 mod unread;
 mod write;
 

@@ -2,6 +2,8 @@ pub mod Left
 pub mod Numbers
 pub mod Order
 pub mod Ordered
+pub mod Parsed
+pub mod Positions
 pub mod Printed
 pub mod Scanned
 pub mod Shuffled

@@ -1,5 +1,6 @@
 pub mod Gathered
 pub mod Ordered
+pub mod Positions
 pub mod Reading
 pub mod Scanned
 pub mod Writing

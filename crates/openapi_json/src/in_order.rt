@@ -47,7 +47,7 @@ pub fn node_from_json_in_order(alloc: Global, bytes: &[u8]) -> Result<Node, Json
 }
 
 /// The value of a whole text.
-fn read_value<'a>(
+pub(crate) fn read_value<'a>(
     alloc: Global,
     text: &'a str,
     scratch: &'a mut Scratch,

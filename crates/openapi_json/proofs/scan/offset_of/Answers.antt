@@ -11,7 +11,7 @@ returns-then-passed-number-clause-some c =
     let text = c.args.text.now in
     let l = c.loop-i in
     let here = scan_first (mode_of l.mode) text l.i l.passed (tokens text) (omega (arith, c.loop-i-test.true)) c.requires
-        l.invariant.left (sym c.begins_token.ensures ∙ c.if-begins_token.true) in
+    l.invariant.left (sym c.begins_token.ensures ∙ c.if-begins_token.true) in
     here ∙ ap (λ n. drop n (tokens text)) (omega (arith, c.if-passed-number.true))
 
 pub loop-i-preserved : goal.loop-i-preserved
@@ -19,7 +19,7 @@ loop-i-preserved c =
     let text = c.args.text.now in
     let l = c.loop-i in
     let next = scan_step (mode_of l.mode) text l.i l.passed (tokens text) c.begins_token.result (omega (arith, c.loop-i-test.true))
-        c.requires l.invariant.left (sym c.begins_token.ensures) in
+    c.requires l.invariant.left (sym c.begins_token.ensures) in
     let ts = tokens text in
     let rest = drop (l.i + 1) text in
     let old = next_mode (mode_of l.mode) (class (get_or text l.i 0)) in
@@ -49,5 +49,5 @@ returns-clause-none c is =
     let l = c.loop-i in
     let end : drop l.i text ≡ [] = drop_all l.i text (omega (arith, c.loop-i-test.false)) in
     let none = nothing_left (mode_of l.mode) (drop l.passed (tokens text)) (good_drop l.passed (tokens text) c.requires)
-        (subst (λ t. AreOf (lex (mode_of l.mode) t) (drop l.passed (tokens text))) end l.invariant.left) in
+    (subst (λ t. AreOf (lex (mode_of l.mode) t) (drop l.passed (tokens text))) end l.invariant.left) in
     omega (arith, length-drop l.passed (tokens text), ap length none, l.invariant.few)

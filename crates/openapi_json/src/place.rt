@@ -1,0 +1,127 @@
+//! How many tokens of a JSON value stand before the one at a place in it.
+ghost use Rattle.std.specs.Prelude.{◌≡◌, ◌<◌, ◌+◌, ◌^◌, length, map, None, IfSome};
+ghost use Rattle.json.specs.Json.{array, object};
+ghost use Rattle.json.specs.Tree.{json_tokens};
+ghost use Rattle.json.specs.Value.{value_view, items_view, members_view};
+ghost use Rattle.openapi_node.specs.Fault.{step_of};
+ghost use Rattle.openapi_node.specs.Place.{indexed, named};
+ghost use Rattle.openapi_json.specs.Positions.{child, flat, item_tokens, json_at, LeadsTo, member_tokens, StepsTo};
+
+use json::Value;
+use openapi_node::PlaceStep;
+
+/// A value inside another one.
+#[derive(Clone, Copy, Drop)]
+struct Inside<'v, 'a> {
+    /// The value.
+    value: &'v Value<'a>,
+    /// How many tokens of the other one stand before it.
+    number: usize,
+}
+
+/// How many tokens of a value stand before the one at a place in it.
+pub(crate) fn number_at(value: &Value<'_>, place: &[PlaceStep]) -> Option<usize>
+    requires { length (json_tokens (value_view value.now)) < 2 ^ 64 }
+    ensures some { IfSome result (LeadsTo (map step_of place.now) (value_view value.now)) }
+    ensures none { result ≡ None → json_at (map step_of place.now) (value_view value.now) ≡ None }
+{
+    let [step, more @ ..] = place else {
+        return Some(0);
+    };
+    let inside = step_into(value, step)?;
+    let number = number_at(inside.value, more)?;
+    Some(inside.number + number)
+}
+
+/// The value to which a step leads.
+fn step_into<'v, 'a>(value: &'v Value<'a>, step: &PlaceStep) -> Option<Inside<'v, 'a>>
+    requires { length (json_tokens (value_view value.now)) < 2 ^ 64 }
+    ensures some { IfSome result (λ it.
+        StepsTo (step_of step.now) (value_view value.now) it.number (value_view it.value.now)) }
+    ensures none { result ≡ None → child (step_of step.now) (value_view value.now) ≡ None }
+{
+    match (value, step) {
+        (Value::Object(members), PlaceStep::Name(name)) => member(
+            members.as_slice(),
+            name.as_str(),
+        ),
+        (Value::Array(values), PlaceStep::Index(index)) => item(values.as_slice(), *index),
+        _ => None,
+    }
+}
+
+/// The value of the last member of a name.
+fn member<'v, 'a>(members: &'v [(&'a str, Value<'a>)], name: &str) -> Option<Inside<'v, 'a>>
+    requires { length (flat member_tokens members.now) + 2 < 2 ^ 64 }
+    ensures some { IfSome result (λ it.
+        StepsTo (named name.now) (object (members_view members.now)) it.number (value_view it.value.now)) }
+    ensures none { result ≡ None → child (named name.now) (object (members_view members.now)) ≡ None }
+{
+    let mut left = members.len();
+    while left > 0 {
+        left -= 1;
+        let member = &members[left];
+        if member.0 == name {
+            return Some(Inside {
+                value: &member.1,
+                number: 2 + count_members(&members[..left]),
+            });
+        }
+    }
+    None
+}
+
+/// The value at an index.
+fn item<'v, 'a>(values: &'v [Value<'a>], index: usize) -> Option<Inside<'v, 'a>>
+    requires { length (flat item_tokens values.now) + 2 < 2 ^ 64 }
+    ensures some { IfSome result (λ it.
+        StepsTo (indexed index) (array (items_view values.now)) it.number (value_view it.value.now)) }
+    ensures none { result ≡ None → child (indexed index) (array (items_view values.now)) ≡ None }
+{
+    if index >= values.len() {
+        return None;
+    }
+    Some(Inside {
+        value: &values[index],
+        number: 1 + count_items(&values[..index]),
+    })
+}
+
+/// How many tokens a value has.
+#[cycle(count)]
+fn count(value: &Value<'_>) -> usize
+    requires { length (json_tokens (value_view value.now)) < 2 ^ 64 }
+    ensures { result ≡ length (json_tokens (value_view value.now)) }
+{
+    match value {
+        Value::Null | Value::Bool(_) | Value::Number(_) | Value::String(_) => 1,
+        Value::Array(values) => 2 + count_items(values.as_slice()),
+        Value::Object(members) => 2 + count_members(members.as_slice()),
+    }
+}
+
+/// How many tokens the values of an array have.
+#[cycle(count)]
+fn count_items(values: &[Value<'_>]) -> usize
+    requires { length (flat item_tokens values.now) < 2 ^ 64 }
+    ensures { result ≡ length (flat item_tokens values.now) }
+{
+    let mut sum = 0;
+    for value in values {
+        sum += count(value);
+    }
+    sum
+}
+
+/// How many tokens the members of an object have.
+#[cycle(count)]
+fn count_members(members: &[(&str, Value<'_>)]) -> usize
+    requires { length (flat member_tokens members.now) < 2 ^ 64 }
+    ensures { result ≡ length (flat member_tokens members.now) }
+{
+    let mut sum = 0;
+    for member in members {
+        sum += 1 + count(&member.1);
+    }
+    sum
+}

@@ -1,0 +1,126 @@
+//! Where the value at a place begins in a JSON text.
+ghost use Rattle.std.specs.Prelude.{◌≡◌, ◌≤◌, ◌-◌, drop, is_some, length, map, None, Ok, IfOk};
+ghost use Rattle.std.specs.Prelude.{IfSome, IsFalse, IsSomeAnd, IsTrue};
+ghost use Rattle.std.specs.Str.{IsUtf8};
+ghost use Rattle.json.specs.Lex.{tokens};
+ghost use Rattle.openapi_node.specs.Fault.{step_of};
+ghost use Rattle.openapi_json.specs.Positions.{BeginsAt, IsBehind, last_name, StandsAt, value_at};
+ghost use Rattle.openapi_json.specs.Scanned.{AreGood};
+
+use crate::in_order::read_value;
+use crate::place::number_at;
+use crate::scan::offset_of;
+use crate::unread::Unread;
+use json::Scratch;
+use openapi_node::PlaceStep;
+use std::alloc::{AllocError, Global};
+
+/// A point of a text in UTF-8, as an editor tells it.
+#[derive(Clone, Copy, Debug, Drop, PartialEq, Eq)]
+pub struct Point {
+    /// How many bytes stand before it.
+    pub offset: usize,
+    /// The number of its line, from 1. A line ends with a line feed.
+    pub line: usize,
+    /// The number of its character in the line, from 1.
+    pub column: usize,
+}
+
+/// Where a value stands in a JSON text.
+#[derive(Clone, Copy, Debug, Drop, PartialEq, Eq)]
+pub struct Position {
+    /// Where the value begins.
+    pub value: Point,
+    /// Where the name of the member begins whose value it is, if it is one.
+    pub name: Option<Point>,
+}
+
+/// Where the value at a place of a JSON text stands: for a name that comes again, the value that counts, which is the last.
+/// `None` says that the bytes are no JSON text, or that the text has no value at the place. Numbers need not be whole.
+///
+/// Err says that memory ran out.
+pub fn position_of(
+    alloc: Global,
+    bytes: &[u8],
+    place: &[PlaceStep],
+) -> Result<Option<Position>, AllocError>
+    ensures some { IfOk result (λ o. IfSome o (StandsAt bytes.now (map step_of place.now))) }
+    ensures none { result ≡ Ok None → IsUtf8 bytes.now → value_at bytes.now (map step_of place.now) ≡ None }
+{
+    let Ok(text) = simdutf8::compat::from_utf8(bytes) else {
+        return Ok(None);
+    };
+    let mut scratch = Scratch::new(alloc);
+    let value = match read_value(alloc, text, &mut scratch) {
+        Ok(value) => value,
+        Err(Unread::Memory) => return Err(AllocError),
+        Err(Unread::Other) => return Ok(None),
+    };
+    let Some(number) = number_at(&value, place) else {
+        return Ok(None);
+    };
+    Ok(position_at(bytes, number, ends_with_name(place)))
+}
+
+/// Whether the last step of a place is a name.
+fn ends_with_name(place: &[PlaceStep]) -> bool
+    ensures { result ≡ is_some (last_name (map step_of place.now)) }
+{
+    match place {
+        [] => false,
+        [step] => matches!(step, PlaceStep::Name(_)),
+        [_, more @ ..] => ends_with_name(more),
+    }
+}
+
+/// The position of the value that begins with a token, where that of a member has its name before it.
+fn position_at(bytes: &[u8], number: usize, is_member: bool) -> Option<Position>
+    requires good { AreGood (tokens bytes.now) }
+    requires named { IsTrue is_member → 1 ≤ number }
+    ensures value { IfSome result (λ p. BeginsAt bytes.now p.value (drop number (tokens bytes.now))) }
+    ensures unnamed { IfSome result (λ p. IsFalse is_member → p.name ≡ None) }
+    ensures named { IfSome result (λ p. IsTrue is_member
+        → IsSomeAnd p.name (λ q. BeginsAt bytes.now q (drop (number - 1) (tokens bytes.now)))) }
+    ensures none { result ≡ None → length (tokens bytes.now) ≤ number }
+{
+    let value = point_of(bytes, number)?;
+    let name = if is_member {
+        Some(point_of(bytes, number - 1)?)
+    } else {
+        None
+    };
+    Some(Position { value, name })
+}
+
+/// The point at which a token of a text begins.
+fn point_of(bytes: &[u8], number: usize) -> Option<Point>
+    requires { AreGood (tokens bytes.now) }
+    ensures some { IfSome result (λ p. BeginsAt bytes.now p (drop number (tokens bytes.now))) }
+    ensures none { result ≡ None → length (tokens bytes.now) ≤ number }
+{
+    let offset = offset_of(bytes, number)?;
+    Some(point_behind(&bytes[..offset]))
+}
+
+/// The point behind some bytes.
+fn point_behind(bytes: &[u8]) -> Point
+    ensures { IsBehind bytes.now result }
+{
+    let mut line = 1;
+    let mut column = 1;
+    for byte in bytes {
+        match *byte {
+            b'\n' => {
+                line += 1;
+                column = 1;
+            }
+            0x80..=0xBF => {}
+            _ => column += 1,
+        }
+    }
+    Point {
+        offset: bytes.len(),
+        line,
+        column,
+    }
+}

@@ -4,7 +4,7 @@ pub mod Order
 pub mod Ordered
 pub mod Parsed
 pub mod Positions
-pub mod Printed
+pub mod ReadBack
 pub mod Scanned
 pub mod Shuffled
 pub mod Sorted

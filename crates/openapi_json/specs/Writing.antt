@@ -1,5 +1,5 @@
 -- The tokens that a tree is written as, with its members by name or as they stand.
-use Rattle.std.specs.Prelude.{ℕ, ◌≤◌, List, map}
+use Rattle.std.specs.Prelude.{ℕ, suc, max, ◌≤◌, List, map, ⊤}
 use Rattle.std.specs.Borrow.{Bor}
 use Rattle.std.specs.List.{AllByRecursion}
 use Rattle.json.specs.Token.{Token}
@@ -10,6 +10,7 @@ use Rattle.serde_json.specs.Written.{outline, items_outline, members_outline}
 use Rattle.openapi_map.specs.Entries.{Entries}
 use Rattle.openapi_node.specs.Tree as tree
 use Rattle.openapi_node.specs.Tree.{Tree, members_of, size_of}
+use Rattle.openapi_node.specs.Whole.{IsWhole}
 use Rattle.openapi_json.specs.declared.write.Order.{Order}
 use Rattle.openapi_json.specs.declared.write.Order.TheVariants.{ByName, AsTheyStand}
 
@@ -67,3 +68,39 @@ lent es = map (λ e. (e.0.now, e.1.now)) es
 -- none of the trees is larger than a size
 abbrev pub AllFit : ℕ → Entries Tree → Type 0
 AllFit s es = AllByRecursion (λ e. size_of e.1 ≤ s) es
+
+-- how deep lists and objects nest in a tree
+abbrev mutual
+  pub nesting : Tree → ℕ
+  nesting tree.null = 0
+  nesting (tree.flag b) = 0
+  nesting (tree.whole z) = 0
+  nesting (tree.text s) = 0
+  nesting (tree.list ts) = suc (items_nesting ts)
+  nesting (tree.object ms) = suc (members_nesting ms)
+
+  pub items_nesting : tree.Items → ℕ
+  items_nesting tree.no_items = 0
+  items_nesting (tree.item t ts) = max (nesting t) (items_nesting ts)
+
+  pub members_nesting : tree.Members → ℕ
+  members_nesting tree.no_members = 0
+  members_nesting (tree.member k t ms) = max (nesting t) (members_nesting ms)
+
+-- for private clauses: each whole number of a tree fits an `i64` or a `u64`
+abbrev mutual
+  pub AreWhole : Tree → Type 0
+  AreWhole tree.null = ⊤
+  AreWhole (tree.flag b) = ⊤
+  AreWhole (tree.whole z) = IsWhole z
+  AreWhole (tree.text s) = ⊤
+  AreWhole (tree.list ts) = ItemsAreWhole ts
+  AreWhole (tree.object ms) = MembersAreWhole ms
+
+  pub ItemsAreWhole : tree.Items → Type 0
+  ItemsAreWhole tree.no_items = ⊤
+  ItemsAreWhole (tree.item t ts) = AreWhole t × ItemsAreWhole ts
+
+  pub MembersAreWhole : tree.Members → Type 0
+  MembersAreWhole tree.no_members = ⊤
+  MembersAreWhole (tree.member k t ms) = AreWhole t × MembersAreWhole ms

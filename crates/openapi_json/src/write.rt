@@ -2,12 +2,16 @@
 ghost use Rattle.std.specs.Prelude.{◌≡◌, ◌≤◌, ◌++◌, ◌∷◌, [], IfOk, OnOk, IsFalse, IsTrue, string_bytes};
 ghost use Rattle.json.specs.Token.{number};
 ghost use Rattle.serde_json.specs.Find.{of_integer};
+ghost use Rattle.serde_json.specs.Read.{max_depth};
 ghost use Rattle.serde_json.specs.Written.{compact_text, number_text};
 ghost use Rattle.openapi_node.specs.Json.{data_of};
 ghost use Rattle.openapi_node.specs.Tree.{items_of, members_of, members_size};
+ghost use Rattle.openapi_node.specs.Whole.{IsWhole};
 ghost use Rattle.openapi_json.specs.Gathered.{Ascends};
-ghost use Rattle.openapi_json.specs.Writing.{AllFit, arranged, data_in, data_in_order, data_tokens};
-ghost use Rattle.openapi_json.specs.Writing.{items_data_tokens, items_in, lent, members_data_tokens, standing};
+ghost use Rattle.openapi_json.specs.Ordered.{IsTreeInOrder};
+ghost use Rattle.openapi_json.specs.Writing.{AllFit, AreWhole, arranged, data_in, data_in_order, data_tokens};
+ghost use Rattle.openapi_json.specs.Writing.{ItemsAreWhole, items_data_tokens, items_in, lent, MembersAreWhole};
+ghost use Rattle.openapi_json.specs.Writing.{members_data_tokens, nesting, standing};
 
 use json::{Token, Writer};
 use openapi_map::OrderedMap;
@@ -34,6 +38,8 @@ pub fn json_from_node(alloc: Global, node: &Node, steps: &mut Steps) -> Result<S
 }
 
 /// The compact JSON text of a node, with the members of each object in the order in which they stand.
+/// [`node_from_json_in_order`](crate::node_from_json_in_order) reads the node again of it, where its arrays and objects
+/// nest no more than 127 deep.
 ///
 /// Err says that memory ran out.
 pub fn json_from_node_in_order(
@@ -41,8 +47,10 @@ pub fn json_from_node_in_order(
     node: &Node,
     steps: &mut Steps,
 ) -> Result<String, AllocError>
-    ensures { IfOk result (λ s. string_bytes s ≡ compact_text (data_in_order node.now)) }
+    ensures text { IfOk result (λ s. string_bytes s ≡ compact_text (data_in_order node.now)) }
+    ensures reads_back { IfOk result (λ s. nesting node.now ≤ max_depth → IsTreeInOrder (string_bytes s) node.now) }
 {
+    node.names_differ();
     text_of(alloc, node, Order::AsTheyStand, steps)
 }
 
@@ -53,7 +61,8 @@ fn text_of(
     order: Order,
     steps: &mut Steps,
 ) -> Result<String, AllocError>
-    ensures { IfOk result (λ s. string_bytes s ≡ compact_text (data_in order node.now)) }
+    ensures text { IfOk result (λ s. string_bytes s ≡ compact_text (data_in order node.now)) }
+    ensures whole { OnOk result (order ≡ Order.AsTheyStand → AreWhole node.now) }
 {
     let mut out = Writer::new(Vec::with_capacity(alloc, 128)?);
     write_node(alloc, node, order, &mut out, steps)?;
@@ -65,12 +74,14 @@ fn text_of(
 
 /// Writes a number.
 fn write_whole(value: Whole, out: &mut Writer) -> Result<(), AllocError>
+    ensures whole { IsWhole value }
     ensures ok { OnOk result (out.new.tokens ≡ out.old.tokens ++ number (number_text (of_integer value)) ∷ []) }
     ensures before { OnOk result (out.new.before ≡ out.old.before) }
 {
+    let number = value.value();
     match value.as_u64() {
         Some(n) => out.u64(n),
-        None => out.i64(value.value() as i64),
+        None => out.i64(number as i64),
     }
 }
 
@@ -127,6 +138,7 @@ fn write_node(
     steps: &mut Steps,
 ) -> Result<(), AllocError>
     ensures ok { OnOk result (out.new.tokens ≡ out.old.tokens ++ data_tokens (data_in order node.now)) }
+    ensures whole { OnOk result (order ≡ Order.AsTheyStand → AreWhole node.now) }
     ensures before { OnOk result (out.new.before ≡ out.old.before) }
 {
     match node.open(steps) {
@@ -155,6 +167,7 @@ fn write_items(
     steps: &mut Steps,
 ) -> Result<(), AllocError>
     ensures ok { OnOk result (out.new.tokens ≡ out.old.tokens ++ items_data_tokens (items_in order (items_of items.now))) }
+    ensures whole { OnOk result (order ≡ Order.AsTheyStand → ItemsAreWhole (items_of items.now)) }
     ensures before { OnOk result (out.new.before ≡ out.old.before) }
 {
     for item in items {
@@ -174,6 +187,7 @@ fn write_members(
 ) -> Result<(), AllocError>
     ensures ok { OnOk result (out.new.tokens ≡ out.old.tokens
         ++ members_data_tokens (arranged order (standing order members.now))) }
+    ensures whole { OnOk result (order ≡ Order.AsTheyStand → MembersAreWhole (members_of members.now)) }
     ensures before { OnOk result (out.new.before ≡ out.old.before) }
 {
     if may_stand(members, order) {
@@ -196,6 +210,7 @@ fn write_standing(
     steps: &mut Steps,
 ) -> Result<(), AllocError>
     ensures ok { OnOk result (out.new.tokens ≡ out.old.tokens ++ members_data_tokens (standing order members.now)) }
+    ensures whole { OnOk result (order ≡ Order.AsTheyStand → MembersAreWhole (members_of members.now)) }
     ensures before { OnOk result (out.new.before ≡ out.old.before) }
 {
     for i in 0..members.len() {

@@ -1,11 +1,12 @@
 use Rattle.std.proofs.Common.{◌≡◌, ◌++◌, ◌+◌, drop, List, OnOk, subst, sym, ap, ◌∙◌, arith}
-use Rattle.std.proofs.lemmas.List.{nil_from_length}
+use Rattle.std.proofs.lemmas.List.{drop_all, nil_from_length}
 use Rattle.std.specs.Vec.Iter.{into_iter_items}
-use Rattle.openapi_node.specs.Tree.{Tree}
+use Rattle.openapi_node.specs.Tree.{Tree, items_of, members_of}
 use Rattle.openapi_node.proofs.TreeLemmas.{next_item}
-use Rattle.openapi_json.specs.Writing.{arranged, lent, members_data_tokens, standing}
+use Rattle.openapi_json.specs.Writing.{arranged, ItemsAreWhole, lent, MembersAreWhole, members_data_tokens, standing}
 use Rattle.openapi_json.specs.declared.write.Order.TheVariants.{ByName}
 use Rattle.openapi_json.proofs.Left.{left_after, member_next}
+use Rattle.openapi_json.proofs.ReadBack.{on_ok}
 use Rattle.openapi_json.proofs.Sorted.{fits_in}
 use Rattle.openapi_json.proofs.write.+write.Goals as goal
 
@@ -29,8 +30,20 @@ write_standing-loop-i-preserved t c =
       written = member_next c.args.order c.loop-i.out.tokens c.key.new.self.tokens c.write_node.new.out.tokens _ (drop i ms) e
           (drop (i + 1) ms) (left_after ms i e c.entry_at.ensures) c.in_ok-key.ensures.ok
           c.in_ok-write_node.ensures.ok l.written;
+      whole = λ o rest. l.whole o (subst (λ es. MembersAreWhole (members_of es)) (sym (left_after ms i e c.entry_at.ensures))
+          (c.in_ok-write_node.ensures.whole o, rest));
       before = c.in_ok-write_node.ensures.before ∙ c.in_ok-key.ensures.room.0 ∙ l.before;
     }
+
+pub write_items-returns-clause-whole : goal.write_items-returns-clause-whole
+write_items-returns-clause-whole t c =
+    let end = drop_all c.loop-item.item-index c.args.items.now (omega (arith, c.loop-item-test.false)) in
+    on_ok c.end_array.result (λ o. c.loop-item.invariant.whole o (subst (λ ts. ItemsAreWhole (items_of ts)) (sym end) tt))
+
+pub write_standing-returns-clause-whole : goal.write_standing-returns-clause-whole
+write_standing-returns-clause-whole t c =
+    let end = drop_all c.loop-i.i c.args.members.now (omega (arith, c.loop-i-test.false, c.len-i-end.ensures.len, c.loop-i.auto.i-end)) in
+    on_ok c.end_object.result (λ o. c.loop-i.invariant.whole o (subst (λ es. MembersAreWhole (members_of es)) (sym end) tt))
 
 pub write_members-returns-then-may_stand-clause-ok : goal.write_members-returns-then-may_stand-clause-ok
 write_members-returns-then-may_stand-clause-ok t c =

@@ -6,4 +6,4 @@ use Rattle.openapi_json.proofs.write.json_from_node.Goals as goal
 pub returns : goal.returns
 returns c =
     subst (λ d. IfOk c.text_of.result (λ s. string_bytes s ≡ compact_text d)) (sym (data-by_name c.args.node.now))
-    c.text_of.ensures
+    c.text_of.ensures.text

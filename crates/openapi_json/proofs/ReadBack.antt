@@ -27,7 +27,7 @@ use Rattle.openapi_node.specs.Tree.{Tree, items_of, members_of}
 use Rattle.openapi_node.specs.Whole.{IsWhole}
 use Rattle.openapi_json.specs.Ordered.{all_whole, entries_of, holds_whole, is_whole, IsTreeInOrder, items_whole, members_whole, parsed}
 use Rattle.openapi_json.specs.Ordered.{tree_of, tree_of_any, trees_of}
-use Rattle.openapi_json.specs.Writing.{AreWhole, data_in_order, items_in, ItemsAreWhole, items_nesting, members_in, MembersAreWhole}
+use Rattle.openapi_json.specs.Writing.{AreWhole, data_in_order, data_tokens, items_in, ItemsAreWhole, items_nesting, members_in, MembersAreWhole}
 use Rattle.openapi_json.specs.Writing.{members_nesting, nesting}
 use Rattle.openapi_json.specs.declared.write.Order.TheVariants.{AsTheyStand}
 use Rattle.openapi_json.proofs.Numbers.{whole_tree}
@@ -178,23 +178,36 @@ mutual
         nests = λ i. max (a.nests i) (b.nests i);
       }
 
--- the text of a tree that nests no deeper than may be read
-pub read_again : (text : List ℕ) (t : Tree) → IsUtf8 text → text ≡ compact_text (data_in_order t) → well_named t ≡ true
+-- the tokens of the compact text of a tree are those of its data
+pub spelled : (text : List ℕ) (t : Tree) → text ≡ compact_text (data_in_order t) → well_named t ≡ true → AreWhole t
+    → tokens text ≡ data_tokens (data_in_order t)
+spelled text t is named whole =
+    let d = data_in_order t in
+    ap tokens (is ∙ sym (print-outline d))
+    ∙ tokens-print (data_tokens d) (ArePrintable-json_tokens (outline d) (written t named whole).numbers)
+
+-- a text of these tokens, where the tree nests no deeper than may be read
+pub read_again : (text : List ℕ) (t : Tree) → IsUtf8 text → tokens text ≡ data_tokens (data_in_order t) → well_named t ≡ true
     → AreWhole t → nesting t ≤ max_depth → IsTreeInOrder text t
 read_again text t utf8 is named whole shallow =
     let j = outline (data_in_order t) in
     let w = written t named whole in
-    let spelled : tokens text ≡ json_tokens j =
-    ap tokens (is ∙ sym (print-outline (data_in_order t))) ∙ tokens-print (json_tokens j) (ArePrintable-json_tokens j w.numbers) in
     let read : parsed text ≡ Some j =
-    ap (option_and_then (λ p. if_last p.0 p.1)) (ap (value max_depth) (spelled ∙ sym (append-nil (json_tokens j)))
+    ap (option_and_then (λ p. if_last p.0 p.1)) (ap (value max_depth) (is ∙ sym (append-nil (json_tokens j)))
     ∙ value-json_tokens j max_depth [] (subst (λ n. n ≤ max_depth) (sym w.nests) shallow)) in
     in_order_of text j t utf8 read (sym w.tree) (read_whole j w.whole)
 
--- and the text that was made of one
+-- and what was made of one
 pub written_again : {E : Type 0} (r : Result (String Global) E) (t : Tree) → well_named t ≡ true
-    → IfOk r (λ s. string_bytes s ≡ compact_text (data_in_order t)) → OnOk r (AsTheyStand ≡ AsTheyStand → AreWhole t)
+    → IfOk r (λ s. tokens (string_bytes s) ≡ data_tokens (data_in_order t)) → AreWhole t
     → IfOk r (λ s. nesting t ≤ max_depth → IsTreeInOrder (string_bytes s) t)
 written_again (Ok s) t named is whole =
-    λ shallow. read_again (string_bytes s) t (IsUtf8-string_bytes s) is named (whole refl) shallow
+    λ shallow. read_again (string_bytes s) t (IsUtf8-string_bytes s) is named whole shallow
 written_again (Err e) t named is whole = tt
+
+pub compact_again : {E : Type 0} (r : Result (String Global) E) (t : Tree) → well_named t ≡ true
+    → IfOk r (λ s. string_bytes s ≡ compact_text (data_in_order t)) → OnOk r (AsTheyStand ≡ AsTheyStand → AreWhole t)
+    → IfOk r (λ s. nesting t ≤ max_depth → IsTreeInOrder (string_bytes s) t)
+compact_again (Ok s) t named is whole =
+    written_again {E = ⊥} (Ok s) t named (spelled (string_bytes s) t is named (whole refl)) (whole refl)
+compact_again (Err e) t named is whole = tt

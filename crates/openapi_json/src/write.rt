@@ -55,7 +55,7 @@ pub fn json_from_node_in_order(
 }
 
 /// The compact JSON text of a node, with its members in an order.
-fn text_of(
+pub(crate) fn text_of(
     alloc: Global,
     node: &Node,
     order: Order,

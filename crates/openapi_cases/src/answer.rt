@@ -3,11 +3,11 @@
 use crate::case::Case;
 use crate::empty::written_empty;
 use crate::functions::by_functions;
-use crate::ordered::ordered_text;
 use crate::row::Row;
 use crate::sorts::{operations, sort};
 use crate::table::{expected_of, full_object, other_objects};
 use crate::taken::taken;
+use crate::texts::{by_name, in_order, ordered_text, position, pretty};
 use crate::types::of_type;
 use openapi_test_support::trees::tree;
 use openapiv3::{Fault, Node, Settle, Steps, ToNode, json_from_node, node_from_json};
@@ -32,7 +32,10 @@ pub enum Ask<'a> {
 pub fn answer(rt: &HostRuntime, case: &Case<'_>) -> Result<String, Fail> {
     let (command, rest) = case.request.split_once(' ').unwrap_or((case.request, ""));
     match command {
-        "json" => json(rt, rest),
+        "json" => by_name(rt, rest),
+        "order" => in_order(rt, rest),
+        "pretty" => pretty(rt, rest),
+        "position" => position(rt, rest),
         "sort" => sort(rt, &tree(rt, rest)?),
         "operations" => operations(rt, &tree(rt, rest)?),
         "new" => told_if_known(rt, written_empty(rt, rest)),
@@ -88,18 +91,6 @@ fn told_if_known(rt: &HostRuntime, answer: Option<Result<Node, Fault>>) -> Resul
     match answer {
         Some(answer) => told(rt, answer),
         None => Ok(String::from_str(rt.alloc(), "! no such type for this command\n")?),
-    }
-}
-
-/// JSON text to a node and back.
-fn json(rt: &HostRuntime, text: &str) -> Result<String, Fail> {
-    match node_from_json(rt.alloc(), text.as_bytes()) {
-        Ok(node) => {
-            let mut steps = Steps::new(rt);
-            let text = json_from_node(rt.alloc(), &node, &mut steps)?;
-            Ok(format!(in rt.alloc(); "= {}\n", text.as_str())?)
-        }
-        Err(fault) => Ok(format!(in rt.alloc(); "! {fault}\n")?),
     }
 }
 

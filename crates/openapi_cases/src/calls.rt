@@ -29,6 +29,10 @@ pub fn on_sample(rt: &HostRuntime, call: &str, sample: Sample) -> Result<Told, F
         "clone" => nodes::clone(rt, sample.text()),
         "node_from_json" => nodes::node_from_json(rt, sample.text()),
         "json_from_node" => nodes::json_from_node(rt, sample.text()),
+        "node_from_json_in_order" => nodes::node_from_json_in_order(rt, sample.text()),
+        "json_from_node_in_order" => nodes::json_from_node_in_order(rt, sample.text()),
+        "pretty_from_node_in_order" => nodes::pretty_from_node_in_order(rt, sample.text()),
+        "position_of" => nodes::position_of(rt, sample.text()),
         "into_node" => match sample {
             Sample::Schema => typed::into_node::<Schema>(rt, sample),
             Sample::Document => typed::into_node::<OpenAPI>(rt, sample),

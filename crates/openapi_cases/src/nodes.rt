@@ -3,7 +3,7 @@
 use crate::marks::{Moment, mark};
 use crate::told::{Told, told_by, told_by_growth, told_by_value};
 use openapi_test_support::trees::tree;
-use openapiv3::{JsonFault, Node, Steps};
+use openapiv3::{JsonFault, Node, Point, Position, Steps};
 use serde_json::Value;
 use std::alloc::AllocError;
 use std::test::Fail;
@@ -77,6 +77,73 @@ pub fn json_from_node(rt: &HostRuntime, text: &str) -> Result<Told, Fail> {
     let answer = openapiv3::json_from_node(alloc, &node, &mut steps);
     mark(alloc, Moment::CallEnds)?;
     Ok(told_by_growth(answer, &wanted).if_kept(&node, &before))
+}
+
+/// Reads a node of JSON text in order.
+pub fn node_from_json_in_order(rt: &HostRuntime, text: &str) -> Result<Told, Fail> {
+    let alloc = rt.alloc();
+    let wanted = tree(rt, text)?;
+    mark(alloc, Moment::CallBegins)?;
+    let answer = openapiv3::node_from_json_in_order(alloc, text.as_bytes());
+    mark(alloc, Moment::CallEnds)?;
+    Ok(match answer {
+        Ok(node) => told_by_value(&node, &wanted),
+        Err(fault) => told_by_json_fault(&fault),
+    })
+}
+
+/// Writes a node as JSON text in order, which is to be read as that node again.
+pub fn json_from_node_in_order(rt: &HostRuntime, text: &str) -> Result<Told, Fail> {
+    let alloc = rt.alloc();
+    let node = tree(rt, text)?;
+    let before = node.clone()?;
+    let mut steps = Steps::new(rt);
+    mark(alloc, Moment::CallBegins)?;
+    let answer = openapiv3::json_from_node_in_order(alloc, &node, &mut steps);
+    mark(alloc, Moment::CallEnds)?;
+    Ok(told_by_text(rt, answer, &node)?.if_kept(&node, &before))
+}
+
+/// The same with a line for each item and each member.
+pub fn pretty_from_node_in_order(rt: &HostRuntime, text: &str) -> Result<Told, Fail> {
+    let alloc = rt.alloc();
+    let node = tree(rt, text)?;
+    let before = node.clone()?;
+    let mut steps = Steps::new(rt);
+    mark(alloc, Moment::CallBegins)?;
+    let answer = openapiv3::pretty_from_node_in_order(alloc, &node, &mut steps);
+    mark(alloc, Moment::CallEnds)?;
+    Ok(told_by_text(rt, answer, &node)?.if_kept(&node, &before))
+}
+
+/// What came of a call that writes a node as JSON text.
+fn told_by_text(
+    rt: &HostRuntime,
+    answer: Result<String, AllocError>,
+    node: &Node,
+) -> Result<Told, Fail> {
+    Ok(match answer {
+        Ok(text) => told_by_value(&tree(rt, text.as_str())?, node),
+        Err(_) => Told::OutOfMemory,
+    })
+}
+
+/// Looks for the position of a text's root.
+pub fn position_of(rt: &HostRuntime, text: &str) -> Result<Told, Fail> {
+    let alloc = rt.alloc();
+    let first = Point {
+        offset: 0,
+        line: 1,
+        column: 1,
+    };
+    let wanted = Some(Position {
+        value: first,
+        name: None,
+    });
+    mark(alloc, Moment::CallBegins)?;
+    let answer = openapiv3::position_of(alloc, text.as_bytes(), &[]);
+    mark(alloc, Moment::CallEnds)?;
+    Ok(told_by_growth(answer, &wanted))
 }
 
 /// Copies a node, with its looks counted.

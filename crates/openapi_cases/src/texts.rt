@@ -1,0 +1,133 @@
+//! Cases on JSON text: what is read of it, what is written again, and where its values stand.
+
+use openapiv3::{
+    JsonFault, Node, PlaceStep, Point, Steps, json_from_node, json_from_node_in_order,
+    node_from_json, node_from_json_in_order, position_of, pretty_from_node_in_order,
+};
+use std::test::Fail;
+
+/// The answer of a line of text.
+fn told(rt: &HostRuntime, text: &str) -> Result<String, Fail> {
+    Ok(format!(in rt.alloc(); "= {text}\n")?)
+}
+
+/// The answer of a fault.
+fn refused(rt: &HostRuntime, fault: &JsonFault) -> Result<String, Fail> {
+    Ok(format!(in rt.alloc(); "! {fault}\n")?)
+}
+
+/// A node as compact JSON text, with the members of each object in their order.
+pub fn ordered_text(rt: &HostRuntime, node: &Node) -> Result<String, Fail> {
+    let mut steps = Steps::new(rt);
+    Ok(json_from_node_in_order(rt.alloc(), node, &mut steps)?)
+}
+
+/// A node with a line for each item and each member.
+fn pretty_text(rt: &HostRuntime, node: &Node) -> Result<String, Fail> {
+    let mut steps = Steps::new(rt);
+    Ok(pretty_from_node_in_order(rt.alloc(), node, &mut steps)?)
+}
+
+/// JSON text to a node and back, by name.
+pub fn by_name(rt: &HostRuntime, text: &str) -> Result<String, Fail> {
+    match node_from_json(rt.alloc(), text.as_bytes()) {
+        Ok(node) => {
+            let mut steps = Steps::new(rt);
+            told(rt, json_from_node(rt.alloc(), &node, &mut steps)?.as_str())
+        }
+        Err(fault) => refused(rt, &fault),
+    }
+}
+
+/// JSON text to a node and back, in order. What is refused has to be refused by name for the same reason, and else the
+/// same has to be written by name of both nodes, and to be read of the pretty text.
+pub fn in_order(rt: &HostRuntime, text: &str) -> Result<String, Fail> {
+    let named = by_name(rt, text)?;
+    match node_from_json_in_order(rt.alloc(), text.as_bytes()) {
+        Ok(node) => {
+            let answer = told(rt, ordered_text(rt, &node)?.as_str())?;
+            let pretty = pretty_text(rt, &node)?;
+            if again(rt, pretty.as_str())?.as_str() != answer.as_str() {
+                return Ok(String::from_str(rt.alloc(), "its pretty text is read otherwise\n")?);
+            }
+            if by_name(rt, pretty.as_str())?.as_str() != named.as_str() {
+                return Ok(String::from_str(rt.alloc(), "by name another tree is read\n")?);
+            }
+            Ok(answer)
+        }
+        Err(fault) => {
+            let answer = refused(rt, &fault)?;
+            if named.as_str() != answer.as_str() {
+                return Ok(format!(in rt.alloc(); "by name {}", named.as_str())?);
+            }
+            Ok(answer)
+        }
+    }
+}
+
+/// What is written in order of the node that is read in order of a text.
+fn again(rt: &HostRuntime, text: &str) -> Result<String, Fail> {
+    match node_from_json_in_order(rt.alloc(), text.as_bytes()) {
+        Ok(node) => told(rt, ordered_text(rt, &node)?.as_str()),
+        Err(fault) => refused(rt, &fault),
+    }
+}
+
+/// JSON text to a node and back, with a line for each item and each member.
+pub fn pretty(rt: &HostRuntime, text: &str) -> Result<String, Fail> {
+    match node_from_json_in_order(rt.alloc(), text.as_bytes()) {
+        Ok(node) => {
+            let mut answer = String::new(rt.alloc());
+            for line in pretty_text(rt, &node)?.as_str().lines() {
+                answer.push_str(told(rt, line)?.as_str())?;
+            }
+            Ok(answer)
+        }
+        Err(fault) => refused(rt, &fault),
+    }
+}
+
+/// Where the value at a place stands in a text, in which `↵` stands for a line feed.
+pub fn position(rt: &HostRuntime, request: &str) -> Result<String, Fail> {
+    let (place, text) = request.split_once(' ').unwrap_or((request, ""));
+    let text = text.replace(rt.alloc(), "↵", "\n")?;
+    let place = place_of(rt, place)?;
+    match position_of(rt.alloc(), text.as_str().as_bytes(), place.as_slice())? {
+        Some(position) => {
+            let value = point_text(rt, &position.value)?;
+            match position.name {
+                Some(name) => {
+                    let name = point_text(rt, &name)?;
+                    Ok(format!(in rt.alloc(); "= {value}, name {name}\n")?)
+                }
+                None => told(rt, value.as_str()),
+            }
+        }
+        None => Ok(String::from_str(rt.alloc(), "! none\n")?),
+    }
+}
+
+/// A point: its line and its column, and how many bytes stand before it.
+fn point_text(rt: &HostRuntime, point: &Point) -> Result<String, Fail> {
+    let Point {
+        offset,
+        line,
+        column,
+    } = *point;
+    Ok(format!(in rt.alloc(); "{line}:{column} at {offset}")?)
+}
+
+/// The place of a JSON Pointer whose tokens have no `~`, in which `[0]` stands for the index 0. So `#` is the root.
+fn place_of(rt: &HostRuntime, pointer: &str) -> Result<Vec<PlaceStep>, Fail> {
+    let mut place = Vec::new(rt.alloc());
+    for token in pointer.split('/').skip(1) {
+        let index = token
+            .strip_prefix("[")
+            .and_then(|rest| rest.strip_suffix("]"));
+        place.push(match index {
+            Some(index) => PlaceStep::Index(index.parse::<usize>()?),
+            None => PlaceStep::Name(String::from_str(rt.alloc(), token)?),
+        })?;
+    }
+    Ok(place)
+}

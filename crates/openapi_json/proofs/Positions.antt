@@ -20,7 +20,7 @@ use Rattle.serde_json.specs.Read.{max_depth}
 use Rattle.openapi_node.specs.Place.{Place, Step, named, indexed}
 use Rattle.openapi_json.specs.Ordered.{parsed}
 use Rattle.openapi_json.specs.Positions.{BeginsAt, flat, IsNamed, item_tokens, json_at, last_name, LeadsTo, member_tokens, StandsAt}
-use Rattle.openapi_json.specs.Positions.{StepsTo, value_at}
+use Rattle.openapi_json.specs.Positions.{StepsTo}
 use Rattle.openapi_json.specs.Scanned.{AreGood, begins, next_mode}
 use Rattle.openapi_json.specs.declared.position.Point.{Point}
 use Rattle.openapi_json.specs.declared.position.Position.{Position}

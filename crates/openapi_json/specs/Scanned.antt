@@ -1,5 +1,5 @@
 -- Where the tokens of a JSON text begin, byte by byte, beside what the grammar of `json` makes of its bytes.
-use Rattle.std.specs.Prelude.{◌≡◌, ℕ, List, [], ◌∷◌, Bool, true, false}
+use Rattle.std.specs.Prelude.{◌≡◌, ℕ, List, Bool, true, false}
 use Rattle.std.specs.List.{AllByRecursion}
 use Rattle.json.specs.Lex.{Class, quote, backslash, operator, space, other, Lexeme, token, comma, colon, operator_lexeme}
 use Rattle.json.specs.Lex as lexing

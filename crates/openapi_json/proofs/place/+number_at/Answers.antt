@@ -1,4 +1,4 @@
-use Rattle.std.proofs.Common.{◌≡◌, ◌+◌, ◌-◌, ◌∷◌, length, map, drop, take, sym, subst, ap, arith}
+use Rattle.std.proofs.Common.{◌+◌, length, map, sym, subst, ap, arith}
 use Rattle.std.proofs.lemmas.List.{nil_from_length}
 use Rattle.json.specs.Tree.{json_tokens}
 use Rattle.json.specs.Value.{value_view}

@@ -1,5 +1,4 @@
-use Rattle.std.proofs.Common.{◌≡◌, ◌≤◌, length, Some, None, sym, ap, subst, ◌∙◌, arith}
-use Rattle.json.specs.Lex.{tokens}
+use Rattle.std.proofs.Common.{◌≡◌, None, sym, ap, subst, ◌∙◌, arith}
 use Rattle.json.specs.Value.{value_view}
 use Rattle.openapi_json.specs.Ordered.{parsed}
 use Rattle.openapi_json.specs.Scanned.{AreGood}

@@ -1,4 +1,4 @@
-use Rattle.std.proofs.Common.{◌≡◌, ◌+◌, ◌≤◌, [], drop, drop-drop, get_or, length, length-drop, refl, sym, ap, subst, ◌∙◌, arith}
+use Rattle.std.proofs.Common.{◌≡◌, ◌+◌, [], drop, drop-drop, get_or, length, length-drop, sym, ap, subst, ◌∙◌, arith}
 use Rattle.std.proofs.lemmas.List.{drop_all}
 use Rattle.json.specs.Lex.{class, lex, tokens}
 use Rattle.openapi_json.specs.Scanned.{mode_of, next_mode}

@@ -360,8 +360,10 @@ class Function:
         if self.cycle:
             own = rf"`{self.name}-"
             return at[1].startswith(f"{proofs}+{self.cycle}/") and bool(re.search(own, at[3])) and "error" in at[3]
-        # The proofs of an impl stand with its type, in whatever file the impl is.
-        own = rf"proofs/(\S*/)?{self.owner}{self.more}/{self.name}/" if self.owner else rf"{proofs}{self.name}/"
+        # The proofs of an impl stand with its type, in whatever file the impl is; those of a function that calls itself in
+        # the folder of a cycle.
+        own = rf"proofs/(\S*/)?{self.owner}{self.more}/" if self.owner else proofs
+        own = rf"{own}\+?{self.name}/"
         return bool(re.match(own, at[1])) and "error" in at[3]
 
 

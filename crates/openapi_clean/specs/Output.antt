@@ -9,7 +9,7 @@ use Rattle.openapi_tables.specs.Tables.{final_tables}
 use Rattle.openapi_text.specs.Status.{status_of}
 use Rattle.openapi_text.specs.Texts.{IsTextOf, rewritten, text_in}
 use Rattle.openapi_text.specs.declared.layout.Layout.TheVariants.{ByName}
-use Rattle.openapi_text.specs.declared.rewrite.Rewriting.TheVariants as rewriting
+use Rattle.openapi_text.specs.declared.rewriting.Rewriting.TheVariants as rewriting
 use Rattle.openapi_clean.specs.Commands.{kind_of}
 use Rattle.openapi_clean.specs.declared.command.Command.{Command}
 use Rattle.openapi_clean.specs.declared.command.Command.TheVariants.{Tag, Schema, Document, Settle, Operations}

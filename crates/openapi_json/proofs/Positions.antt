@@ -1,10 +1,10 @@
 -- How many tokens of a value stand before the one at a place in it, and what stands there in a text.
-use Rattle.std.proofs.Common.{◌≡◌, ℕ, zero, suc, ◌+◌, ◌-◌, ◌<◌, ◌≤◌, List, [], ◌∷◌, ◌++◌, Bool, true, false, Option, Some, None}
+use Rattle.std.proofs.Common.{◌≡◌, ℕ, zero, suc, ◌+◌, ◌-◌, ◌<◌, ◌≤◌, List, [], ◌∷◌, ◌++◌, Bool, true, false, cond, Option, Some, None}
 use Rattle.std.proofs.Common.{IfSome, IsFalse, IsSomeAnd, IsTrue, is_some, MatchOption, option_and_then, drop, take, get_or, length, drop-drop}
 use Rattle.std.proofs.Common.{append_assoc, append-nil, length-append, length-drop, take_all, refl, sym, ap, subst, ◌∙◌, arith, Vec, true≢false}
-use Rattle.std.proofs.lemmas.List.{drop_more}
+use Rattle.std.proofs.lemmas.List.{drop_more, take_more}
 use Rattle.std.specs.Borrow.{Bor}
-use Rattle.std.specs.Str.{IsUtf8}
+use Rattle.std.specs.Str.{bytes_eq, IsUtf8}
 use Rattle.json.specs.Find.{get_member}
 use Rattle.json.specs.Json.{Json, null, boolean, number, string, array, object, Items, no_items, item, Members, no_members, member}
 use Rattle.json.specs.Json.{if_last, value}
@@ -15,7 +15,7 @@ use Rattle.json.specs.Tree.{json_tokens, items_tokens, members_tokens}
 use Rattle.json.specs.Value.{value_view, items_view, members_view}
 use Rattle.json.specs.declared.value.Value.{Value, Array, Object}
 use Rattle.json.proofs.Found.{not_found, Some_inj}
-use Rattle.json.proofs.Trees.{get_item_within, view-Array, view-Object}
+use Rattle.json.proofs.Trees.{get_item_within, get_member-push, view-Array, view-Object}
 use Rattle.serde_json.specs.Read.{max_depth}
 use Rattle.openapi_node.specs.Place.{Place, Step, named, indexed}
 use Rattle.openapi_json.specs.Ordered.{parsed}
@@ -187,6 +187,18 @@ member_steps ms i d name h same found =
       there = ap (λ k. drop k (json_tokens (object (members_view ms)))) e ∙ sym (drop-drop 1 n all) ∙ ap (drop 1) begins;
       name = (omega arith, ap (λ k. drop k (json_tokens (object (members_view ms)))) f ∙ begins);
     }
+
+-- the members from the end, one by one: that one has the name, or it is among those before it
+pub last_of : {A : Type 0} (ms : List (Bor (List ℕ) × Value A)) (left : ℕ) (m : Bor (List ℕ) × Value A) (name : List ℕ)
+    → 0 < left → left ≤ length ms → m ≡ get_or ms (left - 1) m
+    → get_member name (members_view ms) ≡ get_member name (members_view (take left ms))
+    → get_member name (members_view ms)
+    ≡ cond (bytes_eq m.0.now name) (Some (value_view m.1)) (get_member name (members_view (take (left - 1) ms)))
+last_of ms left m name some within is last =
+    let next : left ≡ left - 1 + 1 = omega (arith, some) in
+    let front = ap (λ k. take k ms) next ∙ take_more ms (left - 1) m (omega (arith, some, within))
+    ∙ ap (λ n. take (left - 1) ms ++ n ∷ []) (sym is) in
+    last ∙ ap (λ ns. get_member name (members_view ns)) front ∙ get_member-push name (take (left - 1) ms) m
 
 -- ---- a place
 begins_some : (j : Json) → 0 < length (json_tokens j)

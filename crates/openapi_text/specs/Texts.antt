@@ -1,5 +1,5 @@
 -- What a text holds and what is written of it, by name or in order, and what the failures say of a text.
-use Rattle.std.specs.Prelude.{◌≡◌, ◌≢◌, ◌⊎◌, ℕ, List, [], ◌∷◌, ◌++◌, take, Option, Some, None, true, false, Result, Ok, Err, codes}
+use Rattle.std.specs.Prelude.{◌≡◌, ◌≢◌, ◌⊎◌, ℕ, List, [], ◌∷◌, ◌++◌, take, Option, Some, None, false, Result, Ok, Err, codes}
 use Rattle.std.specs.Io.KnownBytes.{Appends}
 use Rattle.std.specs.Str.{IsUtf8}
 use Rattle.json.specs.Layout.{pretty}
@@ -24,8 +24,8 @@ use Rattle.openapi_text.specs.declared.fault.RunFault.{RunFault}
 use Rattle.openapi_text.specs.declared.fault.RunFault.TheVariants.{Refused, NotJson, Memory, Read, Write}
 use Rattle.openapi_text.specs.declared.layout.Layout.{Layout}
 use Rattle.openapi_text.specs.declared.layout.Layout.TheVariants.{ByName, InOrder, Pretty}
-use Rattle.openapi_text.specs.declared.rewrite.Rewriting.{Rewriting}
-use Rattle.openapi_text.specs.declared.rewrite.Rewriting.TheVariants.{Tag, Schema, Document, Settle}
+use Rattle.openapi_text.specs.declared.rewriting.Rewriting.{Rewriting}
+use Rattle.openapi_text.specs.declared.rewriting.Rewriting.TheVariants.{Tag, Schema, Document, Settle}
 
 -- the bytes are text in UTF-8 and JSON whose numbers are all whole, and this is their tree
 abbrev pub IsTreeBy : Layout → List ℕ → Tree → Type 0

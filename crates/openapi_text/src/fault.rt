@@ -39,7 +39,7 @@ impl From<AllocError> for RunFault {
 }
 
 impl From<JsonFault> for RunFault {
-    ghost use Rattle.openapi_text.specs.Output.{run_fault_of};
+    ghost use Rattle.openapi_text.specs.Texts.{run_fault_of};
 
     ghost from_gives = { λ j e. e ≡ run_fault_of j };
 

@@ -4,9 +4,9 @@
 mod fault;
 mod layout;
 mod pipes;
-mod rewrite;
+mod rewriting;
 
 pub use fault::RunFault;
 pub use layout::{Layout, text_of};
 pub use pipes::{read_all, write_all};
-pub use rewrite::{Rewriting, read_object, rewrite};
+pub use rewriting::{Rewriting, read_object, rewrite};

@@ -12,8 +12,10 @@ use Rattle.std.specs.Str.{bytes_eq}
 use Rattle.openapi_map.specs.Held.{kept, IsHeldIndexed}
 use Rattle.openapi_map.specs.declared.Held.{Held}
 use Rattle.openapi_map.specs.Entries.{entries_of, names_of, IsCloneOf}
-use Rattle.openapi_map.specs.Index.{IsIndex, IsIndexAt, bucket, link_at}
+use Rattle.openapi_map.specs.Index.{AreMarked, IsIndex, IsIndexAt, bucket, link_at}
 use Rattle.openapi_map.specs.declared.index.NameIndex.{NameIndex}
+use Rattle.openapi_map.specs.declared.lookup.Names.{Names}
+use Rattle.openapi_map.specs.declared.lookup.Names.TheVariants.{Few, Many}
 
 module _ {V : Type 0} (C : V → V → Type 0) where
   -- the second has the first's name, by its bytes, and a clone of its value
@@ -54,20 +56,19 @@ IsIndex-clone names i j h is =
           ∙ ap (λ n. link_at n (bucket n (get_or names p [])) names p) (sym buckets);
     }
 
--- both indexes are there, and the second is a clone of the first, or neither is
-abbrev pub IsIndexClone : Option (Box NameIndex Global) → Option (Box NameIndex Global) → Type 0
-IsIndexClone None None = Unit {0}
-IsIndexClone None (Some c) = ⊥
-IsIndexClone (Some b) None = ⊥
-IsIndexClone (Some b) (Some c) = AreLinkClones b.value.heads c.value.heads × AreLinkClones b.value.next c.value.next
+-- both have the same marks, or the second has a clone of the first's index
+abbrev pub IsNamesClone : Names → Names → Type 0
+IsNamesClone (Few m) (Few n) = n ≡ m
+IsNamesClone (Few m) (Many c) = ⊥
+IsNamesClone (Many b) (Few n) = ⊥
+IsNamesClone (Many b) (Many c) = AreLinkClones b.value.heads c.value.heads × AreLinkClones b.value.next c.value.next
 
--- a clone of an index is an index of the same names
-pub IsIndexAt-clone : (names : List (List ℕ)) (a b : Option (Box NameIndex Global)) → IsIndexClone a b
-    → IsIndexAt names a → IsIndexAt names b
-IsIndexAt-clone names None None h is = tt
-IsIndexAt-clone names None (Some c) h is = absurd h
-IsIndexAt-clone names (Some b) None h is = absurd h
-IsIndexAt-clone names (Some b) (Some c) h is = IsIndex-clone names b.value c.value h is
+-- a clone finds the same names
+pub IsIndexAt-clone : (names : List (List ℕ)) (a b : Names) → IsNamesClone a b → IsIndexAt names a → IsIndexAt names b
+IsIndexAt-clone names (Few m) (Few n) h is = subst (AreMarked names) (sym h) is
+IsIndexAt-clone names (Few m) (Many c) h is = absurd h
+IsIndexAt-clone names (Many b) (Few n) h is = absurd h
+IsIndexAt-clone names (Many b) (Many c) h is = IsIndex-clone names b.value c.value h is
 
 module _ {V : Type 0} (C : V → V → Type 0) where
   -- both maps keep entries, and the second the clones of the first's, or neither does
@@ -77,7 +78,7 @@ module _ {V : Type 0} (C : V → V → Type 0) where
   IsHeldClone (Some b) None = ⊥
   IsHeldClone (Some b) (Some c) =
       (AllZip (IsEntryClone C) b.value.entries.items c.value.entries.items
-      × (vec_len c.value.entries ≡ vec_len b.value.entries)) × IsIndexClone b.value.index c.value.index
+      × (vec_len c.value.entries ≡ vec_len b.value.entries)) × IsNamesClone b.value.names c.value.names
 
   -- the clone has the names, an index of them and clones of the values
   pub kept-clone : (a b : Option (Box (Held V) Global)) → IsHeldClone a b
@@ -90,7 +91,7 @@ module _ {V : Type 0} (C : V → V → Type 0) where
       let es = b.value.entries.items in
       let fs = c.value.entries.items in
       let names = sym (names_of-clone C es fs h.0.0) in (
-        subst (λ ns. IsDistinct bytes_eq ns × IsIndexAt ns c.value.index) names
-            (is.0, IsIndexAt-clone (names_of es) b.value.index c.value.index h.1 is.1),
+        subst (λ ns. IsDistinct bytes_eq ns × IsIndexAt ns c.value.names) names
+            (is.0, IsIndexAt-clone (names_of es) b.value.names c.value.names h.1 is.1),
         entries_of-clone C es fs h.0.0,
       )

@@ -1,6 +1,6 @@
 -- The index: what it is once a name comes or goes, and what a look-up by it finds.
 use Rattle.std.proofs.Common.{◌≡◌, ◌≢◌, ℕ, suc, ◌+◌, ◌-◌, ◌<◌, ◌≤◌, Bool, true, false, cond, eqb, nat_lt, List, [], ◌∷◌}
-use Rattle.std.proofs.Common.{◌++◌, length, get_or, set, remove, replicate, position, Option, Some, None, IfSome, Vec}
+use Rattle.std.proofs.Common.{◌++◌, length, get_or, set, remove, replicate, position, Some, None, Vec}
 use Rattle.std.proofs.Common.{vec_len, slice_index, refl, sym, ap, subst, ◌∙◌, arith, true≢false, get_or-set_other}
 use Rattle.std.proofs.lemmas.Bool.{cases_lt, eqb-true, eq-eqb, lt-ltb}
 use Rattle.std.proofs.lemmas.Bool.Decides.{eqb_tells, nat_tests}
@@ -17,12 +17,13 @@ use Rattle.std.specs.List.{IsDistinct, position_or_len}
 use Rattle.std.specs.Str.{bytes_eq}
 use Rattle.std.specs.Vec.{with_item}
 use Rattle.std.specs.declared.alloc.Global.{Global}
-use Rattle.std.specs.declared.boxed.Box.{Box}
 use mathlib.Core.Logic.{inl, inr}
 use Rattle.openapi_map.specs.Entries.{Entries, entries_of, names_of, get, HasDistinctNames}
-use Rattle.openapi_map.specs.Index.{bucket, link_at, moved_link, IsIndex, IsIndexAt}
+use Rattle.openapi_map.specs.Index.{bucket, link_at, moved_link, HasPlace, IsIndex, IsIndexAt}
 use Rattle.openapi_map.specs.declared.Member.{Member}
 use Rattle.openapi_map.specs.declared.index.NameIndex.{NameIndex}
+use Rattle.openapi_map.specs.declared.lookup.Names.{Names}
+use Rattle.openapi_map.specs.declared.lookup.Names.TheVariants.{Few, Many}
 use Rattle.openapi_map.proofs.EntryLemmas.{none-among}
 use Rattle.openapi_map.proofs.LinkLemmas.{link_at-same, link_at-push, link_at-moved, link_at-below, Leads}
 use Rattle.openapi_map.proofs.LinkLemmas.{link_at-Leads, moved-low}
@@ -168,11 +169,10 @@ module _ (names : List (List ℕ)) (index : NameIndex) (is : IsIndex names index
         ∙ next-left p h ∙ (λ j. link_at (sym same j) (bucket (sym same j) (get_or left p [])) left p);
   }
 
--- an index, where there is one, has a link at each place
-pub linked : (names : List (List ℕ)) (index : Option (Box NameIndex Global)) (i : ℕ) → IsIndexAt names index
-    → i < length names → IfSome index (λ b. i < vec_len b.value.next)
-linked names None i is within = tt
-linked names (Some b) i is within = omega (arith, is.len, within)
+-- an index has a link at each place
+pub linked : (names : List (List ℕ)) (found : Names) (i : ℕ) → IsIndexAt names found → i < length names → HasPlace i found
+linked names (Few marks) i is within = tt
+linked names (Many b) i is within = omega (arith, is.len, within)
 
 -- ---- an index of no names
 pub IsIndex-none : (heads next : Vec ℕ Global) (n : ℕ) → heads.items ≡ replicate n 0 → vec_len heads ≡ n → 0 < n
@@ -258,13 +258,17 @@ module _ (name : List ℕ) (names : List (List ℕ)) where
       sym (ap (λ t. cond t (Some p) None) (lt-ltb p (length names) within))
       ∙ ap (λ q. cond (nat_lt q (length names)) (Some q) None) (sym first)
 
-  -- and where it comes to an end, there is none
-  pub position-none : (n link : ℕ) → Passed n link → link ≡ 0 → None ≡ position (bytes_eq name) names
-  position-none n link passed at =
+  -- where each is another, there is none
+  pub none-position : ((k : ℕ) → k < length names → bytes_eq name (get_or names k []) ≡ false)
+      → None ≡ position (bytes_eq name) names
+  none-position apart =
       let end = length names in
       let none : position_or_len (bytes_eq name) names ≡ end =
-      position_or_len_is (bytes_eq name) names end [] (omega arith) (λ k h. passed.none k (omega (arith, at)) h)
-      (λ h. absurd (omega (arith, h))) in
+      position_or_len_is (bytes_eq name) names end [] (omega arith) apart (λ h. absurd (omega (arith, h))) in
       let past : nat_lt end end ≡ false = grind (arith, nat_tests) in
       sym (ap (λ t. cond t (Some end) None) past)
       ∙ ap (λ q. cond (nat_lt q end) (Some q) None) (sym none)
+
+  -- so there is none where it comes to an end
+  pub position-none : (n link : ℕ) → Passed n link → link ≡ 0 → None ≡ position (bytes_eq name) names
+  position-none n link passed at = none-position (λ k h. passed.none k (omega (arith, at)) h)

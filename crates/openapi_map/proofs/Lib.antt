@@ -8,3 +8,4 @@ pub mod LinkLemmas
 mod PlaceLemmas
 mod RemoveLemmas
 mod RetainLemmas
+mod MarkLemmas

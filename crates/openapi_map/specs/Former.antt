@@ -2,6 +2,7 @@
 use Rattle.std.specs.Prelude.{◌≡◌, ℕ, max, Bool, true, false, cond, ◌&&◌, List, [], ◌∷◌, map, Option, Some, None}
 use Rattle.std.specs.Prelude.{String, string_bytes}
 use Rattle.std.specs.HashMap.{entries_eq}
+use Rattle.std.specs.Int.{bit_at}
 use Rattle.std.specs.List.{IsDistinct, IsDistinct-prop, list_all}
 use Rattle.std.specs.Map.{keys_of, values_of, lookup_entry}
 use Rattle.std.specs.Option.{option_eq, option_map}
@@ -22,10 +23,12 @@ use denote.Param.Nested.{deepest}
 use denote.Param.Weighed.{Weighed, most, none_max, List-puts, w_pair, w_const}
 use Rattle.openapi_map.specs.declared.Member.{Member}
 use Rattle.openapi_map.specs.Entries.{Entries, entries_of, names_of}
-use Rattle.openapi_map.specs.Index.{IsIndex, IsIndexAt}
+use Rattle.openapi_map.specs.Index.{AreMarked, IsIndex, IsIndexAt, mark}
 use Rattle.openapi_map.specs.Held.{kept, IsHeldIndexed}
 use Rattle.openapi_map.specs.declared.Held.{Held}
 use Rattle.openapi_map.specs.declared.index.NameIndex.{NameIndex}
+use Rattle.openapi_map.specs.declared.lookup.Names.{Names}
+use Rattle.openapi_map.specs.declared.lookup.Names.TheVariants.{Few, Many}
 
 -- a name beside one of g's values
 abbrev pub entry : Former {0} → Former {0}
@@ -86,9 +89,13 @@ entries_of-held X (e ∷ es) = λ i. (one_more (entries_of-held X es i).0, (e.va
 pub IsIndex-prop : (names : List (List ℕ)) (index : NameIndex) → IsProp (IsIndex names index)
 IsIndex-prop names index = hlevel (le_prop, ℕ_set)
 
-pub IsIndexAt-prop : (names : List (List ℕ)) (index : Option (Box NameIndex Global)) → IsProp (IsIndexAt names index)
-IsIndexAt-prop names None = λ p q. refl
-IsIndexAt-prop names (Some b) = IsIndex-prop names b.value
+AreMarked-prop : (names : List (List ℕ)) (marks : ℕ) → IsProp (AreMarked names marks)
+AreMarked-prop [] marks = λ p q. refl
+AreMarked-prop (n ∷ ns) marks = ×_prop (ℕ_set (bit_at marks (mark n)) 1) (AreMarked-prop ns marks)
+
+pub IsIndexAt-prop : (names : List (List ℕ)) (found : Names) → IsProp (IsIndexAt names found)
+IsIndexAt-prop names (Few marks) = AreMarked-prop names marks
+IsIndexAt-prop names (Many b) = IsIndex-prop names b.value
 
 -- what holds of what a map keeps
 abbrev pub Indexed : {X : Type 0} → Option (Box (Held X) Global) → Type 0
@@ -96,7 +103,7 @@ Indexed o = IsDistinct bytes_eq (names_of (kept o)) × IsHeldIndexed o
 
 pub IsHeldIndexed-prop : {X : Type 0} (o : Option (Box (Held X) Global)) → IsProp (IsHeldIndexed o)
 IsHeldIndexed-prop None = λ p q. refl
-IsHeldIndexed-prop (Some b) = IsIndexAt-prop (names_of b.value.entries.items) b.value.index
+IsHeldIndexed-prop (Some b) = IsIndexAt-prop (names_of b.value.entries.items) b.value.names
 
 pub Indexed-prop : {X : Type 0} (o : Option (Box (Held X) Global)) → IsProp (Indexed o)
 Indexed-prop o = ×_prop (IsDistinct-prop bytes_eq (names_of (kept o))) (IsHeldIndexed-prop o)

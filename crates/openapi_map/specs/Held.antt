@@ -13,7 +13,7 @@ module _ {V : Type 0} where
   kept None = []
   kept (Some b) = b.value.entries.items
 
-  -- the index is one of the names
+  -- the names are found
   abbrev pub IsHeldIndexed : Option (Box (Held V) Global) → Type 0
   IsHeldIndexed None = Unit {0}
-  IsHeldIndexed (Some b) = IsIndexAt (names_of b.value.entries.items) b.value.index
+  IsHeldIndexed (Some b) = IsIndexAt (names_of b.value.entries.items) b.value.names

@@ -1,11 +1,12 @@
--- The index of a long map: the places of its names by their hashes.
-use Rattle.std.specs.Prelude.{◌≡◌, ℕ, zero, suc, ◌-◌, ◌<◌, List, [], length, get_or, slice_index}
-use Rattle.std.specs.Prelude.{Option, Some, None, Bool, cond, eqb, nat_lt, bit_and}
+-- What finds the names of a map: marks of few, and of many an index, which has their places by their hashes.
+use Rattle.std.specs.Prelude.{◌≡◌, ℕ, zero, suc, ◌+◌, ◌-◌, ◌*◌, ◌%◌, ◌<◌, ◌≤◌, List, [], ◌∷◌, length, get_or, slice_index}
+use Rattle.std.specs.Prelude.{Bool, cond, eqb, nat_lt, bit_and}
 use Rattle.std.specs.Hash.FoldHasher as folding
+use Rattle.std.specs.Int.{bit_at}
 use Rattle.std.specs.Vec.{vec_len, vec_capacity}
-use Rattle.std.specs.declared.alloc.Global.{Global}
-use Rattle.std.specs.declared.boxed.Box.{Box}
 use Rattle.openapi_map.specs.declared.index.NameIndex.{NameIndex}
+use Rattle.openapi_map.specs.declared.lookup.Names.{Names}
+use Rattle.openapi_map.specs.declared.lookup.Names.TheVariants.{Few, Many}
 
 -- the bucket of a name, of n
 unfoldable pub bucket : ℕ → List ℕ → ℕ
@@ -33,10 +34,29 @@ pub record IsIndex (names : List (List ℕ)) (index : NameIndex) : Type 0 where
   pub next : (p : ℕ) → p < length names → slice_index index.next.items p
       ≡ link_at (vec_len index.heads) (bucket (vec_len index.heads) (get_or names p [])) names p
 
--- the index is one of the names, where there is one
-abbrev pub IsIndexAt : List (List ℕ) → Option (Box NameIndex Global) → Type 0
-IsIndexAt names None = Unit {0}
-IsIndexAt names (Some b) = IsIndex names b.value
+-- the mark of a name, one of 64: its length and its first byte
+abbrev pub mark : List ℕ → ℕ
+mark name = (length name + 8 * slice_index name 0) % 64
+
+-- the mark of each name has its bit
+abbrev pub AreMarked : List (List ℕ) → ℕ → Type 0
+AreMarked [] marks = Unit {0}
+AreMarked (n ∷ ns) marks = (bit_at marks (mark n) ≡ 1) × AreMarked ns marks
+
+-- the names are those that are found
+abbrev pub IsIndexAt : List (List ℕ) → Names → Type 0
+IsIndexAt names (Few marks) = AreMarked names marks
+IsIndexAt names (Many b) = IsIndex names b.value
+
+-- an index has a link at the place
+abbrev pub HasPlace : ℕ → Names → Type 0
+HasPlace i (Few marks) = Unit {0}
+HasPlace i (Many b) = i < vec_len b.value.next
+
+-- an index has a bucket, and room for so many names
+abbrev pub HasRoomFor : ℕ → Names → Type 0
+HasRoomFor n (Few marks) = Unit {0}
+HasRoomFor n (Many b) = (0 < vec_len b.value.heads) × (n ≤ vec_capacity b.value.next)
 
 -- there is room for one more place
 abbrev pub HasRoom : NameIndex → Type 0

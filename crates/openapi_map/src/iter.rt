@@ -184,8 +184,8 @@ fn taken_entries<V>(held: Option<Box<Held<V>>>, alloc: Global) -> Vec<Member<V>>
 {
     match held {
         Some(held) => {
-            let Held { entries, index } = Box::into_inner(held);
-            drop(index);
+            let Held { entries, names } = Box::into_inner(held);
+            drop(names);
             entries
         }
         None => Vec::new(alloc),

@@ -19,9 +19,8 @@ ghost use Rattle.openapi_map.specs.Entries.{entries_of, names_of, get, insert_en
 ghost use Rattle.openapi_map.specs.Lends.{lends_index, lends_name, lends_place};
 
 pub use crate::entry::{Entry, OccupiedEntry, VacantEntry};
-use crate::index::NameIndex;
 pub use crate::iter::{IntoIter, Iter, Keys, Values};
-use crate::lookup::{add_name, drop_name, kept_entries, place_in};
+use crate::lookup::{Names, add_name, drop_name, kept_entries, place_in};
 use std::alloc::{AllocError, Global};
 use std::marker::Model;
 use std::mem;
@@ -45,8 +44,7 @@ struct Member<V> {
 #[derive(Clone, Drop)]
 struct Held<V> {
     entries: Vec<Member<V>>,
-    // The places of the names by their hashes, where the entries are many. It is boxed to keep a short map small.
-    index: Option<Box<NameIndex>>,
+    names: Names,
 }
 
 /// Values by name, in the order in which the names came. Contracts see it as the list of its entries, no two of which
@@ -78,11 +76,11 @@ impl<V> Held<V> {
     where
         V: Drop,
         ensures entries { IfOk result (λ b. b.value.entries.items ≡ []) }
-        ensures index { IfOk result (λ b. b.value.index ≡ None) }
+        ensures index { IfOk result (λ b. b.value.names ≡ Names.Few 0) }
     {
         let held = Held {
             entries: Vec::with_capacity(alloc, capacity)?,
-            index: None,
+            names: Names::Few(0),
         };
         Ok(Box::new(alloc, held)?)
     }
@@ -91,14 +89,14 @@ impl<V> Held<V> {
     fn push_last(&mut self, name: String, value: V) -> Result<(), AllocError>
     where
         V: Drop,
-        requires { IsIndexAt (names_of self.old.entries.items) self.old.index }
+        requires { IsIndexAt (names_of self.old.entries.items) self.old.names }
         ensures entries { OnOk result (self.new.entries.items
             ≡ self.old.entries.items ++ (record { name = name; value = value }) ∷ []) }
         ensures err { OnErr result (self.new.entries.items ≡ self.old.entries.items) }
-        ensures index { IsIndexAt (names_of self.new.entries.items) self.new.index }
+        ensures index { IsIndexAt (names_of self.new.entries.items) self.new.names }
     {
         self.entries.reserve(1)?;
-        add_name(&self.entries, &mut self.index, name.as_str())?;
+        add_name(&self.entries, &mut self.names, name.as_str())?;
         self.entries.push_reserved(Member { name, value });
         Ok(())
     }
@@ -106,12 +104,12 @@ impl<V> Held<V> {
     /// Takes the entry at a place out, and gives its value.
     fn remove_at(&mut self, place: usize) -> V
         requires within { place < length self.old.entries.items }
-        requires index { IsIndexAt (names_of self.old.entries.items) self.old.index }
+        requires index { IsIndexAt (names_of self.old.entries.items) self.old.names }
         ensures value { slice_get (values_of (entries_of self.old.entries.items)) place ≡ Some result }
         ensures entries { self.new.entries.items ≡ remove self.old.entries.items place }
-        ensures index { IsIndexAt (names_of self.new.entries.items) self.new.index }
+        ensures index { IsIndexAt (names_of self.new.entries.items) self.new.names }
     {
-        drop_name(&mut self.index, place);
+        drop_name(&mut self.names, place);
         let Member { name: gone, value } = self.entries.remove(place);
         drop(gone);
         value

@@ -4,9 +4,9 @@ ghost use Rattle.std.specs.Map.Calls.{RetainsPairs, CalledAtPair};
 ghost use Rattle.std.specs.Vec.{vec_len, vec_capacity};
 ghost use Rattle.openapi_map.specs.Entries.{entries_of, names_of};
 ghost use Rattle.openapi_map.specs.Held.{kept, IsHeldIndexed};
-ghost use Rattle.openapi_map.specs.Index.{IsIndexAt};
+ghost use Rattle.openapi_map.specs.Index.{HasRoomFor, IsIndexAt};
 
-use crate::index::NameIndex;
+use crate::lookup::{Names, marks_of};
 use crate::{Held, Member, OrderedMap};
 
 /// Keeps the entries for which `keep` answers true, in their order.
@@ -32,13 +32,14 @@ where
     entries.truncate(kept);
 }
 
-/// Makes the index lead to the names of the entries, of which there are no more than it had.
-fn index_again<V>(index: &mut Option<Box<NameIndex>>, entries: &Vec<Member<V>>)
-    requires { IfSome index.old (λ b. (0 < vec_len b.value.heads) × (vec_len entries.now ≤ vec_capacity b.value.next)) }
-    ensures { IsIndexAt (names_of entries.now.items) index.new }
+/// Finds the names of the entries, of which there are no more than it found before.
+fn names_again<V>(names: &mut Names, entries: &Vec<Member<V>>)
+    requires { HasRoomFor (vec_len entries.now) names.old }
+    ensures { IsIndexAt (names_of entries.now.items) names.new }
 {
-    if let Some(index) = index {
-        index.link_again(entries);
+    match names {
+        Names::Many(index) => index.link_again(entries),
+        Names::Few(marks) => *marks = marks_of(entries),
     }
 }
 
@@ -48,13 +49,13 @@ impl<V> Held<V> {
     where
         V: Drop,
         requires callable { F.IsAlwaysCallable keep }
-        requires index { IsIndexAt (names_of self.old.entries.items) self.old.index }
+        requires index { IsIndexAt (names_of self.old.entries.items) self.old.names }
         ensures entries { RetainsPairs (CalledAtPair F.FnMut) keep (entries_of self.old.entries.items)
             (entries_of self.new.entries.items) }
-        ensures index { IsIndexAt (names_of self.new.entries.items) self.new.index }
+        ensures index { IsIndexAt (names_of self.new.entries.items) self.new.names }
     {
         retain_entries(&mut self.entries, keep);
-        index_again(&mut self.index, &self.entries);
+        names_again(&mut self.names, &self.entries);
     }
 }
 

@@ -31,7 +31,7 @@ use Rattle.openapi_map.specs.Held.{kept}
 use Rattle.openapi_map.specs.Index.{IsIndexAt}
 use Rattle.openapi_map.specs.declared.Held.{Held}
 use Rattle.openapi_map.specs.Equality.{entries_eq}
-use Rattle.openapi_map.specs.declared.index.NameIndex.{NameIndex}
+use Rattle.openapi_map.specs.declared.lookup.Names.{Names}
 use Rattle.openapi_map.specs.Former.{entry, stored, on_stored, entries_puts, values_listed, entries_recoded}
 use Rattle.openapi_map.specs.Former.{entries_of-map, names_of-map, entries_of-held, entries_eq-map}
 use Rattle.openapi_map.specs.Former.{Indexed, Indexed-prop}
@@ -64,8 +64,8 @@ the_items_listed X es = values_listed X es
 -- what the code keeps for a map
 abbrev helds : Former {0}
 helds =
-    via (pair (vec.the_former stored Global) (const (Option (Box NameIndex Global)))) Held
-    (λ X a. (a.entries, a.index)) (λ X v. record { entries = v.0; index = v.1 }) (λ X a. refl) (λ X v. refl)
+    via (pair (vec.the_former stored Global) (const Names)) Held
+    (λ X a. (a.entries, a.names)) (λ X v. record { entries = v.0; names = v.1 }) (λ X a. refl) (λ X v. refl)
 
 abbrev with_value : {X Y : Type 0} → Box X Global → Y → Box Y Global
 with_value b y = record { ptr = b.ptr; alloc = b.alloc; value = y }
@@ -105,7 +105,7 @@ fields =
 
 module _ {X Y : Type 0} (h : X → Y) where
   abbrev on_held : Held X → Held Y
-  on_held d = record { entries = vec.mapped (on_stored h) d.entries; index = d.index }
+  on_held d = record { entries = vec.mapped (on_stored h) d.entries; names = d.names }
 
   abbrev on_box : Box (Held X) Global → Box (Held Y) Global
   on_box b = with_value b (on_held b.value)
@@ -128,13 +128,13 @@ module _ {X Y : Type 0} (h : X → Y) where
   Indexed-to : (o : Option (Box (Held X) Global)) → Indexed o → Indexed (options.map X Y h o)
   Indexed-to None s = s
   Indexed-to (Some b) s =
-      subst (λ names. IsDistinct bytes_eq names × IsIndexAt names b.value.index)
+      subst (λ ns. IsDistinct bytes_eq ns × IsIndexAt ns b.value.names)
       (sym (names_of-map h b.value.entries.items)) s
 
   Indexed-from : (o : Option (Box (Held X) Global)) → Indexed (options.map X Y h o) → Indexed o
   Indexed-from None s = s
   Indexed-from (Some b) s =
-      subst (λ names. IsDistinct bytes_eq names × IsIndexAt names b.value.index)
+      subst (λ ns. IsDistinct bytes_eq ns × IsIndexAt ns b.value.names)
       (names_of-map h b.value.entries.items) s
 
 -- the view shows what the fields hold

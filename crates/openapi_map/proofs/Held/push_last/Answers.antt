@@ -10,5 +10,5 @@ returns-clause-index g c =
     let es = c.reserve.new.self.items in
     let e : Member _ = record { name = c.args.name; value = c.args.value } in
     let pushed = ap names_of c.push_reserved.ensures.items ∙ names_of-push es e in
-    subst (λ ns. IsIndexAt ns c.add_name.new.index)
+    subst (λ ns. IsIndexAt ns c.add_name.new.names)
     (ap (λ n. names_of es ++ n ∷ []) c.as_str.ensures.value ∙ sym pushed) c.in_ok-add_name.ensures.ok

@@ -9,7 +9,7 @@ use Rattle.openapi_map.proofs.Held.remove_at.Goals as goal
 pub drop_name-requires : goal.drop_name-requires
 drop_name-requires g c =
     let held = c.args.self.now in
-    linked (names_of held.entries.items) held.index c.args.place c.requires.index
+    linked (names_of held.entries.items) held.names c.args.place c.requires.index
     (omega (arith, c.requires.within, length-names_of held.entries.items))
 
 pub returns-clause-value : goal.returns-clause-value
@@ -21,6 +21,6 @@ returns-clause-value g c =
 pub returns-clause-index : goal.returns-clause-index
 returns-clause-index g c =
     let es = c.args.self.now.entries.items in
-    subst (λ ns. IsIndexAt ns c.drop_name.new.index)
+    subst (λ ns. IsIndexAt ns c.drop_name.new.names)
     (sym (ap names_of c.remove-gone.ensures.items ∙ names_of-remove es c.args.place))
     (c.drop_name.ensures (names_of es) c.requires.index)

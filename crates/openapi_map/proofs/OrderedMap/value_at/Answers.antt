@@ -30,10 +30,10 @@ invariant_of-self-lent g c w =
     ap (λ x. names_of (set es i (put x))) {y = there} c.index_mut-entry.ensures.value ∙ names_of-set es i d w in
     let kept_is = ap kept c.in-Some.is ∙ ap (λ h. h.entries.items) (sym is) in
     let distinct = subst (λ xs. IsDistinct bytes_eq (names_of xs)) kept_is c.self.invariant.0 in
-    let indexed = subst (λ h. IsIndexAt (names_of h.entries.items) h.index) (sym is)
+    let indexed = subst (λ h. IsIndexAt (names_of h.entries.items) h.names) (sym is)
     (subst IsHeldIndexed c.in-Some.is c.self.invariant.1) in
     rw c.in-Some.is
-    (subst (λ ns. IsDistinct bytes_eq ns × IsIndexAt ns held.index) (sym same) (distinct, indexed))
+    (subst (λ ns. IsDistinct bytes_eq ns × IsIndexAt ns held.names) (sym same) (distinct, indexed))
 
 pub returns : goal.returns
 returns g c =

@@ -12,6 +12,7 @@ pub mod CodeLaws
 pub mod RowLaws
 pub mod SlotLaws
 pub mod again
+pub mod OrderKept
 pub mod PlainLaws
 pub mod SortLaws
 pub mod MemberLaws

@@ -1,17 +1,17 @@
 -- The laws that the functions of `laws` carry.
 use Rattle.std.specs.Prelude.{not, ◌≤◌, ◌*◌, ℕ, Bool, true, false, ◌&&◌, ◌||◌, List, [], ◌∷◌, Some, ◌≡◌, ◌↔◌, ◌⊎◌, codes}
-use Rattle.openapi_tables.specs.Lists.{every, join, same_text, has}
-use Rattle.openapi_node.specs.Tree.{Tree, text, object, size_of}
-use Rattle.openapi_tables.specs.Tree.{members_of, Entry}
+use Rattle.openapi_tables.specs.Lists.{each, every, join, same_text, has}
+use Rattle.openapi_node.specs.Tree.{Tree, text, list, object, items_of, size_of}
+use Rattle.openapi_tables.specs.Tree.{members_of, Entry, on_entry}
 use Rattle.openapi_tables.specs.Kind.{Kind, by, xml_object, tagged, a_schema, a_schema_kind, ref_to, flag_or_schema}
-use Rattle.openapi_tables.specs.Kind.{Tables, Code}
+use Rattle.openapi_tables.specs.Kind.{Tables, Class, Code, class, list_of, map_of}
 use Rattle.openapi_tables.specs.Kind.{code_of, text_of, writable_code, takes, extensions, callback_names, path_names}
 use Rattle.openapi_tables.specs.Kind.{status_names, begins}
-use Rattle.openapi_tables.specs.Members.{Choice, choice, rows_of, held, kind_names}
+use Rattle.openapi_tables.specs.Members.{Choice, choice, rows_of, held, kind_names, own}
 use Rattle.openapi_tables.specs.Tables.{tables_before_callbacks, tables_before_xml, final_tables}
 use Rattle.openapi_tables.specs.Form.{Form, reference, name, coded}
 use Rattle.openapi_tables.specs.Read.{form}
-use Rattle.openapi_tables.specs.Print.{print, clean, again}
+use Rattle.openapi_tables.specs.Print.{print, clean, again, members_in}
 use Rattle.openapi_tables.specs.Sound.{sound, tables_sound, type_kinds, tables_small}
 use Rattle.openapi_tables.specs.Stays.{stays}
 use Rattle.openapi_tables.specs.Proper.{is_written, proper, shaped}
@@ -92,15 +92,33 @@ Order = (T : Tables) (k : Kind) (c : Choice) (before after : List (Entry Tree)) 
     → Every (λ w. (takes w d.name && takes w e.name) ≡ false) (rows_of T (item_kind k) c)
     → ReadAlike T k (join before (e ∷ d ∷ after)) (join before (d ∷ e ∷ after))
 
--- what was read is read again from what it is written as, exactly when it stays
-abbrev pub FirstValue : Type 0
-FirstValue = (T : Tables) (k : Kind) (t : Tree) → tables_sound T ≡ true → sound T k ≡ true
-    → (again T k (form T k t) ≡ form T k t) ↔ (stays T k (form T k t) ≡ true)
-
 -- x is an element of a list
 abbrev pub Among : {A : Type 0} → A → List A → Type 0
 Among x [] = ⊥
 Among x (y ∷ ys) = (x ≡ y) ⊎ Among x ys
+
+-- whether the members of a class keep their names and their places: the name of a status code is written in capitals,
+-- and where a code comes again the later value stands in the earlier place
+abbrev pub keeps_names : Class → Bool
+keeps_names status_names = false
+keeps_names _ = true
+
+-- A map and a list are cleaned value by value, in their order. In an object the members of a class, such as its
+-- extensions or its paths, are those that it had, each cleaned, in their order.
+abbrev pub OrderKept : Type 0
+OrderKept =
+    ((T : Tables) (k : Kind) (es : List (Entry Tree))
+    → clean T (map_of k) (object (members_of es)) ≡ object (members_of (each (on_entry (clean T k)) es)))
+    × ((T : Tables) (k : Kind) (ts : List Tree)
+    → clean T (list_of k) (list (items_of ts)) ≡ list (items_of (each (clean T k) ts)))
+    × ((T : Tables) (k : Kind) (c : Choice) (es : List (Entry Tree)) (n : Class) (j : Kind) → tables_sound T ≡ true
+    → sound T k ≡ true → choice k es ≡ Some c → Among (class n j) (rows_of T k c) → keeps_names n ≡ true
+    → own (class n j) (members_in (clean T k (object (members_of es)))) ≡ each (on_entry (clean T j)) (own (class n j) es))
+
+-- what was read is read again from what it is written as, exactly when it stays
+abbrev pub FirstValue : Type 0
+FirstValue = (T : Tables) (k : Kind) (t : Tree) → tables_sound T ≡ true → sound T k ≡ true
+    → (again T k (form T k t) ≡ form T k t) ↔ (stays T k (form T k t) ≡ true)
 
 -- where something that is asked is broken the root does not conform, and where the root does not conform something
 -- that is asked is broken

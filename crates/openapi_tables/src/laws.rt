@@ -6,7 +6,7 @@
 //! made over it.
 ghost use Rattle.openapi_tables.specs.Laws.{WellMade, Codes, FirstValue, References, Ignored, Order, Faults};
 ghost use Rattle.openapi_tables.specs.Laws.{ReadsItsWriting, Settles, Canonical, CallbacksKept, XmlKept};
-ghost use Rattle.openapi_tables.specs.Laws.{DistinctNames, Writable};
+ghost use Rattle.openapi_tables.specs.Laws.{DistinctNames, OrderKept, Writable};
 ghost use Rattle.openapi_tables.specs.WorkedFaults.{WorkedFaults};
 ghost use Rattle.openapi_tables.specs.WorkedObjects.{WorkedObjects};
 ghost use Rattle.openapi_tables.specs.WorkedSchemas.{WorkedSchemas};
@@ -44,6 +44,13 @@ pub fn ignored()
 /// among paths, among status codes, and between two names of which the first decides.
 pub fn order()
     ensures { Order }
+{}
+
+/// A map and a list are cleaned value by value, in their order. The extensions of an object, its paths and the names of
+/// a callback are in the cleaned object those that it had, each cleaned, in their order. Status codes are left out: of a
+/// code that comes again the later value stands in the earlier place.
+pub fn order_kept()
+    ensures { OrderKept }
 {}
 
 /// Where something that is asked of a value inside a tree is broken there, the tree does not conform; and where a

@@ -1,0 +1,64 @@
+-- What is cleaned keeps the order of maps, of lists and of the members of a class.
+use Rattle.std.proofs.Common.{true, List, [], ◌∷◌, Some, ◌≡◌, inl, inr, sym, ap, ◌∙◌, subst, true≢false}
+use Rattle.std.proofs.lemmas.Bool.{and_parts}
+use Rattle.openapi_tables.specs.Prelude.{each, every, members_of, Entry, on_entry, Kind, list_of, map_of, Class, Row, class}
+use Rattle.openapi_tables.specs.Prelude.{extensions, callback_names, status_names, Tables, Choice, choice, rows_of}
+use Rattle.openapi_tables.specs.Prelude.{own, Form, named, named_of, name, members_in, row_print, print}
+use Rattle.openapi_tables.specs.Prelude.{clean, form, row_sound, rows_apart, sound, tables_sound}
+use Rattle.openapi_tables.specs.Kind.{path_names}
+use Rattle.openapi_tables.specs.Laws.{Among, keeps_names}
+use Rattle.openapi_node.specs.Tree.{Tree, list, object, items_of}
+use Rattle.openapi_tables.proofs.ListLaws.{each-each}
+use Rattle.openapi_tables.proofs.PrintLaws.{entry_of, members_for, print-fields, print-list, print-map, printed}
+use Rattle.openapi_tables.proofs.ReadLaws.{class_form-reads, form-fields, form-list, form-map, pair_of, slot_in}
+use Rattle.openapi_tables.proofs.RowLaws.{Found, found}
+use Rattle.openapi_tables.proofs.TreeLaws.{members_list-of}
+use Rattle.openapi_tables.proofs.again.ObjectsBack.{rows_of_sound}
+use Rattle.openapi_tables.proofs.again.RowsStay.{writes_own}
+
+pub map_cleaned : (T : Tables) (k : Kind) (es : List (Entry Tree))
+    → clean T (map_of k) (object (members_of es)) ≡ object (members_of (each (on_entry (clean T k)) es))
+map_cleaned T k es =
+    ap (print T (map_of k)) (form-map T k es) ∙ print-map T k (each (pair_of T name k) es)
+    ∙ ap (λ l. object (members_of l)) (each-each (entry_of T k) (pair_of T name k) es)
+
+pub list_cleaned : (T : Tables) (k : Kind) (ts : List Tree)
+    → clean T (list_of k) (list (items_of ts)) ≡ list (items_of (each (clean T k) ts))
+list_cleaned T k ts =
+    ap (print T (list_of k)) (form-list T k ts) ∙ print-list T k (each (form T k) ts)
+    ∙ ap (λ l. list (items_of l)) (each-each (print T k) (form T k) ts)
+
+-- what one of the rows finds among the members that all of them write
+one_found : (T : Tables) (l es : List (Entry Tree)) (ws : List Row) (w : Row) → Found T l ws (each (slot_in T es) ws)
+    → Among w ws → own w l ≡ row_print w (printed T (slot_in T es w))
+one_found T l es [] w f a = absurd a
+one_found T l es (v ∷ ws) w f (inl is) =
+    subst (λ x. own x l ≡ row_print x (printed T (slot_in T es x))) (sym is) f.0
+one_found T l es (v ∷ ws) w f (inr a) = one_found T l es ws w f.1 a
+
+class_kept : (T : Tables) (n : Class) (j : Kind) (os : List (Entry Tree)) (f : Form)
+    → f ≡ named (named_of (each (pair_of T name j) os))
+    → row_print (class n j) (printed T f) ≡ each (on_entry (clean T j)) os
+class_kept T n j os f is =
+    ap (λ g. row_print (class n j) (printed T g)) is ∙ ap members_in (print-map T j (each (pair_of T name j) os))
+    ∙ members_list-of (each (entry_of T j) (each (pair_of T name j) os)) ∙ each-each (entry_of T j) (pair_of T name j) os
+
+-- the members that a class writes for those that it takes
+class_cleaned : (T : Tables) (n : Class) (j : Kind) (es : List (Entry Tree)) → keeps_names n ≡ true
+    → row_print (class n j) (printed T (slot_in T es (class n j))) ≡ each (on_entry (clean T j)) (own (class n j) es)
+class_cleaned T extensions j es h = class_kept T extensions j _ _ (class_form-reads T extensions j (own (class extensions j) es))
+class_cleaned T callback_names j es h = class_kept T callback_names j _ _ (class_form-reads T callback_names j (own (class callback_names j) es))
+class_cleaned T path_names j es h = class_kept T path_names j _ _ (class_form-reads T path_names j (own (class path_names j) es))
+class_cleaned T status_names j es h = absurd (true≢false (sym h))
+
+pub members_cleaned : (T : Tables) (W : tables_sound T ≡ true) (k : Kind) (c : Choice) (es : List (Entry Tree)) (n : Class)
+    (j : Kind) → sound T k ≡ true → choice k es ≡ Some c → Among (class n j) (rows_of T k c) → keeps_names n ≡ true
+    → own (class n j) (members_in (clean T k (object (members_of es)))) ≡ each (on_entry (clean T j)) (own (class n j) es)
+members_cleaned T W k c es n j s h a keeps =
+    let ws = rows_of T k c in
+    let fs = each (slot_in T es) ws in
+    let apart = and_parts (rows_apart ws) (every (row_sound T) ws) (rows_of_sound T W k c es s h) in
+    ap (λ t. own (class n j) (members_in t)) (ap (print T k) (form-fields T k c es h) ∙ print-fields T k c es fs h)
+    ∙ ap (own (class n j)) (members_list-of (members_for T ws fs))
+    ∙ one_found T (members_for T ws fs) es ws (class n j) (found T ws fs apart.0 (writes_own T ws es)) a
+    ∙ class_cleaned T n j es keeps

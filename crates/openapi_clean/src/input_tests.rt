@@ -1,9 +1,9 @@
 //! Inputs that are no JSON, the deepest ones, and readers and writers that fail.
 use crate::command::Command;
-use crate::fault::RunFault;
 use crate::run::run;
 use crate::tests::{CLEAN_TAG, TAG, ran_on, report_of};
 use openapi_node::Steps;
+use openapi_text::RunFault;
 use std::io::{self, Read, Write};
 use std::test::Fail;
 

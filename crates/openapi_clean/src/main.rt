@@ -6,7 +6,6 @@
 
 mod answer;
 mod command;
-mod fault;
 #[cfg(test)]
 mod input_tests;
 mod outcome;
@@ -15,8 +14,8 @@ mod run;
 mod tests;
 
 use command::Command;
-use fault::RunFault;
 use openapi_node::Steps;
+use openapi_text::RunFault;
 use outcome::Outcome;
 use run::run;
 use std::process::ExitCode;

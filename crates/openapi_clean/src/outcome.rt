@@ -1,9 +1,9 @@
 //! How a run of the program ends.
 ghost use Rattle.std.specs.Prelude.{◌≡◌};
 ghost use Rattle.std.specs.Process.{exit_status};
-ghost use Rattle.openapi_clean.specs.Status.{status_at_end};
+ghost use Rattle.openapi_clean.specs.Output.{status_at_end};
 
-use crate::fault::RunFault;
+use openapi_text::RunFault;
 use std::process::ExitCode;
 
 /// How a run of the program ended.

@@ -1,8 +1,8 @@
 //! The commands: what is written, and what is told, of worked inputs.
 use crate::command::Command;
-use crate::fault::RunFault;
 use crate::run::run;
 use openapi_node::Steps;
+use openapi_text::RunFault;
 use std::test::Fail;
 
 /// A tag with an unknown name, and what it is cleaned to.

@@ -1,6 +1,6 @@
 //! The failures of a run.
 ghost use Rattle.std.specs.Prelude.{◌≡◌};
-ghost use Rattle.openapi_clean.specs.Status.{status_of};
+ghost use Rattle.openapi_text.specs.Status.{status_of};
 
 use openapi_json::JsonFault;
 use openapi_node::Fault;
@@ -29,7 +29,7 @@ pub enum RunFault {
 }
 
 impl From<AllocError> for RunFault {
-    ghost use Rattle.openapi_clean.specs.declared.fault.RunFault.TheVariants as faults;
+    ghost use Rattle.openapi_text.specs.declared.fault.RunFault.TheVariants as faults;
 
     ghost from_gives = { λ e f. f ≡ faults.Memory };
 
@@ -39,7 +39,7 @@ impl From<AllocError> for RunFault {
 }
 
 impl From<JsonFault> for RunFault {
-    ghost use Rattle.openapi_clean.specs.Output.{run_fault_of};
+    ghost use Rattle.openapi_text.specs.Texts.{run_fault_of};
 
     ghost from_gives = { λ j e. e ≡ run_fault_of j };
 

@@ -3,11 +3,11 @@ use Rattle.std.specs.Io.KnownBytes.{Appends}
 use Rattle.std.proofs.KnownBytes.{Appends-trans}
 use Rattle.std.proofs.Math.Seq.{take-add}
 use Rattle.std.proofs.lemmas.List.{take_rest}
-use Rattle.openapi_clean.proofs.run.write_line.Goals as goal
+use Rattle.openapi_text.proofs.pipes.write_all.Goals as goal
 
 pub loop-done-preserved : goal.loop-done-preserved
 loop-done-preserved g c =
-    let line = c.args.line.now in
+    let line = c.args.text.now in
     let done = c.loop-done.done in
     let count = c.in-Ok.count in
     let before = g.W.Write.contents c.args.writer.now in

@@ -1,0 +1,56 @@
+//! How a tree stands in a text.
+ghost use Rattle.std.specs.Prelude.{◌≡◌, IfOk, IfErr, string_bytes};
+ghost use Rattle.openapi_text.specs.Texts.{IsTextOf, IsUnread, text_in};
+
+use crate::fault::RunFault;
+use openapi_json::{
+    json_from_node, json_from_node_in_order, node_from_json, node_from_json_in_order,
+    pretty_from_node_in_order,
+};
+use openapi_node::{Node, Steps};
+use std::alloc::Global;
+
+/// How a tree is read of a text and written.
+#[derive(Clone, Copy, Debug, PartialEq, Eq)]
+pub enum Layout {
+    /// With members by name, and no space.
+    ByName,
+    /// With members in order, and no space.
+    InOrder,
+    /// With members in order, and a line for each item and each member.
+    Pretty,
+}
+
+/// The tree that bytes hold.
+#[tactic(auto, using(crate::proofs::Texts::tree_by_name, crate::proofs::Texts::tree_in_order, crate::proofs::Texts::tree_of_pretty, crate::proofs::Texts::unread_text))]
+pub(crate) fn read_tree(alloc: Global, layout: Layout, bytes: &[u8]) -> Result<Node, RunFault>
+    ensures ok { IfOk result (λ n. IsTextOf layout bytes.now (λ t. n ≡ t)) }
+    ensures err { IfErr result (IsUnread bytes.now) }
+{
+    let node = match layout {
+        Layout::ByName => node_from_json(alloc, bytes)?,
+        Layout::InOrder | Layout::Pretty => node_from_json_in_order(alloc, bytes)?,
+    };
+    Ok(node)
+}
+
+/// The text of a tree, and the end of its last line.
+///
+/// Err says that memory ran out.
+pub fn text_of(
+    alloc: Global,
+    node: &Node,
+    layout: Layout,
+    steps: &mut Steps,
+) -> Result<String, RunFault>
+    ensures ok { IfOk result (λ text. string_bytes text ≡ text_in layout node.now) }
+    ensures err { IfErr result (λ e. e ≡ RunFault.Memory) }
+{
+    let mut text = match layout {
+        Layout::ByName => json_from_node(alloc, node, steps)?,
+        Layout::InOrder => json_from_node_in_order(alloc, node, steps)?,
+        Layout::Pretty => pretty_from_node_in_order(alloc, node, steps)?,
+    };
+    text.push('\n')?;
+    Ok(text)
+}

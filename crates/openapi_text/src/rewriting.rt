@@ -1,0 +1,169 @@
+//! The tree of an object that is read of a text and written again. Each step lets go of what the step before it made, so
+//! that no more than two forms of the input stand at a time: its tree, the object that was read, the cleaned or settled
+//! tree. Three stand while a tree is settled: the tree, the cleaned one, and an object.
+ghost use Rattle.std.specs.Prelude.{◌≡◌, ◌≢◌, ◌⊎◌, IfOk, IfErr, true, false};
+ghost use Rattle.openapi_text.specs.Texts.{Explains, IsRefusalOf, IsTextOf, kind_of, rewritten};
+ghost use Rattle.openapi_fields.specs.Settled.{settled};
+ghost use Rattle.openapi_tables.specs.Conforms.{conforms};
+ghost use Rattle.openapi_tables.specs.Print.{clean, print};
+ghost use Rattle.openapi_tables.specs.Read.{form};
+ghost use Rattle.openapi_tables.specs.Tables.{final_tables};
+
+use crate::fault::RunFault;
+use crate::layout::{Layout, read_tree};
+use openapi_documents::OpenAPI;
+use openapi_fields::{FromNode, IntoNode, Settle, ToNode};
+use openapi_metadata::Tag;
+use openapi_node::{Cause, Fault, Node, Steps};
+use openapi_schema::Schema;
+use std::alloc::Global;
+use std::str::FromStr;
+
+/// Which object is read of a text, and what is made of it.
+#[derive(Clone, Copy, Debug, PartialEq, Eq)]
+pub enum Rewriting {
+    /// A Tag Object (OpenAPI 3.0.3, section 4.7.22) is cleaned.
+    Tag,
+    /// A Schema Object (OpenAPI 3.0.3, section 4.7.24) is cleaned.
+    Schema,
+    /// An OpenAPI Object (OpenAPI 3.0.3, section 4.7.1), a whole document, is cleaned.
+    Document,
+    /// A whole document is settled: cleaned twice, after which cleaning changes nothing.
+    Settle,
+}
+
+impl FromStr for Rewriting {
+    type Err = ();
+
+    ghost use Rattle.openapi_text.specs.Texts.{IsRewritingOf};
+
+    ghost from_str_gives = { IsRewritingOf };
+
+    /// The rewriting that a word names: `tag`, `schema`, `document` or `settle`. `Err` says that it names none.
+    fn from_str(word: &str) -> Result<Rewriting, ()> {
+        match word {
+            "tag" => Ok(Rewriting::Tag),
+            "schema" => Ok(Rewriting::Schema),
+            "document" => Ok(Rewriting::Document),
+            "settle" => Ok(Rewriting::Settle),
+            _ => Err(()),
+        }
+    }
+}
+
+/// The tree that is made of the object which the bytes hold.
+pub fn rewrite(
+    alloc: Global,
+    rewriting: Rewriting,
+    layout: Layout,
+    bytes: &[u8],
+    steps: &mut Steps,
+) -> Result<Node, RunFault>
+    ensures ok { IfOk result (λ n. IsTextOf layout bytes.now (λ t. (conforms final_tables (kind_of rewriting) t ≡ true)
+        × (n ≡ rewritten rewriting t))) }
+    ensures err { IfErr result (Explains layout (kind_of rewriting) bytes.now) }
+{
+    match rewriting {
+        Rewriting::Tag => cleaned_tree::<Tag>(alloc, layout, bytes, steps),
+        Rewriting::Schema => cleaned_tree::<Schema>(alloc, layout, bytes, steps),
+        Rewriting::Document => cleaned_tree::<OpenAPI>(alloc, layout, bytes, steps),
+        Rewriting::Settle => settled_tree::<OpenAPI>(alloc, layout, bytes, steps),
+    }
+}
+
+/// The cleaned tree.
+fn cleaned_tree<T: IntoNode>(
+    alloc: Global,
+    layout: Layout,
+    bytes: &[u8],
+    steps: &mut Steps,
+) -> Result<Node, RunFault>
+    ensures ok { IfOk result (λ n. IsTextOf layout bytes.now (λ t. (conforms final_tables T.FromNode.kind t ≡ true)
+        × (n ≡ clean final_tables T.FromNode.kind t))) }
+    ensures err { IfErr result (Explains layout T.FromNode.kind bytes.now) }
+{
+    let object = read_object::<T>(alloc, layout, bytes, steps)?;
+    tree_of_object(alloc, object)
+}
+
+/// The settled tree.
+fn settled_tree<T: ToNode + Drop>(
+    alloc: Global,
+    layout: Layout,
+    bytes: &[u8],
+    steps: &mut Steps,
+) -> Result<Node, RunFault>
+    ensures ok { IfOk result (λ n. IsTextOf layout bytes.now (λ t. (conforms final_tables T.FromNode.kind t ≡ true)
+        × (n ≡ settled T.FromNode.kind t))) }
+    ensures err { IfErr result (Explains layout T.FromNode.kind bytes.now) }
+{
+    let node = read_tree(alloc, layout, bytes)?;
+    settle_tree::<T>(alloc, &node, steps)
+}
+
+/// The object that the bytes hold.
+pub fn read_object<T: FromNode + Drop>(
+    alloc: Global,
+    layout: Layout,
+    bytes: &[u8],
+    steps: &mut Steps,
+) -> Result<T, RunFault>
+    ensures ok { IfOk result (λ x. IsTextOf layout bytes.now (λ t. (conforms final_tables T.kind t ≡ true)
+        × (form final_tables T.kind t ≡ T.form_of x))) }
+    ensures err { IfErr result (Explains layout T.kind bytes.now) }
+{
+    let node = read_tree(alloc, layout, bytes)?;
+    object_of_tree(alloc, &node, steps)
+}
+
+/// A refusal of a tree, with want of memory apart.
+fn refusal(fault: Fault) -> RunFault
+    ensures memory { fault.cause ≡ Cause.Memory → result ≡ RunFault.Memory }
+    ensures other { fault.cause ≢ Cause.Memory → result ≡ RunFault.Refused fault }
+{
+    match fault.cause {
+        Cause::Memory => RunFault::Memory,
+        _ => RunFault::Refused(fault),
+    }
+}
+
+/// The object that a tree is read as.
+#[tactic(auto, using(crate::proofs::Refusals::not_conforming))]
+fn object_of_tree<T: FromNode>(alloc: Global, node: &Node, steps: &mut Steps) -> Result<T, RunFault>
+    ensures ok { IfOk result (λ x. (conforms final_tables T.kind node.now ≡ true)
+        × (form final_tables T.kind node.now ≡ T.form_of x)) }
+    ensures err { IfErr result (λ e. (e ≡ RunFault.Memory) ⊎ IsRefusalOf T.kind node.now e) }
+{
+    match T::from_node(alloc, node, steps) {
+        Ok(object) => Ok(object),
+        Err(fault) => Err(refusal(fault)),
+    }
+}
+
+/// The tree that an object is written as, for which it is taken.
+fn tree_of_object<T: IntoNode>(alloc: Global, object: T) -> Result<Node, RunFault>
+    ensures ok { IfOk result (λ n. n ≡ print final_tables T.FromNode.kind (T.FromNode.form_of object)) }
+    ensures err { IfErr result (λ e. e ≡ RunFault.Memory) }
+{
+    match object.into_node(alloc) {
+        Ok(node) => Ok(node),
+        Err(_) => Err(RunFault::Memory),
+    }
+}
+
+/// What a tree settles to as a `T`.
+#[tactic(auto, using(crate::proofs::Refusals::not_conforming))]
+fn settle_tree<T: ToNode + Drop>(
+    alloc: Global,
+    node: &Node,
+    steps: &mut Steps,
+) -> Result<Node, RunFault>
+    ensures ok { IfOk result (λ n. (conforms final_tables T.FromNode.kind node.now ≡ true)
+        × (n ≡ settled T.FromNode.kind node.now)) }
+    ensures err { IfErr result (λ e. (e ≡ RunFault.Memory) ⊎ IsRefusalOf T.FromNode.kind node.now e) }
+{
+    match T::settle(alloc, node, steps) {
+        Ok(settled) => Ok(settled),
+        Err(fault) => Err(refusal(fault)),
+    }
+}

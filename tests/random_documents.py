@@ -1,14 +1,16 @@
 #!/usr/bin/env python3
 """Makes random documents from OpenAPI's own tables, and compares the program's answers with what their maker knows.
 
-usage: tests/random_documents.py [--seed N] [--count N] [PROGRAM]
-       (with no PROGRAM: the one that `./check` or `./openapi_clean --build` made)
+usage: tests/random_documents.py [--seed N] [--count N] [PROGRAM [ORDER]]
+       (with no PROGRAM: those that `./check` made, `openapi_clean` and `openapi_order`)
 
 Each round makes a document that conforms, with members that OpenAPI does not know, nulls where a member may be missing,
 empty lists and maps, flags that are false, names and texts of all sorts, and numbers up to the limits. The maker knows the
 cleaned document, the settled one and the operations, and asks the program for each; what was settled has to settle to
-itself. Then it plants one fault, of which it knows the cause and the place, and asks again. The tables stand in
-`tests/openapi_fields.py`. It is no part of `./check`. The first line tells the seed.
+itself. Then it plants one fault, of which it knows the cause and the place, and asks again. The same is asked of
+`openapi_order`: the answer has to be the same but for the order of members, with the entries of each map, the extensions and
+what stands in these in the order of the text; and a fault has to be told at the line and the column of its value. The
+tables stand in `tests/openapi_fields.py`. It is no part of `./check`. The first line tells the seed.
 The last line is `N passed, M failed`.
 """
 import argparse
@@ -23,7 +25,7 @@ import sys
 from openapi_fields import KEYWORDS, METHODS, OF_TYPE, TABLES, TAGGED
 
 TOP = os.path.dirname(os.path.dirname(os.path.realpath(__file__)))
-BUILT = f"{TOP}/crates/openapi_clean/out/openapi_clean"
+BUILT = [f"{TOP}/crates/{it}/out/{it}" for it in ("openapi_clean", "openapi_order")]
 
 SORTS = [*OF_TYPE, "oneOf", "allOf", "anyOf", "not", "any"]
 LETTERS = ["a", "b", "Z", "0", " ", "/", "~", "{", "}", '"', "\\", ".", "-", "é", "ß", "日", "😀", "\n", "\t", "\x01", "\x7f"]
@@ -350,27 +352,106 @@ def text_of(tree, dice=None):
     return json.dumps(mixed(tree), ensure_ascii=dice.random() < 0.5).encode()
 
 
+def kinds_of(kind, members):
+    """The kind of each member of an object of that kind that is read, but for extensions."""
+    rows = TABLES.get(kind, "")
+    if kind in ("Paths", "Callback"):
+        return {name: "&PathItem" for name in members if name[:1] == "/" or kind == "Callback" and name[:2] != "x-"}
+    if kind == "Responses":
+        return {name: "&Response" for name in members if name[:2] != "x-"}
+    if kind in TAGGED:
+        tag, tables = TAGGED[kind]
+        rows = tables[members[tag]] + ("," + TABLES["ParameterData"] if kind == "Parameter" else "")
+    if kind == "Schema":
+        rows = TABLES["SchemaData"]
+    found = {} if kind != "Schema" else dict(KEYWORDS)
+    for name, _, of in (row.split() for row in rows.split(",")):
+        found.update(zip(name.split("/"), of.split("/")))
+    return found
+
+
+def disorder(kind, wanted, came):
+    """The first object whose members do not stand in the order of the text, where that order is kept; or None. Both are the
+    same but for order."""
+    if not isinstance(wanted, (dict, list)):
+        return None
+    if kind[0] == "&" or kind == "flag-or-schema":
+        kind = "Schema" if kind[0] == "f" else kind[1:]
+        if isinstance(wanted.get("$ref"), str):
+            return None
+    if kind in ("any", "Security") or kind[0] in "[{":
+        inner = kind[1:-1] if kind[0] in "[{" else "any"
+        if isinstance(wanted, list):
+            pairs = zip(wanted, came)
+        elif list(wanted) != list(came):
+            return came
+        else:
+            pairs = ((wanted[name], came[name]) for name in wanted)
+        return next((it for it in (disorder(inner, *pair) for pair in pairs) if it is not None), None)
+    kinds = kinds_of(kind, wanted)
+    classes = [name for name in kinds if kind in ("Paths", "Callback", "Responses") and name != "default"]
+    for names in (classes, [name for name in wanted if name[:2] == "x-" and name not in kinds]):
+        if [name for name in came if name in names] != [name for name in wanted if name in names]:
+            return came
+    found = (disorder(kinds.get(name, "any"), wanted[name], came[name]) for name in wanted)
+    return next((it for it in found if it is not None), None)
+
+
+def point_of(text, planted):
+    """The line and the column, as `LINE:COLUMN`, at which the value stands of which a fault speaks. The text has a line for
+    each value, as `json.dumps` makes it with an indent of 1, so a value is found by the lines before it."""
+    at, line, value = [], 0, json.loads(text)
+    steps = [it.replace("~1", "/").replace("~0", "~") for it in planted.said.split(" at #", 1)[1].split("/")[1:]]
+    for step in steps:
+        line += 1
+        for name in value if isinstance(value, dict) else range(len(value)):
+            if str(name) == step:
+                at, value = name, value[name]
+                break
+            line += len(json.dumps(value[name], indent=1).split("\n"))
+    depth = len(steps)
+    lead = f"{json.dumps(at, ensure_ascii=False)}: " if isinstance(at, str) and steps else ""
+    return f"{line + 1}:{depth + len(lead) + 1}"
+
+
 def main():
     parser = argparse.ArgumentParser()
     parser.add_argument("--seed", type=int, default=random.randrange(10**6))
     parser.add_argument("--count", type=int, default=1000)
-    parser.add_argument("program", nargs="?", default=BUILT)
+    parser.add_argument("programs", nargs="*", metavar="PROGRAM")
     asked = parser.parse_args()
-    if not os.access(asked.program, os.X_OK):
-        print(f"FAILED: {asked.program} is not built\n0 passed, 1 failed")
-        return 1
+    clean, order = [*asked.programs, *BUILT[len(asked.programs):]]
+    for program in (clean, order):
+        if not os.access(program, os.X_OK):
+            print(f"FAILED: {program} is not built\n0 passed, 1 failed")
+            return 1
     print(f"seed {asked.seed}, {asked.count} rounds", flush=True)
     passed = failed = 0
 
     def compare(what, command, given, *wanted):
+        ran = subprocess.run([os.path.realpath(clean), command], input=given, capture_output=True, timeout=60)
+        told(what, command, given, (ran.returncode, ran.stdout, ran.stderr), wanted)
+
+    def told(what, command, given, came, wanted):
         nonlocal passed, failed
-        ran = subprocess.run([os.path.realpath(asked.program), command], input=given, capture_output=True, timeout=60)
-        came = ran.returncode, ran.stdout, ran.stderr
         if came == wanted:
             passed += 1
             return
         failed += 1
         print(f"FAILED: {what}: {command} of {given!r}\n  came: {came}\n  wanted: {wanted}", flush=True)
+
+    def in_order(what, command, kind, given, wanted):
+        """Asks for a tree in order, whose text has a line for each value."""
+        ran = subprocess.run([os.path.realpath(order), command], input=given, capture_output=True, timeout=60)
+        came = json.loads(ran.stdout) if ran.returncode == 0 else None
+        told(what, command, given, (ran.returncode, came, ran.stderr), (0, wanted, b""))
+        if came == wanted:
+            told(what, command, given, disorder(kind, wanted, came), None)
+
+    def refused_in_order(what, command, given, planted):
+        ran = subprocess.run([os.path.realpath(order), command], input=given, capture_output=True, timeout=60)
+        said = f"<stdin>:{point_of(given, planted)}: {planted.said}\n"
+        told(what, command, given, (ran.returncode, ran.stdout, ran.stderr.decode()), (1, b"", said))
 
     for turn in range(asked.count):
         dice = random.Random(f"{asked.seed} {turn}")
@@ -384,9 +465,15 @@ def main():
                 compare(f"round {turn}, settled once more", "settle", wanted["settle"], 0, wanted["settle"], b"")
             for command in commands:
                 compare(f"round {turn}", command, given, 0, wanted[command], b"")
+            lines = json.dumps(made.given, indent=1, ensure_ascii=False).encode()
+            in_order(f"round {turn}, in order", commands[0], kind, lines, made.cleaned)
+            if kind == "OpenAPI":
+                in_order(f"round {turn}, settled in order", "settle", kind, lines, made.settled)
             for planted in dice.sample(maker.faults, min(3, len(maker.faults))):
                 broken = text_of(with_fault(made.given, planted), dice)
                 compare(f"round {turn}, a fault", dice.choice(commands), broken, 1, b"", planted.said.encode() + b"\n")
+                lines = json.dumps(with_fault(made.given, planted), indent=1, ensure_ascii=False).encode()
+                refused_in_order(f"round {turn}, a fault in order", commands[0], lines, planted)
     print(f"{passed} passed, {failed} failed")
     return 1 if failed else 0
 

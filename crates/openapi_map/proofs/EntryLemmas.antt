@@ -32,6 +32,11 @@ module _ {V : Type 0} where
       → i < length es
   within-entries es m i e h = omega (arith, ap length e, length-entries_of es)
 
+  -- the same of the elements as they are walked over
+  pub within-items : (es : List (Member V)) (m : Entries V) (i : ℕ) {items : List (Member V)} → entries_of es ≡ m
+      → i < length m → items ≡ es → i < length items
+  within-items es m i e h is = omega (arith, within-entries es m i e h, ap length is)
+
   -- the entry at a place has the name, by its bytes, and the value of the element there
   pub entry-entries_of : (es : List (Member V)) (i : ℕ) (d : Member V) → i < length es
       → slice_get (entries_of es) i ≡ Some (string_bytes (get_or es i d).name, (get_or es i d).value)
@@ -53,6 +58,15 @@ module _ {V : Type 0} where
       let names = names_of es in
       ap (λ x. take i names ++ x ∷ []) (sym (name-get_or es i d h))
       ∙ sym (take_more names i [] (omega (arith, h, length-names_of es)))
+
+  -- the same of a name that is told by the element, where the elements are told by what is walked over
+  pub names-longer : (es : List (Member V)) (i : ℕ) (e : Member V) {items : List (Member V)} {name : List ℕ}
+      → items ≡ es → i < length items → e ≡ get_or items i e → name ≡ string_bytes e.name
+      → take i (names_of es) ++ name ∷ [] ≡ take (i + 1) (names_of es)
+  names-longer es i e items h is name =
+      ap (λ x. take i (names_of es) ++ x ∷ [])
+      (name ∙ ap (λ x. string_bytes x.name) (is ∙ ap (λ xs. get_or xs i e) items))
+      ∙ names-next es i e (omega (arith, h, ap length items))
 
   -- the value at a place is that of the element there
   pub value-entries_of : (es : List (Member V)) (i : ℕ) (d : Member V) → i < length es

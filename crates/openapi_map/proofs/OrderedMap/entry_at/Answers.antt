@@ -1,17 +1,15 @@
-use Rattle.std.proofs.Common.{slice_get, Some, get_or, string_bytes, sym, ap, ◌∙◌, length, arith}
+use Rattle.std.proofs.Common.{slice_get, Some, get_or, string_bytes, sym, ap, ◌∙◌, arith}
 use Rattle.openapi_map.specs.Held.{kept}
-use Rattle.openapi_map.proofs.EntryLemmas.{within-entries, entry-entries_of}
+use Rattle.openapi_map.proofs.EntryLemmas.{within-entries, within-items, entry-entries_of}
 use Rattle.openapi_map.proofs.OrderedMap.entry_at.Goals as goal
 
 pub offset_bounds-kept_entries-index : goal.offset_bounds-kept_entries-index
 offset_bounds-kept_entries-index g c =
-    let within = within-entries (kept c.self.inside.held) c.args.self.now c.args.index c.self.view_is c.requires in
-    omega (arith, within, ap length c.kept_entries.ensures)
+    omega (arith, within-items (kept c.self.inside.held) c.args.self.now c.args.index c.self.view_is c.requires c.kept_entries.ensures)
 
 pub bounds-kept_entries-index : goal.bounds-kept_entries-index
 bounds-kept_entries-index g c =
-    let within = within-entries (kept c.self.inside.held) c.args.self.now c.args.index c.self.view_is c.requires in
-    omega (arith, within, ap length c.kept_entries.ensures)
+    within-items (kept c.self.inside.held) c.args.self.now c.args.index c.self.view_is c.requires c.kept_entries.ensures
 
 pub returns : goal.returns
 returns g c =

@@ -1,8 +1,8 @@
-use Rattle.std.proofs.Common.{◌<◌, ◌≤◌, ◌++◌, ◌∷◌, [], length, take, get_or, string_bytes, ap, subst, sym, ◌∙◌, arith}
+use Rattle.std.proofs.Common.{◌≤◌, ◌++◌, ◌∷◌, [], length, take, ap, subst, sym, arith}
 use Rattle.std.proofs.lemmas.List.{take_all}
 use Rattle.openapi_map.specs.Entries.{names_of}
 use Rattle.openapi_map.specs.Index.{AreMarked}
-use Rattle.openapi_map.proofs.EntryLemmas.{length-names_of, names-next}
+use Rattle.openapi_map.proofs.EntryLemmas.{length-names_of, names-longer}
 use Rattle.openapi_map.proofs.MarkLemmas.{marked-push}
 use Rattle.openapi_map.proofs.lookup.marks_of.Goals as goal
 
@@ -10,14 +10,13 @@ pub loop-entry-preserved : goal.loop-entry-preserved
 loop-entry-preserved g c =
     let es = c.args.entries.now.items in
     let i = c.loop-entry.entry-index in
-    let e = c.entry-item.result in
-    let items = c.deref-entry-items.ensures.value in
-    let within : i < length es = omega (arith, c.loop-entry-test.true, ap length items) in
-    let name = c.as_str.ensures.value ∙ ap (λ x. string_bytes x.name) (c.entry-item.is ∙ ap (λ xs. get_or xs i e) items) in
-    let longer = ap (λ x. take i (names_of es) ++ x ∷ []) name ∙ names-next es i e within in
-    subst (λ ns. AreMarked ns c.with_mark-marks.result) longer
-    (subst (AreMarked (take i (names_of es) ++ c.as_str.result.now ∷ [])) (sym c.with_mark-marks.ensures)
-    (marked-push (take i (names_of es)) c.as_str.result.now c.loop-entry.marks c.loop-entry.invariant))
+    let before = take i (names_of es) in
+    let name = c.as_str.result.now in
+    subst (λ ns. AreMarked ns c.with_mark-marks.result)
+    (names-longer es i c.entry-item.result
+    c.deref-entry-items.ensures.value c.loop-entry-test.true c.entry-item.is c.as_str.ensures.value)
+    (subst (AreMarked (before ++ name ∷ [])) (sym c.with_mark-marks.ensures)
+    (marked-push before name c.loop-entry.marks c.loop-entry.invariant))
 
 pub returns : goal.returns
 returns g c =

@@ -1,19 +1,16 @@
-use Rattle.std.proofs.Common.{◌<◌, ◌≤◌, ◌++◌, ◌∷◌, [], length, take, get_or, string_bytes, ap, subst, ◌∙◌, arith}
+use Rattle.std.proofs.Common.{◌≤◌, length, take, ap, subst, ◌∙◌, arith}
 use Rattle.std.proofs.lemmas.List.{take_all}
 use Rattle.openapi_map.specs.Entries.{names_of}
 use Rattle.openapi_map.specs.Index.{IsIndex}
-use Rattle.openapi_map.proofs.EntryLemmas.{length-names_of, names-next}
+use Rattle.openapi_map.proofs.EntryLemmas.{length-names_of, names-longer}
 use Rattle.openapi_map.proofs.index.NameIndex.link_all.Goals as goal
 
 pub loop-entry-preserved : goal.loop-entry-preserved
 loop-entry-preserved g c =
     let es = c.args.entries.now.items in
     let i = c.loop-entry.entry-index in
-    let e = c.entry-item.result in
-    let items = c.deref-entry-items.ensures.value in
-    let within : i < length es = omega (arith, c.loop-entry-test.true, ap length items) in
-    let name = c.as_str.ensures.value ∙ ap (λ x. string_bytes x.name) (c.entry-item.is ∙ ap (λ xs. get_or xs i e) items) in
-    let longer = ap (λ x. take i (names_of es) ++ x ∷ []) name ∙ names-next es i e within in
+    let longer = names-longer es i c.entry-item.result
+    c.deref-entry-items.ensures.value c.loop-entry-test.true c.entry-item.is c.as_str.ensures.value in
     record {
       is = subst (λ ns. IsIndex ns c.link_last.new.self) longer
           (c.link_last.ensures.index (take i (names_of es)) c.loop-entry.invariant.is);

@@ -32,21 +32,35 @@ fn words_of(rt: &HostRuntime) -> io::Result<Vec<String>> {
     Ok(words)
 }
 
-/// Runs the task on a file, and gives the exit status. What fails is told on standard error.
-fn run_file(rt: &HostRuntime, task: Task, file: &str) -> u8 {
+/// Runs the task on a file, which may be the last, and gives the exit status. What fails is told on standard error.
+fn run_file(rt: &HostRuntime, task: Task, file: &str, is_last: bool) -> u8 {
     let mut steps = Steps::new(rt);
     let mut writer = io::writer(rt);
     let (name, outcome) = if file == INPUT.0 {
         let mut reader = rt.reader();
         (
             INPUT.1,
-            run(rt.alloc(), task, &mut reader, &mut writer, &mut steps),
+            run(
+                rt.alloc(),
+                task,
+                is_last,
+                &mut reader,
+                &mut writer,
+                &mut steps,
+            ),
         )
     } else {
         match File::open(rt, file) {
             Ok(mut reader) => (
                 file,
-                run(rt.alloc(), task, &mut reader, &mut writer, &mut steps),
+                run(
+                    rt.alloc(),
+                    task,
+                    is_last,
+                    &mut reader,
+                    &mut writer,
+                    &mut steps,
+                ),
             ),
             Err(_) => (file, Err(Failure::new(RunFault::Read))),
         }
@@ -64,11 +78,11 @@ fn run_file(rt: &HostRuntime, task: Task, file: &str) -> u8 {
 /// Runs the task on each file, or on standard input where there is none, and gives the highest exit status.
 fn run_files(rt: &HostRuntime, task: Task, files: &[&str]) -> u8 {
     if files.is_empty() {
-        return run_file(rt, task, INPUT.0);
+        return run_file(rt, task, INPUT.0, true);
     }
     let mut status = 0;
-    for file in files {
-        status = run_file(rt, task, *file).max(status);
+    for i in 0..files.len() {
+        status = run_file(rt, task, files[i], i + 1 == files.len()).max(status);
     }
     status
 }

@@ -10,6 +10,7 @@ use openapi_node::Steps;
 use openapi_text::{RunFault, read_all, rewrite, text_of, write_all};
 use std::alloc::Global;
 use std::io::{Read, Write};
+use std::mem;
 
 /// Reads the reader to its end, and writes the tree of the input, read as the task's object and cleaned or settled, as JSON
 /// in the task's layout and the end of a line.
@@ -18,9 +19,12 @@ use std::io::{Read, Write};
 /// on `Write` a beginning of the text. `Read` comes where the reader fails or does not end, `NotJson` where the bytes
 /// are no JSON, `Refused` where a number is not whole or the tree does not conform, `Memory` wherever a growth is
 /// refused. What was taken from the reader is gone; on every failure but `Read` and `Memory` that is all it had.
+///
+/// Of the last input the program does not let go of the tree, since it ends with the text.
 pub fn run<R: Read, W: Write>(
     alloc: Global,
     task: Task,
+    is_last: bool,
     reader: &mut R,
     writer: &mut W,
     steps: &mut Steps,
@@ -49,7 +53,7 @@ pub fn run<R: Read, W: Write>(
         Ok(bytes) => bytes,
         Err(fault) => return Err(Failure::new(fault)),
     };
-    match text_for(alloc, task, bytes.as_slice(), steps) {
+    match text_for(alloc, task, is_last, bytes.as_slice(), steps) {
         Ok(text) => match write_all(writer, text.as_bytes()) {
             Ok(()) => Ok(()),
             Err(fault) => Err(Failure::new(fault)),
@@ -59,10 +63,20 @@ pub fn run<R: Read, W: Write>(
 }
 
 /// The text that answers the bytes.
-fn text_for(alloc: Global, task: Task, bytes: &[u8], steps: &mut Steps) -> Result<String, RunFault>
+fn text_for(
+    alloc: Global,
+    task: Task,
+    is_last: bool,
+    bytes: &[u8],
+    steps: &mut Steps,
+) -> Result<String, RunFault>
     ensures ok { IfOk result (λ text. IsAnswer task bytes.now (string_bytes text)) }
     ensures err { IfErr result (Explains task.layout (kind_of task.rewriting) bytes.now) }
 {
     let node = rewrite(alloc, task.rewriting, task.layout, bytes, steps)?;
-    text_of(alloc, &node, task.layout, steps)
+    let text = text_of(alloc, &node, task.layout, steps);
+    if is_last {
+        mem::forget(node);
+    }
+    text
 }

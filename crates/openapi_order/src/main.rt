@@ -90,6 +90,7 @@ fn run_files(rt: &HostRuntime, task: Task, files: &[&str]) -> u8 {
 /// Does what the words ask for, and gives the exit status.
 fn status_of(rt: &HostRuntime, words: &[String]) -> u8 {
     let Ok(line) = command_line(rt.alloc()) else {
+        let _told = eprintln!(rt; "openapi_order: out of memory");
         return RunFault::Memory.status();
     };
     match line.try_get_matches_from(words) {

@@ -1,7 +1,7 @@
 #!/usr/bin/env python3
-"""Asks that the built program needs less than a megabyte of stack for the deepest JSON, which has 127 levels, in each command.
+"""Asks that the built programs need less than a megabyte of stack for the deepest JSON, which has 127 levels, in each command.
 
-usage: tests/stack.py [PROGRAM [MOST]]      (with none: the program that `./check` or `./openapi_clean --build` made)
+usage: tests/stack.py [PROGRAM [MOST]]      (with none: both programs, as `./check` made them)
 
 MOST is the most that it may need, in kB, if not 1000: a build without proof is compiled otherwise, and needs more. For each shape the least stack is sought, in steps of 16 kB, under which the program ends with status 0. The last line is
 `N passed, M failed`, in which each command on a shape counts once; the line before it tells the most that any of them needs.
@@ -13,7 +13,7 @@ import subprocess
 import sys
 
 TOP = os.path.dirname(os.path.dirname(os.path.realpath(__file__)))
-BUILT = f"{TOP}/crates/openapi_clean/out/openapi_clean"
+BUILT = [f"{TOP}/crates/{it}/out/{it}" for it in ("openapi_clean", "openapi_order")]
 LEVELS, STEP, MOST = 127, 16, 1000
 
 
@@ -82,17 +82,21 @@ def least(program, command, given):
 
 
 def main():
-    program = os.path.realpath(sys.argv[1] if len(sys.argv) > 1 else BUILT)
-    if not os.access(program, os.X_OK):
-        print(f"FAILED: {program} is not built\n0 passed, 1 failed")
-        return 1
+    programs = [os.path.realpath(it) for it in sys.argv[1:2] or BUILT]
     passed, failed, most, allowed = 0, 0, 0, int(sys.argv[2]) if len(sys.argv) > 2 else MOST
-    for command, name, tree in shapes():
-        needs = least(program, command, json.dumps(tree).encode())
-        good = needs is not None and needs <= allowed
-        passed, failed, most = passed + good, failed + (not good), max(most, needs or 0)
-        told = "refused, or needs more than 64 MB" if needs is None else f"{needs:6} kB"
-        print(f"{command:10} {name:22} {depth(tree):3} levels  {told}{'' if good else '  FAILED'}", flush=True)
+    for program in programs:
+        name = os.path.basename(program)
+        if not os.access(program, os.X_OK):
+            print(f"FAILED: {program} is not built\n0 passed, 1 failed")
+            return 1
+        for command, shape, tree in shapes():
+            if command == "operations" and name.startswith("openapi_order"):
+                continue
+            needs = least(program, command, json.dumps(tree).encode())
+            good = needs is not None and needs <= allowed
+            passed, failed, most = passed + good, failed + (not good), max(most, needs or 0)
+            told = "refused, or needs more than 64 MB" if needs is None else f"{needs:6} kB"
+            print(f"{name} {command:10} {shape:22} {depth(tree):3} levels  {told}{'' if good else '  FAILED'}", flush=True)
     print(f"at most {most} kB\n{passed} passed, {failed} failed")
     return failed != 0
 

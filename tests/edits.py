@@ -20,9 +20,9 @@ No body is seen by the proof of another function. So the refusal of an edit in t
 - the edit, and the text of the function with its attributes;
 - the function's own proofs, or those of its cycle, and all of the crate's specs;
 - what the function can see of the crate's sources: the heads of functions that it names, with their contracts; the types,
-  traits and constants that are named in any of this; and what stands beside the functions in the traits and impls of these.
-  An impl counts where all that its head has of the crate is named. If it is of a trait, the heads of its functions count
-  too, since an operator, a loop or a `?` calls one without its name;
+  traits, constants and macros that are named in any of this; and what stands beside the functions in the traits and impls of
+  these. An impl counts where all that its head has of the crate is named. If it is of a trait, the heads of its functions
+  count too, since an operator, a loop or a `?` calls one without its name;
 - what the files of all this take from elsewhere under a name that stands in it.
 Lemmas do not count: a lemma means what its statement says, and is proved. Any other edit (of a definition, a constant,
 several functions, ..) rests on all sources, specs and proofs of the crate. Other crates do not count.
@@ -59,7 +59,7 @@ UNSEEN = re.compile(r"\s*(?://.*|#\[(?:inline(?:\((?:never|always)\))?|cold)\])?
 # How an item of a source begins, behind its attributes: what it is, and its name.
 BEGINS = re.compile(
     r" *(?:pub(?:\([\w: ]+\))? |unsafe |const (?=fn)|ghost (?=use))*"
-    r"(use|impl|(?:fn|struct|enum|trait|const|static|type|mod)(?= (\w+)))\b"
+    r"(use|impl|(?:fn|struct|enum|trait|const|static|type|mod|macro_rules!)(?= (\w+)))(?!\w)"
 )
 # What the head of an impl says of its trait and its type, without what it says of their parameters.
 IMPL = re.compile(r"(?:unsafe )?impl(?:<(?:[^<>]|<[^<>]*>)*>)?([^{]*?)(?:\bwhere\b|\{)")
@@ -153,9 +153,10 @@ def cut(lines, indent):
 
 
 class Item:
-    """A function, a definition, a block (an impl or a trait) or a `use` of a source: its kind and name, its file and the block
-    that it stands in, its text with its attributes, and its head, which is what others see of it. The head of a function has
-    its contract, and that of a block all that stands in it beside its functions. What is said of a whole file is as a `use`."""
+    """A function, a definition, a macro, a block (an impl or a trait) or a `use` of a source: its kind and name, its file and
+    the block that it stands in, its text with its attributes, and its head, which is what others see of it. The head of a
+    function has its contract, and that of a block all that stands in it beside its functions. What is said of a whole file is
+    as a `use`."""
 
     def __init__(self, file, lines, block=None):
         self.file, self.block, self.items, self.needs = file, block, [], set()

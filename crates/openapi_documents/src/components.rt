@@ -4,7 +4,7 @@ ghost use Rattle.std.specs.Prelude.{◌≡◌, []};
 ghost use Rattle.openapi_tables.specs.Kind as kinds;
 ghost use Rattle.openapi_documents.specs.Documents.{components_rows};
 
-use openapi_fields::{Object, Record, extensions, join, or_implied, put_extensions, put_implied};
+use openapi_fields::{Object, Record, extensions, join, or_implied, write_rows};
 use openapi_media_types::Header;
 use openapi_metadata::{Example, Link};
 use openapi_node::{Members, Node, OrderedMap, Result, Steps};
@@ -111,15 +111,17 @@ impl Record for Components {
     }
 
     fn put_rows(&self, alloc: Global, out: &mut Members) -> Result<()> {
-        put_implied(alloc, self, out, "schemas", &self.schemas)?;
-        put_implied(alloc, self, out, "responses", &self.responses)?;
-        put_implied(alloc, self, out, "parameters", &self.parameters)?;
-        put_implied(alloc, self, out, "examples", &self.examples)?;
-        put_implied(alloc, self, out, "requestBodies", &self.request_bodies)?;
-        put_implied(alloc, self, out, "headers", &self.headers)?;
-        put_implied(alloc, self, out, "securitySchemes", &self.security_schemes)?;
-        put_implied(alloc, self, out, "links", &self.links)?;
-        put_implied(alloc, self, out, "callbacks", &self.callbacks)?;
-        put_extensions(alloc, self, out, &self.extensions)
+        write_rows!(alloc, self, out => {
+            schemas: put_implied("schemas"),
+            responses: put_implied("responses"),
+            parameters: put_implied("parameters"),
+            examples: put_implied("examples"),
+            request_bodies: put_implied("requestBodies"),
+            headers: put_implied("headers"),
+            security_schemes: put_implied("securitySchemes"),
+            links: put_implied("links"),
+            callbacks: put_implied("callbacks"),
+            ..extensions
+        })
     }
 }

@@ -5,8 +5,7 @@ ghost use Rattle.openapi_documents.specs.Documents.{open_api_rows};
 
 use crate::components::Components;
 use openapi_fields::{
-    IntoNode, Object, Record, extensions, join, optional, or_implied, put_extensions, put_implied,
-    put_optional, put_required, required,
+    IntoNode, Object, Record, extensions, join, optional, or_implied, required, write_rows,
 };
 use openapi_metadata::{Info, Server, Tag};
 use openapi_node::{Members, Node, OrderedMap, Result, Steps};
@@ -110,15 +109,17 @@ impl Record for OpenAPI {
     }
 
     fn put_rows(&self, alloc: Global, out: &mut Members) -> Result<()> {
-        put_required(alloc, self, out, "openapi", &self.openapi)?;
-        put_required(alloc, self, out, "info", &self.info)?;
-        put_implied(alloc, self, out, "servers", &self.servers)?;
-        put_required(alloc, self, out, "paths", &self.paths)?;
-        put_optional(alloc, self, out, "components", &self.components)?;
-        put_optional(alloc, self, out, "security", &self.security)?;
-        put_implied(alloc, self, out, "tags", &self.tags)?;
-        put_optional(alloc, self, out, "externalDocs", &self.external_docs)?;
-        put_extensions(alloc, self, out, &self.extensions)
+        write_rows!(alloc, self, out => {
+            openapi: put_required("openapi"),
+            info: put_required("info"),
+            servers: put_implied("servers"),
+            paths: put_required("paths"),
+            components: put_optional("components"),
+            security: put_optional("security"),
+            tags: put_implied("tags"),
+            external_docs: put_optional("externalDocs"),
+            ..extensions
+        })
     }
 }
 

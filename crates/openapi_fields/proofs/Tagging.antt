@@ -33,6 +33,7 @@ use Rattle.openapi_tables.proofs.ByRowLaws.{own-found, own-missing, own-members,
 use Rattle.openapi_tables.proofs.ByRowLaws.{among_left, among_right, among_below}
 use Rattle.openapi_tables.proofs.SlotWriting.{slots_apart-rows, fields_print, fields_lost, is_new, one_put}
 use Rattle.openapi_fields.specs.Forms.{tagged_form, tagged_slots}
+use Rattle.openapi_fields.specs.Reading.{IsCaseRead}
 use Rattle.openapi_fields.specs.Returned.{ReadAs, RowsReadAs, RisesBelow, RisesBy, looks}
 use Rattle.openapi_fields.proofs.Referring.{fails_wider, held_found, held_missing}
 
@@ -154,11 +155,7 @@ module _ (n : List ℕ) (cs : List Case) (s : List ℕ) (ms : Members) (at : hel
   pub tagged_read : {X : Type 0} (word_of : X → List ℕ) (rows : X → List Form) (k : Kind) (r : Result X Fault)
       {before looked after : ℕ} → sound final_tables (tagged n cs) ≡ true
       → RisesBy before looked (3 * row_weight (row n required k) ms)
-      → record {
-        reads : RowsReadAs rows r (by (tag_table cs s)) ms;
-        word : IfOk r (λ x. word_of x ≡ s);
-        count : RisesBy looked after (3 * rows_weight (final_tables (tag_table cs s)) ms);
-      }
+      → IsCaseRead word_of rows r s (tag_table cs s) ms looked after
       → record {
         reads : ReadAs (tagged_form word_of rows) r (tagged n cs) (object ms);
         count : RisesBelow before after (looks (tagged n cs) + 3 * size_of (object ms));

@@ -1,22 +1,31 @@
 -- What mutually recursive readers return, beside what the tables say: what some of the rows of an object give, what
 -- its members are, and an entry that is put by what was read of it.
-use Rattle.std.specs.Prelude.{◌≡◌, ℕ, ◌+◌, ◌≤◌, Bool, true, false, List, [], ◌∷◌, ◌++◌, Option, Some, None, Result, Ok, Err, ◌⊎◌}
+use Rattle.std.specs.Prelude.{◌≡◌, ℕ, ◌+◌, ◌*◌, ◌≤◌, Bool, true, false, List, [], ◌∷◌, ◌++◌, Option, Some, None, Result, Ok}
+use Rattle.std.specs.Prelude.{Err, IfOk, ◌⊎◌}
 use Rattle.std.specs.Borrow.{Bor}
 use Rattle.openapi_map.specs.Entries.{Entries}
 use Rattle.openapi_node.specs.Fault.{IsMemory}
 use Rattle.openapi_node.specs.Place.{named}
 use Rattle.openapi_node.specs.Tree.{Tree, object, Members, members_of, members_size, size_of, find}
 use Rattle.openapi_node.specs.declared.fault.Fault.{Fault}
-use Rattle.openapi_tables.specs.Kind.{Kind, Row, by, map_of}
+use Rattle.openapi_tables.specs.Kind.{Kind, Row, TableName, by, map_of}
 use Rattle.openapi_tables.specs.Tables.{final_tables}
 use Rattle.openapi_tables.specs.Form.{Form}
-use Rattle.openapi_tables.specs.ByRow.{AreRows}
-use Rattle.openapi_fields.specs.Returned.{Fails, FailsBelow, Reads}
+use Rattle.openapi_tables.specs.ByRow.{AreRows, rows_weight}
+use Rattle.openapi_fields.specs.Returned.{Fails, FailsBelow, Reads, RisesBy, RowsReadAs}
 
 -- what some of the rows of an object of a kind give, or a refusal of the whole object
 abbrev pub PartReadAs : {X : Type 0} → (X → List Form) → Result X Fault → Kind → List Row → Members → Type 0
 PartReadAs rows (Ok x) k ws ms = AreRows final_tables ws (rows x) ms
 PartReadAs rows (Err f) k ws ms = Fails f k (object ms)
+
+-- what the reader of one case of a tagged object returned: a value with the word of its tag, by the rows of its table, or a
+-- refusal by them; and the count of looks rose by what these weigh
+pub record IsCaseRead {X : Type 0} (word_of : X → List ℕ) (rows : X → List Form) (result : Result X Fault) (tag : List ℕ)
+    (table : TableName) (ms : Members) (old new : ℕ) : Type 0 where
+  pub reads : RowsReadAs rows result (by table) ms
+  pub word : IfOk result (λ x. word_of x ≡ tag)
+  pub count : RisesBy old new (3 * rows_weight (final_tables table) ms)
 
 -- every name
 abbrev pub any_name : List ℕ → Bool

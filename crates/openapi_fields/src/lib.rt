@@ -11,6 +11,7 @@ mod implied;
 mod into_node;
 mod joined;
 mod lists;
+mod macros;
 mod maps;
 mod memory;
 mod names;

@@ -18,8 +18,8 @@ use crate::format::{ParameterSchemaOrContent, format_name};
 use crate::header::Header;
 use crate::media_type::{Content, MediaType};
 use openapi_fields::{
-    ToNode, put_decided, put_extensions, put_implied, put_nullable, put_optional, put_row,
-    put_written, whole_object, write_reference,
+    ToNode, put_decided, put_extensions, put_nullable, put_row, put_written, whole_object,
+    write_reference, write_rows,
 };
 use openapi_node::{Members, Node, OrderedMap, Result};
 use openapi_values::ReferenceOr;
@@ -50,10 +50,12 @@ fn header_members(alloc: Global, header: &Header) -> Result<Members>
     ensures { RowsWritten (header_slots header.now) result }
 {
     let mut out = OrderedMap::new(alloc);
-    put_optional(alloc, header, &mut out, "description", &header.description)?;
-    put_implied(alloc, header, &mut out, "style", &header.style)?;
-    put_implied(alloc, header, &mut out, "required", &header.required)?;
-    put_optional(alloc, header, &mut out, "deprecated", &header.deprecated)?;
+    write_rows!(alloc, header, &mut out => {
+        description: put_optional("description"),
+        style: put_implied("style"),
+        required: put_implied("required"),
+        deprecated: put_optional("deprecated"),
+    });
     put_decided(
         alloc,
         header,
@@ -62,9 +64,11 @@ fn header_members(alloc: Global, header: &Header) -> Result<Members>
         format_name(&header.format),
         write_format(alloc, &header.format),
     )?;
-    put_optional(alloc, header, &mut out, "example", &header.example)?;
-    put_implied(alloc, header, &mut out, "examples", &header.examples)?;
-    put_extensions(alloc, header, &mut out, &header.extensions)?;
+    write_rows!(alloc, header, &mut out => {
+        example: put_optional("example"),
+        examples: put_implied("examples"),
+        ..extensions
+    })?;
     Ok(out)
 }
 
@@ -110,15 +114,11 @@ fn media_type_members(alloc: Global, media_type: &MediaType) -> Result<Members>
     ensures { RowsWritten (media_type_slots media_type.now) result }
 {
     let mut out = OrderedMap::new(alloc);
-    put_optional(alloc, media_type, &mut out, "schema", &media_type.schema)?;
-    put_optional(alloc, media_type, &mut out, "example", &media_type.example)?;
-    put_implied(
-        alloc,
-        media_type,
-        &mut out,
-        "examples",
-        &media_type.examples,
-    )?;
+    write_rows!(alloc, media_type, &mut out => {
+        schema: put_optional("schema"),
+        example: put_optional("example"),
+        examples: put_implied("examples"),
+    });
     put_row(
         alloc,
         media_type,
@@ -178,16 +178,12 @@ fn encoding_members(alloc: Global, encoding: &Encoding) -> Result<Members>
         "headers",
         write_headers(alloc, &encoding.headers),
     )?;
-    put_optional(alloc, encoding, &mut out, "style", &encoding.style)?;
-    put_implied(alloc, encoding, &mut out, "explode", &encoding.explode)?;
-    put_implied(
-        alloc,
-        encoding,
-        &mut out,
-        "allowReserved",
-        &encoding.allow_reserved,
-    )?;
-    put_extensions(alloc, encoding, &mut out, &encoding.extensions)?;
+    write_rows!(alloc, encoding, &mut out => {
+        style: put_optional("style"),
+        explode: put_implied("explode"),
+        allow_reserved: put_implied("allowReserved"),
+        ..extensions
+    })?;
     Ok(out)
 }
 

@@ -3,7 +3,7 @@ ghost use Rattle.std.specs.Prelude.{◌≡◌, [], None};
 ghost use Rattle.openapi_tables.specs.Kind.{contact};
 ghost use Rattle.openapi_metadata.specs.Objects.{contact_rows};
 
-use openapi_fields::{Object, Record, extensions, optional, put_extensions, put_optional};
+use openapi_fields::{Object, Record, read_rows, write_rows};
 use openapi_node::{Members, Node, OrderedMap, Result, Steps};
 use std::alloc::Global;
 
@@ -45,18 +45,20 @@ impl Object for Contact {
 
 impl Record for Contact {
     fn from_members(alloc: Global, members: &Members, steps: &mut Steps) -> Result<Self> {
-        Ok(Contact {
-            name: optional::<Self, _>(alloc, members, "name", steps)?,
-            url: optional::<Self, _>(alloc, members, "url", steps)?,
-            email: optional::<Self, _>(alloc, members, "email", steps)?,
-            extensions: extensions::<Self>(alloc, members, steps)?,
+        read_rows!(alloc, members, steps, Self => Contact {
+            name: optional("name"),
+            url: optional("url"),
+            email: optional("email"),
+            ..extensions
         })
     }
 
     fn put_rows(&self, alloc: Global, out: &mut Members) -> Result<()> {
-        put_optional(alloc, self, out, "name", &self.name)?;
-        put_optional(alloc, self, out, "url", &self.url)?;
-        put_optional(alloc, self, out, "email", &self.email)?;
-        put_extensions(alloc, self, out, &self.extensions)
+        write_rows!(alloc, self, out => {
+            name: put_optional("name"),
+            url: put_optional("url"),
+            email: put_optional("email"),
+            ..extensions
+        })
     }
 }

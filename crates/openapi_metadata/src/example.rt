@@ -8,9 +8,7 @@ ghost use Rattle.openapi_fields.specs.Returned.{ReadAs, Refuses, WrittenAs};
 ghost use Rattle.openapi_fields.proofs.Spared.{example_spares};
 ghost use Rattle.openapi_metadata.specs.Objects.{example_rows};
 
-use openapi_fields::{
-    FromNode, Object, Record, Referable, ToNode, extensions, optional, put_extensions, put_optional,
-};
+use openapi_fields::{FromNode, Object, Record, Referable, ToNode, read_rows, write_rows};
 use openapi_node::{Members, Node, OrderedMap, Result, Steps};
 use openapi_values::ReferenceOr;
 use std::alloc::Global;
@@ -58,21 +56,23 @@ impl Object for Example {
 
 impl Record for Example {
     fn from_members(alloc: Global, members: &Members, steps: &mut Steps) -> Result<Self> {
-        Ok(Example {
-            summary: optional::<Self, _>(alloc, members, "summary", steps)?,
-            description: optional::<Self, _>(alloc, members, "description", steps)?,
-            value: optional::<Self, _>(alloc, members, "value", steps)?,
-            external_value: optional::<Self, _>(alloc, members, "externalValue", steps)?,
-            extensions: extensions::<Self>(alloc, members, steps)?,
+        read_rows!(alloc, members, steps, Self => Example {
+            summary: optional("summary"),
+            description: optional("description"),
+            value: optional("value"),
+            external_value: optional("externalValue"),
+            ..extensions
         })
     }
 
     fn put_rows(&self, alloc: Global, out: &mut Members) -> Result<()> {
-        put_optional(alloc, self, out, "summary", &self.summary)?;
-        put_optional(alloc, self, out, "description", &self.description)?;
-        put_optional(alloc, self, out, "value", &self.value)?;
-        put_optional(alloc, self, out, "externalValue", &self.external_value)?;
-        put_extensions(alloc, self, out, &self.extensions)
+        write_rows!(alloc, self, out => {
+            summary: put_optional("summary"),
+            description: put_optional("description"),
+            value: put_optional("value"),
+            external_value: put_optional("externalValue"),
+            ..extensions
+        })
     }
 }
 

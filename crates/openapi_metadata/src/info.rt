@@ -5,9 +5,7 @@ ghost use Rattle.openapi_metadata.specs.Objects.{info_rows};
 
 use crate::contact::Contact;
 use crate::license::License;
-use openapi_fields::{
-    Object, Record, extensions, optional, put_extensions, put_optional, put_required, required,
-};
+use openapi_fields::{Object, Record, read_rows, write_rows};
 use openapi_node::{Members, Node, OrderedMap, Result, Steps};
 use std::alloc::Global;
 
@@ -61,24 +59,26 @@ impl Object for Info {
 
 impl Record for Info {
     fn from_members(alloc: Global, members: &Members, steps: &mut Steps) -> Result<Self> {
-        Ok(Info {
-            title: required::<Self, _>(alloc, members, "title", steps)?,
-            description: optional::<Self, _>(alloc, members, "description", steps)?,
-            terms_of_service: optional::<Self, _>(alloc, members, "termsOfService", steps)?,
-            contact: optional::<Self, _>(alloc, members, "contact", steps)?,
-            license: optional::<Self, _>(alloc, members, "license", steps)?,
-            version: required::<Self, _>(alloc, members, "version", steps)?,
-            extensions: extensions::<Self>(alloc, members, steps)?,
+        read_rows!(alloc, members, steps, Self => Info {
+            title: required("title"),
+            description: optional("description"),
+            terms_of_service: optional("termsOfService"),
+            contact: optional("contact"),
+            license: optional("license"),
+            version: required("version"),
+            ..extensions
         })
     }
 
     fn put_rows(&self, alloc: Global, out: &mut Members) -> Result<()> {
-        put_required(alloc, self, out, "title", &self.title)?;
-        put_optional(alloc, self, out, "description", &self.description)?;
-        put_optional(alloc, self, out, "termsOfService", &self.terms_of_service)?;
-        put_optional(alloc, self, out, "contact", &self.contact)?;
-        put_optional(alloc, self, out, "license", &self.license)?;
-        put_required(alloc, self, out, "version", &self.version)?;
-        put_extensions(alloc, self, out, &self.extensions)
+        write_rows!(alloc, self, out => {
+            title: put_required("title"),
+            description: put_optional("description"),
+            terms_of_service: put_optional("termsOfService"),
+            contact: put_optional("contact"),
+            license: put_optional("license"),
+            version: put_required("version"),
+            ..extensions
+        })
     }
 }

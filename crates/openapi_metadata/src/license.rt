@@ -3,9 +3,7 @@ ghost use Rattle.std.specs.Prelude.{◌≡◌, [], None, string_bytes};
 ghost use Rattle.openapi_tables.specs.Kind.{license};
 ghost use Rattle.openapi_metadata.specs.Objects.{license_rows};
 
-use openapi_fields::{
-    Object, Record, extensions, optional, put_extensions, put_optional, put_required, required,
-};
+use openapi_fields::{Object, Record, read_rows, write_rows};
 use openapi_node::{Members, Node, OrderedMap, Result, Steps};
 use std::alloc::Global;
 
@@ -43,16 +41,18 @@ impl Object for License {
 
 impl Record for License {
     fn from_members(alloc: Global, members: &Members, steps: &mut Steps) -> Result<Self> {
-        Ok(License {
-            name: required::<Self, _>(alloc, members, "name", steps)?,
-            url: optional::<Self, _>(alloc, members, "url", steps)?,
-            extensions: extensions::<Self>(alloc, members, steps)?,
+        read_rows!(alloc, members, steps, Self => License {
+            name: required("name"),
+            url: optional("url"),
+            ..extensions
         })
     }
 
     fn put_rows(&self, alloc: Global, out: &mut Members) -> Result<()> {
-        put_required(alloc, self, out, "name", &self.name)?;
-        put_optional(alloc, self, out, "url", &self.url)?;
-        put_extensions(alloc, self, out, &self.extensions)
+        write_rows!(alloc, self, out => {
+            name: put_required("name"),
+            url: put_optional("url"),
+            ..extensions
+        })
     }
 }

@@ -11,8 +11,8 @@ ghost use Rattle.openapi_metadata.specs.Links.{link_rows};
 use crate::link_operation::{LinkOperation, operation, put_operation};
 use crate::server::Server;
 use openapi_fields::{
-    FromNode, Object, Record, Referable, ToNode, extensions, optional, or_implied, put_extensions,
-    put_implied, put_optional,
+    FromNode, Object, Record, Referable, ToNode, extensions, optional, or_implied, put_optional,
+    write_rows,
 };
 use openapi_node::{Members, Node, OrderedMap, Result, Steps};
 use openapi_values::ReferenceOr;
@@ -57,10 +57,12 @@ impl Record for Link {
     fn put_rows(&self, alloc: Global, out: &mut Members) -> Result<()> {
         put_optional(alloc, self, out, "description", &self.description)?;
         put_operation(alloc, self, out, &self.operation)?;
-        put_optional(alloc, self, out, "requestBody", &self.request_body)?;
-        put_implied(alloc, self, out, "parameters", &self.parameters)?;
-        put_optional(alloc, self, out, "server", &self.server)?;
-        put_extensions(alloc, self, out, &self.extensions)
+        write_rows!(alloc, self, out => {
+            request_body: put_optional("requestBody"),
+            parameters: put_implied("parameters"),
+            server: put_optional("server"),
+            ..extensions
+        })
     }
 }
 

@@ -4,9 +4,7 @@ ghost use Rattle.openapi_tables.specs.Kind.{server};
 ghost use Rattle.openapi_metadata.specs.Objects.{server_rows};
 
 use crate::server_variable::ServerVariable;
-use openapi_fields::{
-    Object, Record, extensions, optional, put_extensions, put_optional, put_required, required,
-};
+use openapi_fields::{Object, Record, read_rows, write_rows};
 use openapi_node::{Members, Node, OrderedMap, Result, Steps};
 use std::alloc::Global;
 
@@ -49,18 +47,20 @@ impl Object for Server {
 
 impl Record for Server {
     fn from_members(alloc: Global, members: &Members, steps: &mut Steps) -> Result<Self> {
-        Ok(Server {
-            url: required::<Self, _>(alloc, members, "url", steps)?,
-            description: optional::<Self, _>(alloc, members, "description", steps)?,
-            variables: optional::<Self, _>(alloc, members, "variables", steps)?,
-            extensions: extensions::<Self>(alloc, members, steps)?,
+        read_rows!(alloc, members, steps, Self => Server {
+            url: required("url"),
+            description: optional("description"),
+            variables: optional("variables"),
+            ..extensions
         })
     }
 
     fn put_rows(&self, alloc: Global, out: &mut Members) -> Result<()> {
-        put_required(alloc, self, out, "url", &self.url)?;
-        put_optional(alloc, self, out, "description", &self.description)?;
-        put_optional(alloc, self, out, "variables", &self.variables)?;
-        put_extensions(alloc, self, out, &self.extensions)
+        write_rows!(alloc, self, out => {
+            url: put_required("url"),
+            description: put_optional("description"),
+            variables: put_optional("variables"),
+            ..extensions
+        })
     }
 }

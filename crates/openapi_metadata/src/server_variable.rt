@@ -3,10 +3,7 @@ ghost use Rattle.std.specs.Prelude.{◌≡◌, [], None, string_bytes};
 ghost use Rattle.openapi_tables.specs.Kind.{server_variable};
 ghost use Rattle.openapi_metadata.specs.Objects.{server_variable_rows};
 
-use openapi_fields::{
-    Object, Record, extensions, nullable, or_implied, put_extensions, put_implied, put_nullable,
-    put_required, required,
-};
+use openapi_fields::{Object, Record, read_rows, write_rows};
 use openapi_node::{Members, Node, OrderedMap, Result, Steps};
 use std::alloc::Global;
 
@@ -48,18 +45,20 @@ impl Object for ServerVariable {
 
 impl Record for ServerVariable {
     fn from_members(alloc: Global, members: &Members, steps: &mut Steps) -> Result<Self> {
-        Ok(ServerVariable {
-            enumeration: or_implied::<Self, _>(alloc, members, "enum", steps)?,
-            default: required::<Self, _>(alloc, members, "default", steps)?,
-            description: nullable::<Self, _>(alloc, members, "description", steps)?,
-            extensions: extensions::<Self>(alloc, members, steps)?,
+        read_rows!(alloc, members, steps, Self => ServerVariable {
+            enumeration: or_implied("enum"),
+            default: required("default"),
+            description: nullable("description"),
+            ..extensions
         })
     }
 
     fn put_rows(&self, alloc: Global, out: &mut Members) -> Result<()> {
-        put_implied(alloc, self, out, "enum", &self.enumeration)?;
-        put_required(alloc, self, out, "default", &self.default)?;
-        put_nullable(alloc, self, out, "description", &self.description)?;
-        put_extensions(alloc, self, out, &self.extensions)
+        write_rows!(alloc, self, out => {
+            enumeration: put_implied("enum"),
+            default: put_required("default"),
+            description: put_nullable("description"),
+            ..extensions
+        })
     }
 }

@@ -11,8 +11,7 @@ ghost use Rattle.openapi_metadata.specs.Objects.{tag_rows};
 
 use crate::moved::move_extensions;
 use openapi_fields::{
-    IntoNode, Object, Record, ToNode, extensions, optional, put_extensions, put_optional,
-    put_required, required,
+    IntoNode, Object, Record, ToNode, put_extensions, put_optional, read_rows, write_rows,
 };
 use openapi_node::{Members, Node, OrderedMap, Result, Steps};
 use openapi_schema_annotations::ExternalDocumentation;
@@ -56,8 +55,10 @@ impl Tag {
             (before (is_class kinds.extensions) (record_slots tag tag_rows self.now)) out.new) }
         ensures err { IfErr result (λ f. NotWritable f (slots_lost final_tables (record_slots tag tag_rows self.now))) }
     {
-        put_required(alloc, self, out, "name", &self.name)?;
-        put_optional(alloc, self, out, "description", &self.description)?;
+        write_rows!(alloc, self, out => {
+            name: put_required("name"),
+            description: put_optional("description"),
+        });
         put_optional(alloc, self, out, "externalDocs", &self.external_docs)
     }
 
@@ -77,11 +78,11 @@ impl Object for Tag {
 
 impl Record for Tag {
     fn from_members(alloc: Global, members: &Members, steps: &mut Steps) -> Result<Self> {
-        Ok(Tag {
-            name: required::<Self, _>(alloc, members, "name", steps)?,
-            description: optional::<Self, _>(alloc, members, "description", steps)?,
-            external_docs: optional::<Self, _>(alloc, members, "externalDocs", steps)?,
-            extensions: extensions::<Self>(alloc, members, steps)?,
+        read_rows!(alloc, members, steps, Self => Tag {
+            name: required("name"),
+            description: optional("description"),
+            external_docs: optional("externalDocs"),
+            ..extensions
         })
     }
 

@@ -1,6 +1,6 @@
 -- The operations of a path item that are there, each under its method. Their forms are `present_ops` of Operations in
 -- openapi_tables.
-use Rattle.std.specs.Prelude.{ℕ, List, [], ◌∷◌, Option, Some, None}
+use Rattle.std.specs.Prelude.{◌≡◌, ℕ, List, [], ◌∷◌, Option, Some, None}
 use Rattle.std.specs.Borrow.{Bor}
 use Rattle.openapi_map.specs.Entries.{Entries}
 use Rattle.openapi_tables.specs.Lists.{each}
@@ -21,6 +21,17 @@ those_held (n ∷ ns) (Some x ∷ os) = (n, x) ∷ those_held ns os
 -- what stands under the methods, in their order
 abbrev pub under_methods : {X : Type 0} → Methods X → List (Option X)
 under_methods m = m.get ∷ m.put ∷ m.post ∷ m.delete ∷ m.options ∷ m.head ∷ m.patch ∷ m.trace ∷ []
+
+-- nothing stands under any method
+pub record NoneStands {X : Type 0} (m : Methods X) : Type 0 where
+  pub get : m.get ≡ None
+  pub put : m.put ≡ None
+  pub post : m.post ≡ None
+  pub delete : m.delete ≡ None
+  pub options : m.options ≡ None
+  pub head : m.head ≡ None
+  pub patch : m.patch ≡ None
+  pub trace : m.trace ≡ None
 
 -- what stands under the methods of a path item, in their order
 abbrev pub operations_in : PathItem → List (Option Operation)

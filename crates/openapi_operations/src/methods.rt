@@ -1,8 +1,7 @@
 //! What stands under the eight methods of a path item.
-ghost use Rattle.std.specs.Prelude.{◌≡◌, None};
 ghost use Rattle.std.specs.Map.Iter.{TakesFirst};
 ghost use Rattle.openapi_tables.specs.Operations.{methods};
-ghost use Rattle.openapi_operations.specs.Present.{owned_method, those_held, under_methods};
+ghost use Rattle.openapi_operations.specs.Present.{NoneStands, owned_method, those_held, under_methods};
 
 /// What stands under each method, where it is there.
 #[derive(Drop)]
@@ -17,17 +16,19 @@ pub(crate) struct Methods<T> {
     pub trace: Option<T>,
 }
 
+/// Returns the first value that is there, with its method, taken from where it stands.
+macro_rules! take_each {
+    ($methods:ident: $($method:ident)*) => {
+        $(if let Some(value) = $methods.$method.take() {
+            return Some((stringify!($method), value));
+        })*
+    };
+}
+
 impl<T: Drop> Methods<T> {
     /// Nothing under any method.
     pub(crate) fn none() -> Methods<T>
-        ensures get { result.get ≡ None }
-        ensures put { result.put ≡ None }
-        ensures post { result.post ≡ None }
-        ensures delete { result.delete ≡ None }
-        ensures options { result.options ≡ None }
-        ensures head { result.head ≡ None }
-        ensures patch { result.patch ≡ None }
-        ensures trace { result.trace ≡ None }
+        ensures { NoneStands result }
     {
         Methods {
             get: None,
@@ -46,30 +47,7 @@ impl<T: Drop> Methods<T> {
         ensures { TakesFirst owned_method (those_held methods (under_methods self.old)) result
             (those_held methods (under_methods self.new)) }
     {
-        if let Some(value) = self.get.take() {
-            return Some(("get", value));
-        }
-        if let Some(value) = self.put.take() {
-            return Some(("put", value));
-        }
-        if let Some(value) = self.post.take() {
-            return Some(("post", value));
-        }
-        if let Some(value) = self.delete.take() {
-            return Some(("delete", value));
-        }
-        if let Some(value) = self.options.take() {
-            return Some(("options", value));
-        }
-        if let Some(value) = self.head.take() {
-            return Some(("head", value));
-        }
-        if let Some(value) = self.patch.take() {
-            return Some(("patch", value));
-        }
-        if let Some(value) = self.trace.take() {
-            return Some(("trace", value));
-        }
+        take_each!(self: get put post delete options head patch trace);
         None
     }
 }

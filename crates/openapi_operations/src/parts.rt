@@ -17,10 +17,7 @@ use crate::callback::Callback;
 use crate::methods::Methods;
 use crate::operation::Operation;
 use crate::path_item::PathItem;
-use openapi_fields::{
-    extensions, optional, or_implied, put_extensions, put_implied, put_optional, put_required,
-    required,
-};
+use openapi_fields::{put_required, read_rows, write_rows};
 use openapi_metadata::Server;
 use openapi_node::{Members, Node, OrderedMap, Result, Steps};
 use openapi_parameters::Parameter;
@@ -75,12 +72,12 @@ pub(crate) fn read_texts(
     ensures reads { PartReadAs text_forms result (kinds.by kinds.operation) text_rows (members_of members.now) }
     ensures count { RisesBy steps.old steps.new (3 * rows_weight text_rows (members_of members.now)) }
 {
-    Ok(OperationTexts {
-        deprecated: or_implied::<Operation, _>(alloc, members, "deprecated", steps)?,
-        tags: or_implied::<Operation, _>(alloc, members, "tags", steps)?,
-        summary: optional::<Operation, _>(alloc, members, "summary", steps)?,
-        description: optional::<Operation, _>(alloc, members, "description", steps)?,
-        operation_id: optional::<Operation, _>(alloc, members, "operationId", steps)?,
+    read_rows!(alloc, members, steps, Operation => OperationTexts {
+        deprecated: or_implied("deprecated"),
+        tags: or_implied("tags"),
+        summary: optional("summary"),
+        description: optional("description"),
+        operation_id: optional("operationId"),
     })
 }
 
@@ -93,10 +90,10 @@ pub(crate) fn read_settings(
     ensures reads { PartReadAs setting_forms result (kinds.by kinds.operation) setting_rows (members_of members.now) }
     ensures count { RisesBy steps.old steps.new (3 * rows_weight setting_rows (members_of members.now)) }
 {
-    Ok(OperationSettings {
-        security: optional::<Operation, _>(alloc, members, "security", steps)?,
-        servers: or_implied::<Operation, _>(alloc, members, "servers", steps)?,
-        external_docs: optional::<Operation, _>(alloc, members, "externalDocs", steps)?,
+    read_rows!(alloc, members, steps, Operation => OperationSettings {
+        security: optional("security"),
+        servers: or_implied("servers"),
+        external_docs: optional("externalDocs"),
     })
 }
 
@@ -109,10 +106,10 @@ pub(crate) fn read_messages(
     ensures reads { PartReadAs message_forms result (kinds.by kinds.operation) message_rows (members_of members.now) }
     ensures count { RisesBy steps.old steps.new (3 * rows_weight message_rows (members_of members.now)) }
 {
-    Ok(OperationMessages {
-        parameters: or_implied::<Operation, _>(alloc, members, "parameters", steps)?,
-        request_body: optional::<Operation, _>(alloc, members, "requestBody", steps)?,
-        responses: required::<Operation, _>(alloc, members, "responses", steps)?,
+    read_rows!(alloc, members, steps, Operation => OperationMessages {
+        parameters: or_implied("parameters"),
+        request_body: optional("requestBody"),
+        responses: required("responses"),
     })
 }
 
@@ -125,12 +122,12 @@ pub(crate) fn read_beside(
     ensures reads { PartReadAs beside_forms result (kinds.by kinds.path_item) beside_rows (members_of members.now) }
     ensures count { RisesBy steps.old steps.new (3 * rows_weight beside_rows (members_of members.now)) }
 {
-    Ok(PathItemValues {
-        summary: optional::<PathItem, _>(alloc, members, "summary", steps)?,
-        description: optional::<PathItem, _>(alloc, members, "description", steps)?,
-        servers: or_implied::<PathItem, _>(alloc, members, "servers", steps)?,
-        parameters: or_implied::<PathItem, _>(alloc, members, "parameters", steps)?,
-        extensions: extensions::<PathItem>(alloc, members, steps)?,
+    read_rows!(alloc, members, steps, PathItem => PathItemValues {
+        summary: optional("summary"),
+        description: optional("description"),
+        servers: or_implied("servers"),
+        parameters: or_implied("parameters"),
+        ..extensions
     })
 }
 
@@ -214,31 +211,15 @@ pub(crate) fn put_before_callbacks(
         (operation_slots operation.now)) out.new) }
     ensures err { IfErr result (λ f. NotWritable f (slots_lost final_tables (operation_slots operation.now))) }
 {
-    put_implied(alloc, operation, out, "tags", &operation.tags)?;
-    put_optional(alloc, operation, out, "summary", &operation.summary)?;
-    put_optional(alloc, operation, out, "description", &operation.description)?;
-    put_optional(
-        alloc,
-        operation,
-        out,
-        "externalDocs",
-        &operation.external_docs,
-    )?;
-    put_optional(
-        alloc,
-        operation,
-        out,
-        "operationId",
-        &operation.operation_id,
-    )?;
-    put_implied(alloc, operation, out, "parameters", &operation.parameters)?;
-    put_optional(
-        alloc,
-        operation,
-        out,
-        "requestBody",
-        &operation.request_body,
-    )?;
+    write_rows!(alloc, operation, out => {
+        tags: put_implied("tags"),
+        summary: put_optional("summary"),
+        description: put_optional("description"),
+        external_docs: put_optional("externalDocs"),
+        operation_id: put_optional("operationId"),
+        parameters: put_implied("parameters"),
+        request_body: put_optional("requestBody"),
+    });
     put_required(alloc, operation, out, "responses", &operation.responses)
 }
 
@@ -252,8 +233,10 @@ pub(crate) fn put_behind_callbacks(
     ensures ok { OnOk result (IsWritten final_tables (operation_slots operation.now) out.new) }
     ensures err { IfErr result (λ f. NotWritable f (slots_lost final_tables (operation_slots operation.now))) }
 {
-    put_implied(alloc, operation, out, "deprecated", &operation.deprecated)?;
-    put_optional(alloc, operation, out, "security", &operation.security)?;
-    put_implied(alloc, operation, out, "servers", &operation.servers)?;
-    put_extensions(alloc, operation, out, &operation.extensions)
+    write_rows!(alloc, operation, out => {
+        deprecated: put_implied("deprecated"),
+        security: put_optional("security"),
+        servers: put_implied("servers"),
+        ..extensions
+    })
 }

@@ -15,6 +15,7 @@ ghost use Rattle.openapi_fields.specs.Reading.{PartReadAs};
 ghost use Rattle.openapi_operations.specs.Fields.{callback_fields, operation_fields, path_item_fields};
 ghost use Rattle.openapi_operations.specs.OperationForms.{callback_form, operation_form, path_item_form};
 ghost use Rattle.openapi_operations.specs.Parts.{method_forms, method_rows};
+ghost use Rattle.openapi_operations.specs.Present.{NoneStands};
 
 use crate::callback::Callback;
 use crate::methods::Methods;
@@ -58,6 +59,14 @@ fn path_item_of(alloc: Global, members: &Members, steps: &mut Steps) -> Result<P
     }
 }
 
+/// Reads the operation under each method, the last one behind the comma.
+macro_rules! read_each {
+    ($alloc:ident, $members:ident, $methods:ident, $steps:ident => $($method:ident)*, $last:ident) => {{
+        $(read_method($alloc, $members, stringify!($method), &mut $methods.$method, $steps)?;)*
+        read_method($alloc, $members, stringify!($last), &mut $methods.$last, $steps)
+    }};
+}
+
 /// Reads the operations of a path item to where they are kept, since they are large.
 #[cycle(read)]
 fn read_methods(
@@ -66,26 +75,12 @@ fn read_methods(
     methods: &mut Methods<Operation>,
     steps: &mut Steps,
 ) -> Result<()>
-    requires get { methods.old.get ≡ None }
-    requires put { methods.old.put ≡ None }
-    requires post { methods.old.post ≡ None }
-    requires delete { methods.old.delete ≡ None }
-    requires options { methods.old.options ≡ None }
-    requires head { methods.old.head ≡ None }
-    requires patch { methods.old.patch ≡ None }
-    requires trace { methods.old.trace ≡ None }
+    requires { NoneStands methods.old }
     ensures reads { PartReadAs (λ done. method_forms methods.new) result (kinds.by kinds.path_item) method_rows
         (members_of members.now) }
     ensures count { RisesBy steps.old steps.new (3 * rows_weight method_rows (members_of members.now)) }
 {
-    read_method(alloc, members, "get", &mut methods.get, steps)?;
-    read_method(alloc, members, "put", &mut methods.put, steps)?;
-    read_method(alloc, members, "post", &mut methods.post, steps)?;
-    read_method(alloc, members, "delete", &mut methods.delete, steps)?;
-    read_method(alloc, members, "options", &mut methods.options, steps)?;
-    read_method(alloc, members, "head", &mut methods.head, steps)?;
-    read_method(alloc, members, "patch", &mut methods.patch, steps)?;
-    read_method(alloc, members, "trace", &mut methods.trace, steps)
+    read_each!(alloc, members, methods, steps => get put post delete options head patch, trace)
 }
 
 /// Reads the operation under a method to where it is kept, where it is there and not null.

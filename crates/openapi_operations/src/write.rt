@@ -18,8 +18,8 @@ use crate::operation::Operation;
 use crate::parts::{put_before_callbacks, put_behind_callbacks};
 use crate::path_item::PathItem;
 use openapi_fields::{
-    Extensions, Names, as_some, put_extensions, put_implied, put_optional, put_row, put_written,
-    whole_object, write_reference,
+    Extensions, Names, as_some, put_extensions, put_row, put_written, whole_object,
+    write_reference, write_rows,
 };
 use openapi_node::{Cause, Fault, Members, Node, OrderedMap, Result};
 use openapi_values::ReferenceOr;
@@ -39,25 +39,29 @@ fn path_item_members(alloc: Global, path_item: &PathItem) -> Result<Members>
     ensures { RowsWritten (path_item_slots path_item.now) result }
 {
     let mut out = OrderedMap::new(alloc);
-    put_optional(alloc, path_item, &mut out, "summary", &path_item.summary)?;
-    put_optional(
-        alloc,
-        path_item,
-        &mut out,
-        "description",
-        &path_item.description,
-    )?;
+    write_rows!(alloc, path_item, &mut out => {
+        summary: put_optional("summary"),
+        description: put_optional("description"),
+    });
     put_methods(alloc, path_item, &mut out)?;
-    put_implied(alloc, path_item, &mut out, "servers", &path_item.servers)?;
-    put_implied(
-        alloc,
-        path_item,
-        &mut out,
-        "parameters",
-        &path_item.parameters,
-    )?;
-    put_extensions(alloc, path_item, &mut out, &path_item.extensions)?;
+    write_rows!(alloc, path_item, &mut out => {
+        servers: put_implied("servers"),
+        parameters: put_implied("parameters"),
+        ..extensions
+    })?;
     Ok(out)
+}
+
+/// Writes the operation under each method, the last one behind the comma.
+macro_rules! put_each {
+    ($alloc:ident, $path_item:ident, $out:ident => $($method:ident)*, $last:ident) => {{
+        $(
+            let $method = write_method($alloc, &$path_item.$method);
+            put_row($alloc, $path_item, $out, stringify!($method), $method)?;
+        )*
+        let $last = write_method($alloc, &$path_item.$last);
+        put_row($alloc, $path_item, $out, stringify!($last), $last)
+    }};
 }
 
 /// Writes the operations of a path item, behind its texts.
@@ -68,22 +72,7 @@ fn put_methods(alloc: Global, path_item: &PathItem, out: &mut Members) -> Result
         (path_item_slots path_item.now)) out.new) }
     ensures err { IfErr result (λ f. NotWritable f (slots_lost final_tables (path_item_slots path_item.now))) }
 {
-    let get = write_method(alloc, &path_item.get);
-    put_row(alloc, path_item, out, "get", get)?;
-    let put = write_method(alloc, &path_item.put);
-    put_row(alloc, path_item, out, "put", put)?;
-    let post = write_method(alloc, &path_item.post);
-    put_row(alloc, path_item, out, "post", post)?;
-    let delete = write_method(alloc, &path_item.delete);
-    put_row(alloc, path_item, out, "delete", delete)?;
-    let options = write_method(alloc, &path_item.options);
-    put_row(alloc, path_item, out, "options", options)?;
-    let head = write_method(alloc, &path_item.head);
-    put_row(alloc, path_item, out, "head", head)?;
-    let patch = write_method(alloc, &path_item.patch);
-    put_row(alloc, path_item, out, "patch", patch)?;
-    let trace = write_method(alloc, &path_item.trace);
-    put_row(alloc, path_item, out, "trace", trace)
+    put_each!(alloc, path_item, out => get put post delete options head patch, trace)
 }
 
 /// Writes the operation under a method; nothing where there is none.

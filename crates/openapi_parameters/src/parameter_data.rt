@@ -3,8 +3,7 @@ ghost use Rattle.openapi_tables.specs.Kind.{parameter_data};
 ghost use Rattle.openapi_parameters.specs.Parameters.{parameter_data_rows};
 
 use openapi_fields::{
-    Object, Record, extensions, optional, or_implied, put_decided, put_extensions, put_implied,
-    put_optional, put_required, required,
+    Object, Record, extensions, optional, or_implied, put_decided, required, write_rows,
 };
 use openapi_media_types::{ParameterSchemaOrContent, format_name, read_format, write_format};
 use openapi_metadata::Example;
@@ -64,10 +63,12 @@ impl Record for ParameterData {
     }
 
     fn put_rows(&self, alloc: Global, out: &mut Members) -> Result<()> {
-        put_required(alloc, self, out, "name", &self.name)?;
-        put_optional(alloc, self, out, "description", &self.description)?;
-        put_implied(alloc, self, out, "required", &self.required)?;
-        put_optional(alloc, self, out, "deprecated", &self.deprecated)?;
+        write_rows!(alloc, self, out => {
+            name: put_required("name"),
+            description: put_optional("description"),
+            required: put_implied("required"),
+            deprecated: put_optional("deprecated"),
+        });
         put_decided(
             alloc,
             self,
@@ -76,9 +77,11 @@ impl Record for ParameterData {
             format_name(&self.format),
             write_format(alloc, &self.format),
         )?;
-        put_optional(alloc, self, out, "example", &self.example)?;
-        put_implied(alloc, self, out, "examples", &self.examples)?;
-        put_optional(alloc, self, out, "explode", &self.explode)?;
-        put_extensions(alloc, self, out, &self.extensions)
+        write_rows!(alloc, self, out => {
+            example: put_optional("example"),
+            examples: put_implied("examples"),
+            explode: put_optional("explode"),
+            ..extensions
+        })
     }
 }

@@ -1,12 +1,9 @@
 #![tactic(auto, unfolding(openapi_tables::specs::Tables::final_tables, openapi_tables::specs::Tables::tables_with))]
 //! How the members of a parameter are read, by the table of its place.
-ghost use Rattle.std.specs.Prelude.{◌≡◌, ◌*◌, [], codes, IfOk};
+ghost use Rattle.std.specs.Prelude.{[], codes};
 ghost use Rattle.openapi_node.specs.Tree.{members_of};
-ghost use Rattle.openapi_tables.specs.ByRow.{rows_weight};
-ghost use Rattle.openapi_tables.specs.Kind.{by};
 ghost use Rattle.openapi_tables.specs.Kind as kinds;
-ghost use Rattle.openapi_tables.specs.Tables.{final_tables};
-ghost use Rattle.openapi_fields.specs.Returned.{RowsReadAs, RisesBy};
+ghost use Rattle.openapi_fields.specs.Reading.{IsCaseRead};
 ghost use Rattle.openapi_parameters.specs.Parameters.{parameter_rows, parameter_word};
 
 use crate::parameter::Parameter;
@@ -53,10 +50,8 @@ impl Object for CookieTable {
 
 /// Reads a parameter in a query.
 pub(crate) fn read_query(alloc: Global, members: &Members, steps: &mut Steps) -> Result<Parameter>
-    ensures reads { RowsReadAs parameter_rows result (by kinds.query_parameter) (members_of members.now) }
-    ensures word { IfOk result (λ x. parameter_word x ≡ codes "query") }
-    ensures count { RisesBy steps.old steps.new
-        (3 * rows_weight (final_tables kinds.query_parameter) (members_of members.now)) }
+    ensures { IsCaseRead parameter_word parameter_rows result (codes "query") kinds.query_parameter (members_of members.now)
+        steps.old steps.new }
 {
     let allow_reserved = or_implied::<QueryTable, _>(alloc, members, "allowReserved", steps)?;
     let style = or_implied::<QueryTable, _>(alloc, members, "style", steps)?;
@@ -71,10 +66,8 @@ pub(crate) fn read_query(alloc: Global, members: &Members, steps: &mut Steps) ->
 
 /// Reads a parameter in a header.
 pub(crate) fn read_header(alloc: Global, members: &Members, steps: &mut Steps) -> Result<Parameter>
-    ensures reads { RowsReadAs parameter_rows result (by kinds.header_parameter) (members_of members.now) }
-    ensures word { IfOk result (λ x. parameter_word x ≡ codes "header") }
-    ensures count { RisesBy steps.old steps.new
-        (3 * rows_weight (final_tables kinds.header_parameter) (members_of members.now)) }
+    ensures { IsCaseRead parameter_word parameter_rows result (codes "header") kinds.header_parameter (members_of members.now)
+        steps.old steps.new }
 {
     let style = or_implied::<HeaderTable, _>(alloc, members, "style", steps)?;
     Ok(Parameter::Header {
@@ -85,10 +78,8 @@ pub(crate) fn read_header(alloc: Global, members: &Members, steps: &mut Steps) -
 
 /// Reads a parameter in a path.
 pub(crate) fn read_path(alloc: Global, members: &Members, steps: &mut Steps) -> Result<Parameter>
-    ensures reads { RowsReadAs parameter_rows result (by kinds.path_parameter) (members_of members.now) }
-    ensures word { IfOk result (λ x. parameter_word x ≡ codes "path") }
-    ensures count { RisesBy steps.old steps.new
-        (3 * rows_weight (final_tables kinds.path_parameter) (members_of members.now)) }
+    ensures { IsCaseRead parameter_word parameter_rows result (codes "path") kinds.path_parameter (members_of members.now)
+        steps.old steps.new }
 {
     let style = or_implied::<PathTable, _>(alloc, members, "style", steps)?;
     Ok(Parameter::Path {
@@ -99,10 +90,8 @@ pub(crate) fn read_path(alloc: Global, members: &Members, steps: &mut Steps) -> 
 
 /// Reads a parameter in a cookie.
 pub(crate) fn read_cookie(alloc: Global, members: &Members, steps: &mut Steps) -> Result<Parameter>
-    ensures reads { RowsReadAs parameter_rows result (by kinds.cookie_parameter) (members_of members.now) }
-    ensures word { IfOk result (λ x. parameter_word x ≡ codes "cookie") }
-    ensures count { RisesBy steps.old steps.new
-        (3 * rows_weight (final_tables kinds.cookie_parameter) (members_of members.now)) }
+    ensures { IsCaseRead parameter_word parameter_rows result (codes "cookie") kinds.cookie_parameter (members_of members.now)
+        steps.old steps.new }
 {
     let style = or_implied::<CookieTable, _>(alloc, members, "style", steps)?;
     Ok(Parameter::Cookie {

@@ -9,8 +9,7 @@ ghost use Rattle.openapi_fields.proofs.Spared.{request_body_spares};
 ghost use Rattle.openapi_responses.specs.Messages.{request_body_rows};
 
 use openapi_fields::{
-    FromNode, Object, Record, Referable, ToNode, extensions, optional, or_implied, put_extensions,
-    put_implied, put_optional,
+    FromNode, Object, Record, Referable, ToNode, extensions, optional, or_implied, write_rows,
 };
 use openapi_media_types::Content;
 use openapi_node::{Members, Node, OrderedMap, Result, Steps};
@@ -66,10 +65,12 @@ impl Record for RequestBody {
     }
 
     fn put_rows(&self, alloc: Global, out: &mut Members) -> Result<()> {
-        put_optional(alloc, self, out, "description", &self.description)?;
-        put_implied(alloc, self, out, "content", &self.content)?;
-        put_implied(alloc, self, out, "required", &self.required)?;
-        put_extensions(alloc, self, out, &self.extensions)
+        write_rows!(alloc, self, out => {
+            description: put_optional("description"),
+            content: put_implied("content"),
+            required: put_implied("required"),
+            ..extensions
+        })
     }
 }
 

@@ -8,10 +8,7 @@ ghost use Rattle.openapi_fields.specs.Returned.{ReadAs, Refuses, WrittenAs};
 ghost use Rattle.openapi_fields.proofs.Spared.{response_spares};
 ghost use Rattle.openapi_responses.specs.Messages.{response_rows};
 
-use openapi_fields::{
-    FromNode, Object, Record, Referable, ToNode, extensions, or_implied, put_extensions,
-    put_implied, put_required, required,
-};
+use openapi_fields::{FromNode, Object, Record, Referable, ToNode, read_rows, write_rows};
 use openapi_media_types::{Content, Header};
 use openapi_metadata::Link;
 use openapi_node::{Members, Node, OrderedMap, Result, Steps};
@@ -62,21 +59,23 @@ impl Object for Response {
 #[tactic(auto, unfolding(openapi_tables::specs::Tables::final_tables, openapi_tables::specs::Tables::tables_with))]
 impl Record for Response {
     fn from_members(alloc: Global, members: &Members, steps: &mut Steps) -> Result<Self> {
-        Ok(Response {
-            description: required::<Self, _>(alloc, members, "description", steps)?,
-            headers: or_implied::<Self, _>(alloc, members, "headers", steps)?,
-            content: or_implied::<Self, _>(alloc, members, "content", steps)?,
-            links: or_implied::<Self, _>(alloc, members, "links", steps)?,
-            extensions: extensions::<Self>(alloc, members, steps)?,
+        read_rows!(alloc, members, steps, Self => Response {
+            description: required("description"),
+            headers: or_implied("headers"),
+            content: or_implied("content"),
+            links: or_implied("links"),
+            ..extensions
         })
     }
 
     fn put_rows(&self, alloc: Global, out: &mut Members) -> Result<()> {
-        put_required(alloc, self, out, "description", &self.description)?;
-        put_implied(alloc, self, out, "headers", &self.headers)?;
-        put_implied(alloc, self, out, "content", &self.content)?;
-        put_implied(alloc, self, out, "links", &self.links)?;
-        put_extensions(alloc, self, out, &self.extensions)
+        write_rows!(alloc, self, out => {
+            description: put_required("description"),
+            headers: put_implied("headers"),
+            content: put_implied("content"),
+            links: put_implied("links"),
+            ..extensions
+        })
     }
 }
 

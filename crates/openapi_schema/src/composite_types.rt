@@ -5,7 +5,7 @@ ghost use Rattle.openapi_schema.specs.Fields.{array_fields, object_fields};
 
 use crate::schema::{AdditionalProperties, Schema};
 use crate::write::{array_rows, object_rows};
-use openapi_fields::{Object, Record, optional, or_implied};
+use openapi_fields::{Object, Record, read_rows};
 use openapi_node::{Members, Node, OrderedMap, Result, Steps};
 use openapi_values::ReferenceOr;
 use std::alloc::Global;
@@ -70,17 +70,12 @@ impl Object for ObjectType {
 #[tactic(auto, unfolding(openapi_tables::specs::Tables::final_tables, openapi_tables::specs::Tables::tables_with, openapi_tables::specs::Tables::object_rows))]
 impl Record for ObjectType {
     fn from_members(alloc: Global, members: &Members, steps: &mut Steps) -> Result<Self> {
-        Ok(ObjectType {
-            properties: or_implied::<Self, _>(alloc, members, "properties", steps)?,
-            required: or_implied::<Self, _>(alloc, members, "required", steps)?,
-            additional_properties: optional::<Self, _>(
-                alloc,
-                members,
-                "additionalProperties",
-                steps,
-            )?,
-            min_properties: optional::<Self, _>(alloc, members, "minProperties", steps)?,
-            max_properties: optional::<Self, _>(alloc, members, "maxProperties", steps)?,
+        read_rows!(alloc, members, steps, Self => ObjectType {
+            properties: or_implied("properties"),
+            required: or_implied("required"),
+            additional_properties: optional("additionalProperties"),
+            min_properties: optional("minProperties"),
+            max_properties: optional("maxProperties"),
         })
     }
 
@@ -99,11 +94,11 @@ impl Object for ArrayType {
 #[tactic(auto, unfolding(openapi_tables::specs::Tables::final_tables, openapi_tables::specs::Tables::tables_with, openapi_tables::specs::Tables::array_rows))]
 impl Record for ArrayType {
     fn from_members(alloc: Global, members: &Members, steps: &mut Steps) -> Result<Self> {
-        Ok(ArrayType {
-            items: optional::<Self, _>(alloc, members, "items", steps)?,
-            min_items: optional::<Self, _>(alloc, members, "minItems", steps)?,
-            max_items: optional::<Self, _>(alloc, members, "maxItems", steps)?,
-            unique_items: or_implied::<Self, _>(alloc, members, "uniqueItems", steps)?,
+        read_rows!(alloc, members, steps, Self => ArrayType {
+            items: optional("items"),
+            min_items: optional("minItems"),
+            max_items: optional("maxItems"),
+            unique_items: or_implied("uniqueItems"),
         })
     }
 

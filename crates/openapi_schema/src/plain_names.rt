@@ -8,7 +8,7 @@ ghost use Rattle.openapi_schema.specs.PlainNames.{plain_first, plain_first_rows,
 ghost use Rattle.openapi_fields.specs.Reading.{PartReadAs};
 
 use crate::kind_names::KindNames;
-use openapi_fields::optional;
+use openapi_fields::read_rows;
 use openapi_node::{Members, Node, Result, Steps, Whole};
 use std::alloc::Global;
 
@@ -48,16 +48,16 @@ pub(crate) fn read_plain_first(
     ensures reads { PartReadAs plain_first_rows result kinds.a_schema_kind plain_first (members_of members.now) }
     ensures count { RisesBy steps.old steps.new (3 * rows_weight plain_first (members_of members.now)) }
 {
-    Ok(PlainFirst {
-        multiple_of: optional::<KindNames, _>(alloc, members, "multipleOf", steps)?,
-        exclusive_minimum: optional::<KindNames, _>(alloc, members, "exclusiveMinimum", steps)?,
-        exclusive_maximum: optional::<KindNames, _>(alloc, members, "exclusiveMaximum", steps)?,
-        minimum: optional::<KindNames, _>(alloc, members, "minimum", steps)?,
-        maximum: optional::<KindNames, _>(alloc, members, "maximum", steps)?,
-        min_properties: optional::<KindNames, _>(alloc, members, "minProperties", steps)?,
-        max_properties: optional::<KindNames, _>(alloc, members, "maxProperties", steps)?,
-        typ: optional::<KindNames, _>(alloc, members, "type", steps)?,
-        pattern: optional::<KindNames, _>(alloc, members, "pattern", steps)?,
+    read_rows!(alloc, members, steps, KindNames => PlainFirst {
+        multiple_of: optional("multipleOf"),
+        exclusive_minimum: optional("exclusiveMinimum"),
+        exclusive_maximum: optional("exclusiveMaximum"),
+        minimum: optional("minimum"),
+        maximum: optional("maximum"),
+        min_properties: optional("minProperties"),
+        max_properties: optional("maxProperties"),
+        typ: optional("type"),
+        pattern: optional("pattern"),
     })
 }
 
@@ -72,12 +72,12 @@ pub(crate) fn read_plain_last(
     ensures reads { PartReadAs plain_last_rows result kinds.a_schema_kind plain_last (members_of members.now) }
     ensures count { RisesBy steps.old steps.new (3 * rows_weight plain_last (members_of members.now)) }
 {
-    Ok(PlainLast {
-        min_items: optional::<KindNames, _>(alloc, members, "minItems", steps)?,
-        max_items: optional::<KindNames, _>(alloc, members, "maxItems", steps)?,
-        unique_items: optional::<KindNames, _>(alloc, members, "uniqueItems", steps)?,
-        min_length: optional::<KindNames, _>(alloc, members, "minLength", steps)?,
-        max_length: optional::<KindNames, _>(alloc, members, "maxLength", steps)?,
-        format: optional::<KindNames, _>(alloc, members, "format", steps)?,
+    read_rows!(alloc, members, steps, KindNames => PlainLast {
+        min_items: optional("minItems"),
+        max_items: optional("maxItems"),
+        unique_items: optional("uniqueItems"),
+        min_length: optional("minLength"),
+        max_length: optional("maxLength"),
+        format: optional("format"),
     })
 }

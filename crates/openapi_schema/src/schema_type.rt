@@ -1,11 +1,9 @@
 //! The type of a schema by itself, told by its `type`.
 ghost use Rattle.std.proofs.Common.{refl};
-ghost use Rattle.std.specs.Prelude.{◌≡◌, ◌+◌, ◌≤◌, ◌*◌, IfOk};
+ghost use Rattle.std.specs.Prelude.{◌+◌, ◌≤◌, ◌*◌};
 ghost use Rattle.openapi_node.specs.Tree.{members_of};
-ghost use Rattle.openapi_tables.specs.ByRow.{rows_weight};
-ghost use Rattle.openapi_tables.specs.Kind.{by};
-ghost use Rattle.openapi_tables.specs.Tables.{final_tables, schema_type};
-ghost use Rattle.openapi_fields.specs.Returned.{RowsReadAs, RisesBy};
+ghost use Rattle.openapi_tables.specs.Tables.{schema_type};
+ghost use Rattle.openapi_fields.specs.Reading.{IsCaseRead};
 ghost use Rattle.openapi_schema_types.specs.TypeNames.{type_name_word};
 ghost use Rattle.openapi_schema.specs.TypeForms.{table_of};
 ghost use Rattle.openapi_schema.specs.TypeForms.{schema_type_fields, schema_type_form, schema_type_word};
@@ -27,36 +25,26 @@ fn of_type(
     members: &Members,
     steps: &mut Steps,
 ) -> Result<SchemaType>
-    ensures reads { RowsReadAs schema_type_fields result (by (table_of name)) (members_of members.now) }
-    ensures word { IfOk result (λ x. schema_type_word x ≡ type_name_word name) }
-    ensures count { RisesBy steps.old steps.new
-        (3 * rows_weight (final_tables (table_of name)) (members_of members.now)) }
+    ensures { IsCaseRead schema_type_word schema_type_fields result (type_name_word name) (table_of name)
+        (members_of members.now) steps.old steps.new }
 {
     match name {
-        TypeName::String => match StringType::from_members(alloc, members, steps) {
-            Ok(typ) => Ok(SchemaType::String(typ)),
-            Err(fault) => Err(fault),
-        },
-        TypeName::Number => match NumberType::from_members(alloc, members, steps) {
-            Ok(typ) => Ok(SchemaType::Number(typ)),
-            Err(fault) => Err(fault),
-        },
-        TypeName::Integer => match IntegerType::from_members(alloc, members, steps) {
-            Ok(typ) => Ok(SchemaType::Integer(typ)),
-            Err(fault) => Err(fault),
-        },
-        TypeName::Object => match ObjectType::from_members(alloc, members, steps) {
-            Ok(typ) => Ok(SchemaType::Object(typ)),
-            Err(fault) => Err(fault),
-        },
-        TypeName::Array => match ArrayType::from_members(alloc, members, steps) {
-            Ok(typ) => Ok(SchemaType::Array(typ)),
-            Err(fault) => Err(fault),
-        },
-        TypeName::Boolean => match BooleanType::from_members(alloc, members, steps) {
-            Ok(typ) => Ok(SchemaType::Boolean(typ)),
-            Err(fault) => Err(fault),
-        },
+        TypeName::String => Ok(SchemaType::String(StringType::from_members(
+            alloc, members, steps,
+        )?)),
+        TypeName::Number => Ok(SchemaType::Number(NumberType::from_members(
+            alloc, members, steps,
+        )?)),
+        TypeName::Integer => Ok(SchemaType::Integer(IntegerType::from_members(
+            alloc, members, steps,
+        )?)),
+        TypeName::Object => Ok(SchemaType::Object(ObjectType::from_members(
+            alloc, members, steps,
+        )?)),
+        TypeName::Array => Ok(SchemaType::Array(ArrayType::from_members(alloc, members, steps)?)),
+        TypeName::Boolean => Ok(SchemaType::Boolean(BooleanType::from_members(
+            alloc, members, steps,
+        )?)),
     }
 }
 

@@ -19,7 +19,7 @@ use crate::members::whole_schema;
 use crate::schema::{AdditionalProperties, Schema, SchemaKind, SchemaType};
 use openapi_fields::{
     as_some, only_row, push, put_implied, put_optional, put_row, put_written, record_rows,
-    write_reference,
+    write_reference, write_rows,
 };
 use openapi_node::{Fault, Members, Node, OrderedMap, Result};
 use openapi_values::ReferenceOr;
@@ -114,8 +114,10 @@ pub(crate) fn object_rows(alloc: Global, typ: &ObjectType) -> Result<Members>
         "additionalProperties",
         write_additional(alloc, &typ.additional_properties),
     )?;
-    put_optional(alloc, typ, &mut out, "minProperties", &typ.min_properties)?;
-    put_optional(alloc, typ, &mut out, "maxProperties", &typ.max_properties)?;
+    write_rows!(alloc, typ, &mut out => {
+        min_properties: put_optional("minProperties"),
+        max_properties: put_optional("maxProperties"),
+    });
     Ok(out)
 }
 
@@ -133,9 +135,11 @@ pub(crate) fn array_rows(alloc: Global, typ: &ArrayType) -> Result<Members>
         "items",
         write_items(alloc, &typ.items),
     )?;
-    put_optional(alloc, typ, &mut out, "minItems", &typ.min_items)?;
-    put_optional(alloc, typ, &mut out, "maxItems", &typ.max_items)?;
-    put_implied(alloc, typ, &mut out, "uniqueItems", &typ.unique_items)?;
+    write_rows!(alloc, typ, &mut out => {
+        min_items: put_optional("minItems"),
+        max_items: put_optional("maxItems"),
+        unique_items: put_implied("uniqueItems"),
+    });
     Ok(out)
 }
 
@@ -159,13 +163,15 @@ fn put_first(alloc: Global, any: &AnySchema, out: &mut Members) -> Result<()>
         out.new) }
     ensures err { IfErr result (λ f. NotWritable f (slots_lost final_tables (any_slots any.now))) }
 {
-    put_optional(alloc, any, out, "type", &any.typ)?;
-    put_optional(alloc, any, out, "pattern", &any.pattern)?;
-    put_optional(alloc, any, out, "multipleOf", &any.multiple_of)?;
-    put_optional(alloc, any, out, "exclusiveMinimum", &any.exclusive_minimum)?;
-    put_optional(alloc, any, out, "exclusiveMaximum", &any.exclusive_maximum)?;
-    put_optional(alloc, any, out, "minimum", &any.minimum)?;
-    put_optional(alloc, any, out, "maximum", &any.maximum)?;
+    write_rows!(alloc, any, out => {
+        typ: put_optional("type"),
+        pattern: put_optional("pattern"),
+        multiple_of: put_optional("multipleOf"),
+        exclusive_minimum: put_optional("exclusiveMinimum"),
+        exclusive_maximum: put_optional("exclusiveMaximum"),
+        minimum: put_optional("minimum"),
+        maximum: put_optional("maximum"),
+    });
     put_row(
         alloc,
         any,
@@ -194,13 +200,15 @@ fn put_last(alloc: Global, any: &AnySchema, out: &mut Members) -> Result<()>
     ensures err { IfErr result (λ f. NotWritable f (slots_lost final_tables (any_slots any.now))) }
 {
     put_row(alloc, any, out, "items", write_items(alloc, &any.items))?;
-    put_optional(alloc, any, out, "minItems", &any.min_items)?;
-    put_optional(alloc, any, out, "maxItems", &any.max_items)?;
-    put_optional(alloc, any, out, "uniqueItems", &any.unique_items)?;
-    put_implied(alloc, any, out, "enum", &any.enumeration)?;
-    put_optional(alloc, any, out, "format", &any.format)?;
-    put_optional(alloc, any, out, "minLength", &any.min_length)?;
-    put_optional(alloc, any, out, "maxLength", &any.max_length)?;
+    write_rows!(alloc, any, out => {
+        min_items: put_optional("minItems"),
+        max_items: put_optional("maxItems"),
+        unique_items: put_optional("uniqueItems"),
+        enumeration: put_implied("enum"),
+        format: put_optional("format"),
+        min_length: put_optional("minLength"),
+        max_length: put_optional("maxLength"),
+    });
     put_row(alloc, any, out, "oneOf", write_listed(alloc, &any.one_of))?;
     put_row(alloc, any, out, "allOf", write_listed(alloc, &any.all_of))?;
     put_row(alloc, any, out, "anyOf", write_listed(alloc, &any.any_of))?;

@@ -3,9 +3,7 @@ ghost use Rattle.std.specs.Prelude.{◌≡◌, [], string_bytes};
 ghost use Rattle.openapi_tables.specs.Kind.{discriminator};
 ghost use Rattle.openapi_schema_annotations.specs.Objects.{discriminator_rows};
 
-use openapi_fields::{
-    Object, Record, extensions, or_implied, put_extensions, put_implied, put_required, required,
-};
+use openapi_fields::{Object, Record, read_rows, write_rows};
 use openapi_node::{Members, Node, OrderedMap, Result, Steps};
 use std::alloc::Global;
 
@@ -43,16 +41,18 @@ impl Object for Discriminator {
 
 impl Record for Discriminator {
     fn from_members(alloc: Global, members: &Members, steps: &mut Steps) -> Result<Self> {
-        Ok(Discriminator {
-            property_name: required::<Self, _>(alloc, members, "propertyName", steps)?,
-            mapping: or_implied::<Self, _>(alloc, members, "mapping", steps)?,
-            extensions: extensions::<Self>(alloc, members, steps)?,
+        read_rows!(alloc, members, steps, Self => Discriminator {
+            property_name: required("propertyName"),
+            mapping: or_implied("mapping"),
+            ..extensions
         })
     }
 
     fn put_rows(&self, alloc: Global, out: &mut Members) -> Result<()> {
-        put_required(alloc, self, out, "propertyName", &self.property_name)?;
-        put_implied(alloc, self, out, "mapping", &self.mapping)?;
-        put_extensions(alloc, self, out, &self.extensions)
+        write_rows!(alloc, self, out => {
+            property_name: put_required("propertyName"),
+            mapping: put_implied("mapping"),
+            ..extensions
+        })
     }
 }

@@ -3,9 +3,7 @@ ghost use Rattle.std.specs.Prelude.{◌≡◌, [], None, string_bytes};
 ghost use Rattle.openapi_tables.specs.Kind.{external_documentation};
 ghost use Rattle.openapi_schema_annotations.specs.Objects.{external_documentation_rows};
 
-use openapi_fields::{
-    Object, Record, extensions, optional, put_extensions, put_optional, put_required, required,
-};
+use openapi_fields::{Object, Record, read_rows, write_rows};
 use openapi_node::{Members, Node, OrderedMap, Result, Steps};
 use std::alloc::Global;
 
@@ -44,16 +42,18 @@ impl Object for ExternalDocumentation {
 
 impl Record for ExternalDocumentation {
     fn from_members(alloc: Global, members: &Members, steps: &mut Steps) -> Result<Self> {
-        Ok(ExternalDocumentation {
-            description: optional::<Self, _>(alloc, members, "description", steps)?,
-            url: required::<Self, _>(alloc, members, "url", steps)?,
-            extensions: extensions::<Self>(alloc, members, steps)?,
+        read_rows!(alloc, members, steps, Self => ExternalDocumentation {
+            description: optional("description"),
+            url: required("url"),
+            ..extensions
         })
     }
 
     fn put_rows(&self, alloc: Global, out: &mut Members) -> Result<()> {
-        put_optional(alloc, self, out, "description", &self.description)?;
-        put_required(alloc, self, out, "url", &self.url)?;
-        put_extensions(alloc, self, out, &self.extensions)
+        write_rows!(alloc, self, out => {
+            description: put_optional("description"),
+            url: put_required("url"),
+            ..extensions
+        })
     }
 }

@@ -3,9 +3,7 @@ ghost use Rattle.std.specs.Prelude.{◌≡◌, false, [], None};
 ghost use Rattle.openapi_tables.specs.Kind.{xml_object};
 ghost use Rattle.openapi_schema_annotations.specs.Objects.{xml_rows};
 
-use openapi_fields::{
-    Object, Record, extensions, optional, or_implied, put_extensions, put_implied, put_optional,
-};
+use openapi_fields::{Object, Record, read_rows, write_rows};
 use openapi_node::{Members, Node, OrderedMap, Result, Steps};
 use std::alloc::Global;
 
@@ -56,22 +54,24 @@ impl Object for Xml {
 
 impl Record for Xml {
     fn from_members(alloc: Global, members: &Members, steps: &mut Steps) -> Result<Self> {
-        Ok(Xml {
-            name: optional::<Self, _>(alloc, members, "name", steps)?,
-            namespace: optional::<Self, _>(alloc, members, "namespace", steps)?,
-            prefix: optional::<Self, _>(alloc, members, "prefix", steps)?,
-            attribute: or_implied::<Self, _>(alloc, members, "attribute", steps)?,
-            wrapped: or_implied::<Self, _>(alloc, members, "wrapped", steps)?,
-            extensions: extensions::<Self>(alloc, members, steps)?,
+        read_rows!(alloc, members, steps, Self => Xml {
+            name: optional("name"),
+            namespace: optional("namespace"),
+            prefix: optional("prefix"),
+            attribute: or_implied("attribute"),
+            wrapped: or_implied("wrapped"),
+            ..extensions
         })
     }
 
     fn put_rows(&self, alloc: Global, out: &mut Members) -> Result<()> {
-        put_optional(alloc, self, out, "name", &self.name)?;
-        put_optional(alloc, self, out, "namespace", &self.namespace)?;
-        put_optional(alloc, self, out, "prefix", &self.prefix)?;
-        put_implied(alloc, self, out, "attribute", &self.attribute)?;
-        put_implied(alloc, self, out, "wrapped", &self.wrapped)?;
-        put_extensions(alloc, self, out, &self.extensions)
+        write_rows!(alloc, self, out => {
+            name: put_optional("name"),
+            namespace: put_optional("namespace"),
+            prefix: put_optional("prefix"),
+            attribute: put_implied("attribute"),
+            wrapped: put_implied("wrapped"),
+            ..extensions
+        })
     }
 }

@@ -3,7 +3,7 @@ ghost use Rattle.std.specs.Prelude.{◌≡◌, []};
 ghost use Rattle.openapi_tables.specs.Kind.{boolean_type};
 ghost use Rattle.openapi_schema_types.specs.PartForms.{boolean_type_rows};
 
-use openapi_fields::{Object, Record, or_implied, put_implied};
+use openapi_fields::{Object, Record, put_implied, read_rows};
 use openapi_node::{Members, Node, Result, Steps};
 use std::alloc::Global;
 
@@ -34,8 +34,8 @@ impl Object for BooleanType {
 #[tactic(auto, unfolding(openapi_tables::specs::Tables::final_tables, openapi_tables::specs::Tables::tables_with, openapi_tables::specs::Tables::boolean_rows))]
 impl Record for BooleanType {
     fn from_members(alloc: Global, members: &Members, steps: &mut Steps) -> Result<Self> {
-        Ok(BooleanType {
-            enumeration: or_implied::<Self, _>(alloc, members, "enum", steps)?,
+        read_rows!(alloc, members, steps, Self => BooleanType {
+            enumeration: or_implied("enum"),
         })
     }
 

@@ -4,7 +4,7 @@ ghost use Rattle.openapi_tables.specs.Kind.{integer_type};
 ghost use Rattle.openapi_values.specs.declared.variant_or.VariantOrUnknownOrEmpty.TheVariants.{Empty};
 ghost use Rattle.openapi_schema_types.specs.PartForms.{integer_type_rows};
 
-use openapi_fields::{Object, Record, optional, or_implied, put_implied, put_optional};
+use openapi_fields::{Object, Record, put_implied, read_rows, write_rows};
 use openapi_node::{Members, Node, Result, Steps};
 use openapi_values::{IntegerFormat, VariantOrUnknownOrEmpty};
 use std::alloc::Global;
@@ -60,36 +60,26 @@ impl Object for IntegerType {
 #[tactic(auto, unfolding(openapi_tables::specs::Tables::final_tables, openapi_tables::specs::Tables::tables_with))]
 impl Record for IntegerType {
     fn from_members(alloc: Global, members: &Members, steps: &mut Steps) -> Result<Self> {
-        Ok(IntegerType {
-            format: or_implied::<Self, _>(alloc, members, "format", steps)?,
-            multiple_of: optional::<Self, _>(alloc, members, "multipleOf", steps)?,
-            exclusive_minimum: or_implied::<Self, _>(alloc, members, "exclusiveMinimum", steps)?,
-            exclusive_maximum: or_implied::<Self, _>(alloc, members, "exclusiveMaximum", steps)?,
-            minimum: optional::<Self, _>(alloc, members, "minimum", steps)?,
-            maximum: optional::<Self, _>(alloc, members, "maximum", steps)?,
-            enumeration: or_implied::<Self, _>(alloc, members, "enum", steps)?,
+        read_rows!(alloc, members, steps, Self => IntegerType {
+            format: or_implied("format"),
+            multiple_of: optional("multipleOf"),
+            exclusive_minimum: or_implied("exclusiveMinimum"),
+            exclusive_maximum: or_implied("exclusiveMaximum"),
+            minimum: optional("minimum"),
+            maximum: optional("maximum"),
+            enumeration: or_implied("enum"),
         })
     }
 
     fn put_rows(&self, alloc: Global, out: &mut Members) -> Result<()> {
-        put_implied(alloc, self, out, "format", &self.format)?;
-        put_optional(alloc, self, out, "multipleOf", &self.multiple_of)?;
-        put_implied(
-            alloc,
-            self,
-            out,
-            "exclusiveMinimum",
-            &self.exclusive_minimum,
-        )?;
-        put_implied(
-            alloc,
-            self,
-            out,
-            "exclusiveMaximum",
-            &self.exclusive_maximum,
-        )?;
-        put_optional(alloc, self, out, "minimum", &self.minimum)?;
-        put_optional(alloc, self, out, "maximum", &self.maximum)?;
+        write_rows!(alloc, self, out => {
+            format: put_implied("format"),
+            multiple_of: put_optional("multipleOf"),
+            exclusive_minimum: put_implied("exclusiveMinimum"),
+            exclusive_maximum: put_implied("exclusiveMaximum"),
+            minimum: put_optional("minimum"),
+            maximum: put_optional("maximum"),
+        });
         put_implied(alloc, self, out, "enum", &self.enumeration)
     }
 }

@@ -3,10 +3,7 @@ ghost use Rattle.std.specs.Prelude.{◌≡◌, false, [], None};
 ghost use Rattle.openapi_tables.specs.Kind.{schema_data};
 ghost use Rattle.openapi_schema_types.specs.PartForms.{schema_data_rows};
 
-use openapi_fields::{
-    Object, Record, extensions, join, optional, or_implied, put_extensions, put_implied,
-    put_optional,
-};
+use openapi_fields::{Object, Record, extensions, join, optional, or_implied, write_rows};
 use openapi_node::{Members, Node, OrderedMap, Result, Steps};
 use openapi_schema_annotations::{Discriminator, ExternalDocumentation, Xml};
 use std::alloc::Global;
@@ -119,17 +116,19 @@ impl Record for SchemaData {
     }
 
     fn put_rows(&self, alloc: Global, out: &mut Members) -> Result<()> {
-        put_implied(alloc, self, out, "nullable", &self.nullable)?;
-        put_implied(alloc, self, out, "readOnly", &self.read_only)?;
-        put_implied(alloc, self, out, "writeOnly", &self.write_only)?;
-        put_implied(alloc, self, out, "deprecated", &self.deprecated)?;
-        put_optional(alloc, self, out, "externalDocs", &self.external_docs)?;
-        put_optional(alloc, self, out, "example", &self.example)?;
-        put_optional(alloc, self, out, "title", &self.title)?;
-        put_optional(alloc, self, out, "description", &self.description)?;
-        put_optional(alloc, self, out, "discriminator", &self.discriminator)?;
-        put_optional(alloc, self, out, "default", &self.default)?;
-        put_optional(alloc, self, out, "xml", &self.xml)?;
-        put_extensions(alloc, self, out, &self.extensions)
+        write_rows!(alloc, self, out => {
+            nullable: put_implied("nullable"),
+            read_only: put_implied("readOnly"),
+            write_only: put_implied("writeOnly"),
+            deprecated: put_implied("deprecated"),
+            external_docs: put_optional("externalDocs"),
+            example: put_optional("example"),
+            title: put_optional("title"),
+            description: put_optional("description"),
+            discriminator: put_optional("discriminator"),
+            default: put_optional("default"),
+            xml: put_optional("xml"),
+            ..extensions
+        })
     }
 }

@@ -4,7 +4,7 @@ ghost use Rattle.openapi_tables.specs.Kind.{string_type};
 ghost use Rattle.openapi_values.specs.declared.variant_or.VariantOrUnknownOrEmpty.TheVariants.{Empty};
 ghost use Rattle.openapi_schema_types.specs.PartForms.{string_type_rows};
 
-use openapi_fields::{Object, Record, optional, or_implied, put_implied, put_optional};
+use openapi_fields::{Object, Record, put_optional, read_rows, write_rows};
 use openapi_node::{Members, Node, Result, Steps};
 use openapi_values::{StringFormat, VariantOrUnknownOrEmpty};
 use std::alloc::Global;
@@ -52,20 +52,22 @@ impl Object for StringType {
 #[tactic(auto, unfolding(openapi_tables::specs::Tables::final_tables, openapi_tables::specs::Tables::tables_with, openapi_tables::specs::Tables::string_rows))]
 impl Record for StringType {
     fn from_members(alloc: Global, members: &Members, steps: &mut Steps) -> Result<Self> {
-        Ok(StringType {
-            format: or_implied::<Self, _>(alloc, members, "format", steps)?,
-            pattern: optional::<Self, _>(alloc, members, "pattern", steps)?,
-            enumeration: or_implied::<Self, _>(alloc, members, "enum", steps)?,
-            min_length: optional::<Self, _>(alloc, members, "minLength", steps)?,
-            max_length: optional::<Self, _>(alloc, members, "maxLength", steps)?,
+        read_rows!(alloc, members, steps, Self => StringType {
+            format: or_implied("format"),
+            pattern: optional("pattern"),
+            enumeration: or_implied("enum"),
+            min_length: optional("minLength"),
+            max_length: optional("maxLength"),
         })
     }
 
     fn put_rows(&self, alloc: Global, out: &mut Members) -> Result<()> {
-        put_implied(alloc, self, out, "format", &self.format)?;
-        put_optional(alloc, self, out, "pattern", &self.pattern)?;
-        put_implied(alloc, self, out, "enum", &self.enumeration)?;
-        put_optional(alloc, self, out, "minLength", &self.min_length)?;
+        write_rows!(alloc, self, out => {
+            format: put_implied("format"),
+            pattern: put_optional("pattern"),
+            enumeration: put_implied("enum"),
+            min_length: put_optional("minLength"),
+        });
         put_optional(alloc, self, out, "maxLength", &self.max_length)
     }
 }

@@ -2,9 +2,7 @@
 ghost use Rattle.openapi_tables.specs.Kind.{authorization_code_flow};
 ghost use Rattle.openapi_security.specs.Flows.{authorization_code_flow_rows};
 
-use openapi_fields::{
-    Object, Record, extensions, optional, put_extensions, put_optional, put_required, required,
-};
+use openapi_fields::{Object, Record, read_rows, write_rows};
 use openapi_node::{Members, Node, OrderedMap, Result, Steps};
 use std::alloc::Global;
 
@@ -31,26 +29,22 @@ impl Object for AuthorizationCodeOAuth2Flow {
 
 impl Record for AuthorizationCodeOAuth2Flow {
     fn from_members(alloc: Global, members: &Members, steps: &mut Steps) -> Result<Self> {
-        Ok(AuthorizationCodeOAuth2Flow {
-            authorization_url: required::<Self, _>(alloc, members, "authorizationUrl", steps)?,
-            token_url: required::<Self, _>(alloc, members, "tokenUrl", steps)?,
-            refresh_url: optional::<Self, _>(alloc, members, "refreshUrl", steps)?,
-            scopes: required::<Self, _>(alloc, members, "scopes", steps)?,
-            extensions: extensions::<Self>(alloc, members, steps)?,
+        read_rows!(alloc, members, steps, Self => AuthorizationCodeOAuth2Flow {
+            authorization_url: required("authorizationUrl"),
+            token_url: required("tokenUrl"),
+            refresh_url: optional("refreshUrl"),
+            scopes: required("scopes"),
+            ..extensions
         })
     }
 
     fn put_rows(&self, alloc: Global, out: &mut Members) -> Result<()> {
-        put_required(
-            alloc,
-            self,
-            out,
-            "authorizationUrl",
-            &self.authorization_url,
-        )?;
-        put_required(alloc, self, out, "tokenUrl", &self.token_url)?;
-        put_optional(alloc, self, out, "refreshUrl", &self.refresh_url)?;
-        put_required(alloc, self, out, "scopes", &self.scopes)?;
-        put_extensions(alloc, self, out, &self.extensions)
+        write_rows!(alloc, self, out => {
+            authorization_url: put_required("authorizationUrl"),
+            token_url: put_required("tokenUrl"),
+            refresh_url: put_optional("refreshUrl"),
+            scopes: put_required("scopes"),
+            ..extensions
+        })
     }
 }

@@ -2,9 +2,7 @@
 ghost use Rattle.openapi_tables.specs.Kind.{client_credentials_flow};
 ghost use Rattle.openapi_security.specs.Flows.{client_credentials_flow_rows};
 
-use openapi_fields::{
-    Object, Record, extensions, optional, put_extensions, put_optional, put_required, required,
-};
+use openapi_fields::{Object, Record, read_rows, write_rows};
 use openapi_node::{Members, Node, OrderedMap, Result, Steps};
 use std::alloc::Global;
 
@@ -29,18 +27,20 @@ impl Object for ClientCredentialsOAuth2Flow {
 
 impl Record for ClientCredentialsOAuth2Flow {
     fn from_members(alloc: Global, members: &Members, steps: &mut Steps) -> Result<Self> {
-        Ok(ClientCredentialsOAuth2Flow {
-            refresh_url: optional::<Self, _>(alloc, members, "refreshUrl", steps)?,
-            token_url: required::<Self, _>(alloc, members, "tokenUrl", steps)?,
-            scopes: required::<Self, _>(alloc, members, "scopes", steps)?,
-            extensions: extensions::<Self>(alloc, members, steps)?,
+        read_rows!(alloc, members, steps, Self => ClientCredentialsOAuth2Flow {
+            refresh_url: optional("refreshUrl"),
+            token_url: required("tokenUrl"),
+            scopes: required("scopes"),
+            ..extensions
         })
     }
 
     fn put_rows(&self, alloc: Global, out: &mut Members) -> Result<()> {
-        put_optional(alloc, self, out, "refreshUrl", &self.refresh_url)?;
-        put_required(alloc, self, out, "tokenUrl", &self.token_url)?;
-        put_required(alloc, self, out, "scopes", &self.scopes)?;
-        put_extensions(alloc, self, out, &self.extensions)
+        write_rows!(alloc, self, out => {
+            refresh_url: put_optional("refreshUrl"),
+            token_url: put_required("tokenUrl"),
+            scopes: put_required("scopes"),
+            ..extensions
+        })
     }
 }

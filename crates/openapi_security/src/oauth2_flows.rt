@@ -7,7 +7,7 @@ use crate::authorization_code_flow::AuthorizationCodeOAuth2Flow;
 use crate::client_credentials_flow::ClientCredentialsOAuth2Flow;
 use crate::implicit_flow::ImplicitOAuth2Flow;
 use crate::password_flow::PasswordOAuth2Flow;
-use openapi_fields::{Object, Record, extensions, join, optional, put_extensions, put_optional};
+use openapi_fields::{Object, Record, extensions, join, optional, write_rows};
 use openapi_node::{Members, Node, OrderedMap, Result, Steps};
 use std::alloc::Global;
 
@@ -72,22 +72,12 @@ impl Record for OAuth2Flows {
     }
 
     fn put_rows(&self, alloc: Global, out: &mut Members) -> Result<()> {
-        put_optional(alloc, self, out, "implicit", &self.implicit)?;
-        put_optional(alloc, self, out, "password", &self.password)?;
-        put_optional(
-            alloc,
-            self,
-            out,
-            "clientCredentials",
-            &self.client_credentials,
-        )?;
-        put_optional(
-            alloc,
-            self,
-            out,
-            "authorizationCode",
-            &self.authorization_code,
-        )?;
-        put_extensions(alloc, self, out, &self.extensions)
+        write_rows!(alloc, self, out => {
+            implicit: put_optional("implicit"),
+            password: put_optional("password"),
+            client_credentials: put_optional("clientCredentials"),
+            authorization_code: put_optional("authorizationCode"),
+            ..extensions
+        })
     }
 }

@@ -1,13 +1,13 @@
 //! The Security Scheme Object.
 ghost use Rattle.std.proofs.Common.{refl};
-ghost use Rattle.std.specs.Prelude.{◌≡◌, ◌+◌, ◌≤◌, ◌*◌, [], codes, IfOk, OnOk, IfErr};
+ghost use Rattle.std.specs.Prelude.{◌+◌, ◌≤◌, ◌*◌, [], codes, OnOk, IfErr};
 ghost use Rattle.openapi_node.specs.Tree.{members_of, size_of};
-ghost use Rattle.openapi_tables.specs.ByRow.{rows_weight};
-ghost use Rattle.openapi_tables.specs.Kind.{by, ref_to};
+ghost use Rattle.openapi_tables.specs.Kind.{ref_to};
 ghost use Rattle.openapi_tables.specs.Kind as kinds;
 ghost use Rattle.openapi_tables.specs.Slots.{slots_lost, IsWritten};
 ghost use Rattle.openapi_tables.specs.Tables.{final_tables, security_scheme};
-ghost use Rattle.openapi_fields.specs.Returned.{ReadAs, RowsReadAs, NotWritable, Refuses, RisesBy, WrittenAs};
+ghost use Rattle.openapi_fields.specs.Reading.{IsCaseRead};
+ghost use Rattle.openapi_fields.specs.Returned.{ReadAs, NotWritable, Refuses, WrittenAs};
 ghost use Rattle.openapi_fields.proofs.Spared.{security_scheme_spares};
 ghost use Rattle.openapi_fields.proofs.Tagging.{security_scheme_sound, tagged_apart};
 ghost use Rattle.openapi_values.specs.Reference.{reference_form};
@@ -18,8 +18,7 @@ ghost use Rattle.openapi_security.specs.Schemes.{security_scheme_known};
 
 use crate::oauth2_flows::OAuth2Flows;
 use openapi_fields::{
-    FromNode, HasSlots, Object, Referable, ToNode, extensions, optional, put_extensions,
-    put_optional, put_required, put_tag, required, tag,
+    FromNode, HasSlots, Object, Referable, ToNode, put_tag, read_rows, tag, write_rows,
 };
 use openapi_node::{Cause, Expected, Fault, Members, Node, OrderedMap, Result, Steps, View};
 use openapi_values::{APIKeyLocation, ReferenceOr, Word};
@@ -151,64 +150,51 @@ impl Object for OpenIdConnectTable {
 
 /// Reads a scheme by an API key.
 fn api_key(alloc: Global, members: &Members, steps: &mut Steps) -> Result<SecurityScheme>
-    ensures reads { RowsReadAs security_scheme_rows result (by kinds.api_key_scheme) (members_of members.now) }
-    ensures word { IfOk result (λ x. security_scheme_word x ≡ codes "apiKey") }
-    ensures count { RisesBy steps.old steps.new
-        (3 * rows_weight (final_tables kinds.api_key_scheme) (members_of members.now)) }
+    ensures { IsCaseRead security_scheme_word security_scheme_rows result (codes "apiKey") kinds.api_key_scheme
+        (members_of members.now) steps.old steps.new }
 {
-    Ok(SecurityScheme::APIKey {
-        location: required::<ApiKeyTable, _>(alloc, members, "in", steps)?,
-        name: required::<ApiKeyTable, _>(alloc, members, "name", steps)?,
-        description: optional::<ApiKeyTable, _>(alloc, members, "description", steps)?,
-        extensions: extensions::<ApiKeyTable>(alloc, members, steps)?,
+    read_rows!(alloc, members, steps, ApiKeyTable => SecurityScheme::APIKey {
+        location: required("in"),
+        name: required("name"),
+        description: optional("description"),
+        ..extensions
     })
 }
 
 /// Reads a scheme by HTTP.
 fn http(alloc: Global, members: &Members, steps: &mut Steps) -> Result<SecurityScheme>
-    ensures reads { RowsReadAs security_scheme_rows result (by kinds.http_scheme) (members_of members.now) }
-    ensures word { IfOk result (λ x. security_scheme_word x ≡ codes "http") }
-    ensures count { RisesBy steps.old steps.new
-        (3 * rows_weight (final_tables kinds.http_scheme) (members_of members.now)) }
+    ensures { IsCaseRead security_scheme_word security_scheme_rows result (codes "http") kinds.http_scheme
+        (members_of members.now) steps.old steps.new }
 {
-    Ok(SecurityScheme::HTTP {
-        scheme: required::<HttpTable, _>(alloc, members, "scheme", steps)?,
-        bearer_format: optional::<HttpTable, _>(alloc, members, "bearerFormat", steps)?,
-        description: optional::<HttpTable, _>(alloc, members, "description", steps)?,
-        extensions: extensions::<HttpTable>(alloc, members, steps)?,
+    read_rows!(alloc, members, steps, HttpTable => SecurityScheme::HTTP {
+        scheme: required("scheme"),
+        bearer_format: optional("bearerFormat"),
+        description: optional("description"),
+        ..extensions
     })
 }
 
 /// Reads a scheme by OAuth 2.
 fn oauth2(alloc: Global, members: &Members, steps: &mut Steps) -> Result<SecurityScheme>
-    ensures reads { RowsReadAs security_scheme_rows result (by kinds.oauth2_scheme) (members_of members.now) }
-    ensures word { IfOk result (λ x. security_scheme_word x ≡ codes "oauth2") }
-    ensures count { RisesBy steps.old steps.new
-        (3 * rows_weight (final_tables kinds.oauth2_scheme) (members_of members.now)) }
+    ensures { IsCaseRead security_scheme_word security_scheme_rows result (codes "oauth2") kinds.oauth2_scheme
+        (members_of members.now) steps.old steps.new }
 {
-    Ok(SecurityScheme::OAuth2 {
-        flows: required::<OAuth2Table, _>(alloc, members, "flows", steps)?,
-        description: optional::<OAuth2Table, _>(alloc, members, "description", steps)?,
-        extensions: extensions::<OAuth2Table>(alloc, members, steps)?,
+    read_rows!(alloc, members, steps, OAuth2Table => SecurityScheme::OAuth2 {
+        flows: required("flows"),
+        description: optional("description"),
+        ..extensions
     })
 }
 
 /// Reads a scheme by OpenID Connect.
 fn open_id_connect(alloc: Global, members: &Members, steps: &mut Steps) -> Result<SecurityScheme>
-    ensures reads { RowsReadAs security_scheme_rows result (by kinds.open_id_connect_scheme) (members_of members.now) }
-    ensures word { IfOk result (λ x. security_scheme_word x ≡ codes "openIdConnect") }
-    ensures count { RisesBy steps.old steps.new
-        (3 * rows_weight (final_tables kinds.open_id_connect_scheme) (members_of members.now)) }
+    ensures { IsCaseRead security_scheme_word security_scheme_rows result (codes "openIdConnect") kinds.open_id_connect_scheme
+        (members_of members.now) steps.old steps.new }
 {
-    Ok(SecurityScheme::OpenIDConnect {
-        open_id_connect_url: required::<OpenIdConnectTable, _>(
-            alloc,
-            members,
-            "openIdConnectUrl",
-            steps,
-        )?,
-        description: optional::<OpenIdConnectTable, _>(alloc, members, "description", steps)?,
-        extensions: extensions::<OpenIdConnectTable>(alloc, members, steps)?,
+    read_rows!(alloc, members, steps, OpenIdConnectTable => SecurityScheme::OpenIDConnect {
+        open_id_connect_url: required("openIdConnectUrl"),
+        description: optional("description"),
+        ..extensions
     })
 }
 
@@ -256,10 +242,12 @@ fn put_scheme(alloc: Global, value: &SecurityScheme, out: &mut Members) -> Resul
             extensions,
         } => {
             put_tag(alloc, value, out, "type", "apiKey")?;
-            put_required(alloc, value, out, "in", location)?;
-            put_required(alloc, value, out, "name", name)?;
-            put_optional(alloc, value, out, "description", description)?;
-            put_extensions(alloc, value, out, extensions)
+            write_rows!(alloc, value, out => bound {
+                location: put_required("in"),
+                name: put_required("name"),
+                description: put_optional("description"),
+                ..extensions
+            })
         }
         SecurityScheme::HTTP {
             scheme,
@@ -268,10 +256,12 @@ fn put_scheme(alloc: Global, value: &SecurityScheme, out: &mut Members) -> Resul
             extensions,
         } => {
             put_tag(alloc, value, out, "type", "http")?;
-            put_required(alloc, value, out, "scheme", scheme)?;
-            put_optional(alloc, value, out, "bearerFormat", bearer_format)?;
-            put_optional(alloc, value, out, "description", description)?;
-            put_extensions(alloc, value, out, extensions)
+            write_rows!(alloc, value, out => bound {
+                scheme: put_required("scheme"),
+                bearer_format: put_optional("bearerFormat"),
+                description: put_optional("description"),
+                ..extensions
+            })
         }
         SecurityScheme::OAuth2 {
             flows,
@@ -279,9 +269,11 @@ fn put_scheme(alloc: Global, value: &SecurityScheme, out: &mut Members) -> Resul
             extensions,
         } => {
             put_tag(alloc, value, out, "type", "oauth2")?;
-            put_required(alloc, value, out, "flows", flows)?;
-            put_optional(alloc, value, out, "description", description)?;
-            put_extensions(alloc, value, out, extensions)
+            write_rows!(alloc, value, out => bound {
+                flows: put_required("flows"),
+                description: put_optional("description"),
+                ..extensions
+            })
         }
         SecurityScheme::OpenIDConnect {
             open_id_connect_url,
@@ -289,9 +281,11 @@ fn put_scheme(alloc: Global, value: &SecurityScheme, out: &mut Members) -> Resul
             extensions,
         } => {
             put_tag(alloc, value, out, "type", "openIdConnect")?;
-            put_required(alloc, value, out, "openIdConnectUrl", open_id_connect_url)?;
-            put_optional(alloc, value, out, "description", description)?;
-            put_extensions(alloc, value, out, extensions)
+            write_rows!(alloc, value, out => bound {
+                open_id_connect_url: put_required("openIdConnectUrl"),
+                description: put_optional("description"),
+                ..extensions
+            })
         }
     }
 }

@@ -1,4 +1,4 @@
 use Rattle.openapi_operations.proofs.parts.read_texts.Goals as goal
 
-pub returns-clause-reads : goal.returns-clause-reads
-returns-clause-reads c = (c.in_ok-or_implied-2.ensures.reads, (c.in_ok-optional.ensures.reads, (c.in_ok-optional-2.ensures.reads, (c.in_ok-optional-3.ensures.reads, (c.in_ok-or_implied.ensures.reads, tt)))))
+pub returns-6-clause-reads : goal.returns-6-clause-reads
+returns-6-clause-reads c = (c.in-Ok-read_rows-read_rows.ensures.reads, (c.in-Ok-read_rows-read_rows-2.ensures.reads, (c.in-Ok-read_rows-read_rows-3.ensures.reads, (c.in-Ok-read_rows-read_rows-4.ensures.reads, (c.in-Ok-read_rows.ensures.reads, tt)))))

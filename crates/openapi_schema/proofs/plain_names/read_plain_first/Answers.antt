@@ -4,26 +4,26 @@ use Rattle.openapi_schema.specs.Reading.{first_optional}
 use Rattle.openapi_schema.specs.PlainNames.{plain_first}
 use Rattle.openapi_schema.proofs.plain_names.read_plain_first.Goals as goal
 
-pub returns-clause-reads : goal.returns-clause-reads
+pub returns-10-clause-reads : goal.returns-10-clause-reads
 unfolding any_rows optional_rows first_optional plain_first
-returns-clause-reads c = (
-  c.in_ok-optional-8.ensures.reads,
+returns-10-clause-reads c = (
+  c.in-Ok-read_rows-read_rows-7.ensures.reads,
   (
-    c.in_ok-optional-9.ensures.reads,
+    c.in-Ok-read_rows-read_rows-8.ensures.reads,
     (
-      c.in_ok-optional.ensures.reads,
+      c.in-Ok-read_rows.ensures.reads,
       (
-        c.in_ok-optional-2.ensures.reads,
+        c.in-Ok-read_rows-read_rows.ensures.reads,
         (
-          c.in_ok-optional-3.ensures.reads,
+          c.in-Ok-read_rows-read_rows-2.ensures.reads,
           (
-            c.in_ok-optional-4.ensures.reads,
+            c.in-Ok-read_rows-read_rows-3.ensures.reads,
             (
-              c.in_ok-optional-5.ensures.reads,
+              c.in-Ok-read_rows-read_rows-4.ensures.reads,
               (
-                c.in_ok-optional-6.ensures.reads,
+                c.in-Ok-read_rows-read_rows-5.ensures.reads,
                 (
-                  c.in_ok-optional-7.ensures.reads,
+                  c.in-Ok-read_rows-read_rows-6.ensures.reads,
                   tt,
                 ),
               ),

@@ -4,20 +4,20 @@ use Rattle.openapi_schema.specs.Reading.{last_optional}
 use Rattle.openapi_schema.specs.PlainNames.{plain_last}
 use Rattle.openapi_schema.proofs.plain_names.read_plain_last.Goals as goal
 
-pub returns-clause-reads : goal.returns-clause-reads
+pub returns-7-clause-reads : goal.returns-7-clause-reads
 unfolding any_rows optional_rows last_optional plain_last
-returns-clause-reads c = (
-  c.in_ok-optional.ensures.reads,
+returns-7-clause-reads c = (
+  c.in-Ok-read_rows.ensures.reads,
   (
-    c.in_ok-optional-2.ensures.reads,
+    c.in-Ok-read_rows-read_rows.ensures.reads,
     (
-      c.in_ok-optional-3.ensures.reads,
+      c.in-Ok-read_rows-read_rows-2.ensures.reads,
       (
-        c.in_ok-optional-6.ensures.reads,
+        c.in-Ok-read_rows-read_rows-5.ensures.reads,
         (
-          c.in_ok-optional-4.ensures.reads,
+          c.in-Ok-read_rows-read_rows-3.ensures.reads,
           (
-            c.in_ok-optional-5.ensures.reads,
+            c.in-Ok-read_rows-read_rows-4.ensures.reads,
             tt,
           ),
         ),

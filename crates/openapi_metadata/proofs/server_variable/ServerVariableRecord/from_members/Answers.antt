@@ -1,15 +1,15 @@
 use Rattle.openapi_tables.specs.Tables.{final_tables, tables_with}
 use Rattle.openapi_metadata.proofs.server_variable.ServerVariableRecord.from_members.Goals as goal
 
-pub returns-clause-reads : goal.returns-clause-reads
+pub returns-5-clause-reads : goal.returns-5-clause-reads
 unfolding final_tables tables_with
-returns-clause-reads c = (
-  c.in_ok-or_implied.ensures.reads,
+returns-5-clause-reads c = (
+  c.in-Ok-read_rows.ensures.reads,
   (
-    c.in_ok-required.ensures.reads,
+    c.in-Ok-read_rows-read_rows.ensures.reads,
     (
-      c.in_ok-nullable.ensures.reads,
-      (c.in_ok-extensions.ensures.reads, tt),
+      c.in-Ok-read_rows-read_rows-2.ensures.reads,
+      (c.in-Ok-read_rows-read_rows-3.ensures.reads, tt),
     ),
   ),
 )

@@ -39,9 +39,5 @@ returns-in-Ok c =
     let n = c.in-Ok.name in
     let read = tagged_read (codes "type") type_cases (type_name_word n) (members_of c.in-Object.members.now)
     c.in-Ok.ensures.reads (known n) schema_type_word schema_type_fields (kinds.one_of type_words) c.of_type.result
-    schema_type_sound c.tag.ensures.count (record {
-      reads = c.of_type.ensures.reads;
-      word = c.of_type.ensures.word;
-      count = c.of_type.ensures.count;
-    }) in
+    schema_type_sound c.tag.ensures.count c.of_type.ensures in
     rw c.in-Object.is (record { reads = read.reads; count = read.count })

@@ -1,0 +1,41 @@
+//! The rows of an object, one to a line: the field, the call that reads or writes its row, and the name of the row.
+
+/// A value whose fields are read by the rows of a table, each by the call that its line names:
+/// [`required`](crate::required), [`optional`](crate::optional), [`nullable`](crate::nullable) or
+/// [`or_implied`](crate::or_implied). Behind `..` stands the field of the extensions.
+#[macro_export]
+macro_rules! read_rows {
+    ($alloc:ident, $members:ident, $steps:ident, $table:ty => $($value:ident)::+ {
+        $($field:ident: $read:ident($name:literal),)*
+        $(..$extensions:ident)?
+    }) => {{
+        $(let $field = match $crate::$read::<$table, _>($alloc, $members, $name, $steps) {
+            Ok($field) => $field,
+            Err(fault) => return Err(fault),
+        };)*
+        $(let $extensions = match $crate::extensions::<$table>($alloc, $members, $steps) {
+            Ok($extensions) => $extensions,
+            Err(fault) => return Err(fault),
+        };)?
+        Ok($($value)::+ { $($field,)* $($extensions)? })
+    }};
+}
+
+/// Puts the fields of an object last by the rows of its table, each by the call that its line names:
+/// [`put_required`](crate::put_required), [`put_optional`](crate::put_optional), [`put_nullable`](crate::put_nullable) or
+/// [`put_implied`](crate::put_implied). Behind `..` stands the field of the extensions, which end the object: with them this
+/// is its answer. Behind `bound`, the fields are names that a pattern binds.
+#[macro_export]
+macro_rules! write_rows {
+    ($alloc:ident, $object:ident, $out:expr => { $($field:ident: $put:ident($name:literal),)* ..$extensions:ident }) => {{
+        $($crate::$put($alloc, $object, $out, $name, &$object.$field)?;)*
+        $crate::put_extensions($alloc, $object, $out, &$object.$extensions)
+    }};
+    ($alloc:ident, $object:ident, $out:expr => { $($field:ident: $put:ident($name:literal),)* }) => {
+        $($crate::$put($alloc, $object, $out, $name, &$object.$field)?;)*
+    };
+    ($alloc:ident, $object:ident, $out:expr => bound { $($field:ident: $put:ident($name:literal),)* ..$extensions:ident }) => {{
+        $($crate::$put($alloc, $object, $out, $name, $field)?;)*
+        $crate::put_extensions($alloc, $object, $out, $extensions)
+    }};
+}

@@ -6,11 +6,11 @@ use Rattle.openapi_tables.specs.Operations.{at_path, ops, ops_of_item, ops_of_pa
 use Rattle.openapi_values.specs.Reference.{reference_form}
 use Rattle.openapi_values.specs.declared.reference.ReferenceOr.{ReferenceOr}
 use Rattle.openapi_values.specs.declared.reference.ReferenceOr.TheVariants as v
-use Rattle.openapi_operations.specs.OperationForms.{operation_form, path_item_form}
-use Rattle.openapi_operations.specs.Present.{forms_under, present_operations}
-use Rattle.openapi_operations.specs.declared.operation.Operation.{Operation}
-use Rattle.openapi_operations.specs.declared.path_item.PathItem.{PathItem}
-use Rattle.openapi_operations.proofs.PresentForms.{present_forms}
+use Rattle.openapi_documents.specs.OperationForms.{operation_form, path_item_form}
+use Rattle.openapi_documents.specs.Present.{forms_under, present_operations}
+use Rattle.openapi_documents.specs.declared.operation.Operation.{Operation}
+use Rattle.openapi_documents.specs.declared.path_item.PathItem.{PathItem}
+use Rattle.openapi_documents.proofs.PresentForms.{present_forms}
 use Rattle.openapi_documents.specs.AllOperations.{Placed, document_operations, operations_at, operations_under}
 use Rattle.openapi_documents.specs.AllOperations.{placed_forms, under_path}
 use Rattle.openapi_documents.specs.Documents.{document_form}

@@ -1,3 +1,6 @@
-pub mod Documents
 pub mod AllOperations
+pub mod Documents
+pub mod Opened
+pub mod PartRows
+pub mod PresentForms
 pub mod Refused

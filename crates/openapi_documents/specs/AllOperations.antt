@@ -7,10 +7,10 @@ use Rattle.openapi_tables.specs.Lists.{each, join}
 use Rattle.openapi_tables.specs.Operations as tables
 use Rattle.openapi_values.specs.declared.reference.ReferenceOr.{ReferenceOr}
 use Rattle.openapi_values.specs.declared.reference.ReferenceOr.TheVariants as v
-use Rattle.openapi_operations.specs.OperationForms.{operation_form}
-use Rattle.openapi_operations.specs.Present.{present_operations}
-use Rattle.openapi_operations.specs.declared.operation.Operation.{Operation}
-use Rattle.openapi_operations.specs.declared.path_item.PathItem.{PathItem}
+use Rattle.openapi_documents.specs.OperationForms.{operation_form}
+use Rattle.openapi_documents.specs.Present.{present_operations}
+use Rattle.openapi_documents.specs.declared.operation.Operation.{Operation}
+use Rattle.openapi_documents.specs.declared.path_item.PathItem.{PathItem}
 use Rattle.openapi_documents.specs.declared.open_api.OpenAPI.{OpenAPI}
 
 -- an operation, with its path and its method

@@ -3,7 +3,7 @@ use Rattle.std.specs.Prelude.{List, [], ◌∷◌}
 use Rattle.openapi_tables.specs.Form.{Form}
 use Rattle.openapi_values.specs.Reference.{reference_form}
 use Rattle.openapi_fields.specs.Forms.{text_form, optional_form, list_form, map_form, extensions_form, record_form}
-use Rattle.openapi_schema_annotations.specs.Objects.{external_documentation_rows}
+use Rattle.openapi_schema_types.specs.Annotations.{external_documentation_rows}
 use Rattle.openapi_metadata.specs.Links.{link_rows}
 use Rattle.openapi_metadata.specs.Objects.{example_rows, info_rows, server_rows, tag_rows}
 use Rattle.openapi_security.specs.Schemes.{security_requirement_form, security_scheme_form}
@@ -11,8 +11,8 @@ use Rattle.openapi_schema.specs.SchemaForms.{schema_form}
 use Rattle.openapi_media_types.specs.ContentForms.{header_form}
 use Rattle.openapi_parameters.specs.Parameters.{parameter_form}
 use Rattle.openapi_responses.specs.Messages.{request_body_rows, response_rows}
-use Rattle.openapi_operations.specs.Fields.{paths_rows}
-use Rattle.openapi_operations.specs.OperationForms.{callback_form}
+use Rattle.openapi_documents.specs.Fields.{paths_rows}
+use Rattle.openapi_documents.specs.OperationForms.{callback_form}
 use Rattle.openapi_documents.specs.declared.components.Components.{Components}
 use Rattle.openapi_documents.specs.declared.open_api.OpenAPI.{OpenAPI}
 

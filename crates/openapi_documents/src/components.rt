@@ -4,11 +4,11 @@ ghost use Rattle.std.specs.Prelude.{◌≡◌, []};
 ghost use Rattle.openapi_tables.specs.Kind as kinds;
 ghost use Rattle.openapi_documents.specs.Documents.{components_rows};
 
+use crate::callback::Callback;
 use openapi_fields::{Object, Record, extensions, join, or_implied, write_rows};
 use openapi_media_types::Header;
 use openapi_metadata::{Example, Link};
 use openapi_node::{Members, Node, OrderedMap, Result, Steps};
-use openapi_operations::Callback;
 use openapi_parameters::Parameter;
 use openapi_responses::{RequestBody, Response};
 use openapi_schema::Schema;

@@ -4,13 +4,13 @@ ghost use Rattle.openapi_tables.specs.Kind as kinds;
 ghost use Rattle.openapi_documents.specs.Documents.{open_api_rows};
 
 use crate::components::Components;
+use crate::paths::Paths;
 use openapi_fields::{
     IntoNode, Object, Record, extensions, join, optional, or_implied, required, write_rows,
 };
 use openapi_metadata::{Info, Server, Tag};
 use openapi_node::{Members, Node, OrderedMap, Result, Steps};
-use openapi_operations::Paths;
-use openapi_schema_annotations::ExternalDocumentation;
+use openapi_schema_types::ExternalDocumentation;
 use openapi_security::SecurityRequirement;
 use std::alloc::Global;
 

@@ -8,9 +8,11 @@ ghost use Rattle.openapi_documents.specs.AllOperations.{document_operations, lef
 ghost use Rattle.openapi_documents.specs.AllOperations.{operations_at, operations_under, placed_forms};
 ghost use Rattle.openapi_documents.specs.Documents.{document_form};
 
+use crate::iter::PathItemIter;
 use crate::open_api::OpenAPI;
+use crate::operation::Operation;
+use crate::path_item::PathItem;
 use openapi_map::Iter;
-use openapi_operations::{Operation, PathItem, PathItemIter};
 use openapi_values::ReferenceOr;
 use std::marker::Model;
 
@@ -28,7 +30,7 @@ impl<'a> Model for Operations<'a> {
     ghost use Rattle.std.specs.Prelude.{List};
     ghost use Rattle.std.specs.Coded.{coded_list, coded×, coded_ℕ};
     ghost use Rattle.openapi_tables.specs.Lists.{join};
-    ghost use Rattle.openapi_operations.specs.contracts.operation.Operation as operation;
+    ghost use Rattle.openapi_documents.specs.contracts.operation.Operation as operation;
     ghost use Rattle.openapi_documents.specs.AllOperations.{Placed, left_under, operations_under};
 
     ghost Value = { List Placed };

@@ -9,7 +9,7 @@ use Rattle.openapi_fields.specs.Forms.{
   extensions_form,
   record_form,
 }
-use Rattle.openapi_schema_annotations.specs.Objects.{external_documentation_rows}
+use Rattle.openapi_schema_types.specs.Annotations.{external_documentation_rows}
 use Rattle.openapi_metadata.specs.declared.contact.Contact.{Contact}
 use Rattle.openapi_metadata.specs.declared.example.Example.{Example}
 use Rattle.openapi_metadata.specs.declared.info.Info.{Info}

@@ -14,7 +14,7 @@ use openapi_fields::{
     IntoNode, Object, Record, ToNode, put_extensions, put_optional, read_rows, write_rows,
 };
 use openapi_node::{Members, Node, OrderedMap, Result, Steps};
-use openapi_schema_annotations::ExternalDocumentation;
+use openapi_schema_types::ExternalDocumentation;
 use std::alloc::Global;
 
 /// The Tag Object (OpenAPI 3.0.3, section 4.7.22): metadata of a tag by which operations are grouped.

@@ -6,10 +6,10 @@ use Rattle.openapi_node.specs.Tree.{Tree}
 use Rattle.openapi_tables.specs.Prelude.{Form, leaf, fields, forms_of, plain}
 use Rattle.openapi_fields.specs.Forms.{text_form, flag_form, number_form, size_form, optional_form, extensions_form}
 use Rattle.openapi_values.specs.Words.{number_format_word, integer_format_word, string_format_word}
-use Rattle.openapi_schema_annotations.specs.Objects.{external_documentation_rows, discriminator_rows, xml_rows}
-use Rattle.openapi_schema_annotations.specs.declared.discriminator.Discriminator.{Discriminator}
-use Rattle.openapi_schema_annotations.specs.declared.external_documentation.ExternalDocumentation.{ExternalDocumentation}
-use Rattle.openapi_schema_annotations.specs.declared.xml.Xml.{Xml}
+use Rattle.openapi_schema_types.specs.Annotations.{external_documentation_rows, discriminator_rows, xml_rows}
+use Rattle.openapi_schema_types.specs.declared.discriminator.Discriminator.{Discriminator}
+use Rattle.openapi_schema_types.specs.declared.external_documentation.ExternalDocumentation.{ExternalDocumentation}
+use Rattle.openapi_schema_types.specs.declared.xml.Xml.{Xml}
 use Rattle.openapi_schema_types.specs.Enumerations.{text_tree, number_tree, signed_tree, flag_tree}
 use Rattle.openapi_schema.specs.SchemaForms.{entry_form, schema_data_rows, string_type_rows, number_type_rows}
 use Rattle.openapi_schema.specs.SchemaForms.{integer_type_rows, boolean_type_rows}

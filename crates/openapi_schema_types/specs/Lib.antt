@@ -1,3 +1,4 @@
+pub mod Annotations
 pub mod Enumerations
 pub mod Masks
 pub mod PartForms

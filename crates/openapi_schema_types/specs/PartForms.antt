@@ -13,7 +13,7 @@ use Rattle.openapi_fields.specs.Forms.{
   record_form,
   extensions_form,
 }
-use Rattle.openapi_schema_annotations.specs.Objects.{external_documentation_rows, discriminator_rows, xml_rows}
+use Rattle.openapi_schema_types.specs.Annotations.{external_documentation_rows, discriminator_rows, xml_rows}
 use Rattle.openapi_values.specs.VariantOr.{variant_or_empty_form}
 use Rattle.openapi_values.specs.Words.{number_format_word, integer_format_word, string_format_word}
 use Rattle.openapi_schema_types.specs.Enumerations.{text_tree, number_tree, signed_tree, flag_tree}

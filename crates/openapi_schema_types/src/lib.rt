@@ -1,9 +1,11 @@
 #![tactic(auto)]
 //! The parts of the Schema Object of OpenAPI 3.0.3, section 4.7.24, that hold no schemas: what every kind of schema can
-//! say, the types of texts, numbers and flags, the names of all types, the entries of enumerations, and the sort of a
-//! schema by the names that are present.
+//! say, with the objects that describe it (External Documentation, Discriminator and XML), the types of texts, numbers and
+//! flags, the names of all types, the entries of enumerations, and the sort of a schema by the names that are present.
 mod boolean_type;
+mod discriminator;
 mod enumeration;
+mod external_documentation;
 mod integer_type;
 mod mask;
 mod number_type;
@@ -11,9 +13,12 @@ mod schema_data;
 mod sort;
 mod string_type;
 mod type_name;
+mod xml;
 
 pub use boolean_type::BooleanType;
+pub use discriminator::Discriminator;
 pub use enumeration::{Entry, copies, entries};
+pub use external_documentation::ExternalDocumentation;
 pub use integer_type::IntegerType;
 pub use mask::{Mask, NAMES};
 pub use number_type::NumberType;
@@ -21,3 +26,4 @@ pub use schema_data::SchemaData;
 pub use sort::Sort;
 pub use string_type::StringType;
 pub use type_name::TypeName;
+pub use xml::Xml;

@@ -3,9 +3,11 @@ ghost use Rattle.std.specs.Prelude.{◌≡◌, false, [], None};
 ghost use Rattle.openapi_tables.specs.Kind.{schema_data};
 ghost use Rattle.openapi_schema_types.specs.PartForms.{schema_data_rows};
 
+use crate::discriminator::Discriminator;
+use crate::external_documentation::ExternalDocumentation;
+use crate::xml::Xml;
 use openapi_fields::{Object, Record, extensions, join, optional, or_implied, write_rows};
 use openapi_node::{Members, Node, OrderedMap, Result, Steps};
-use openapi_schema_annotations::{Discriminator, ExternalDocumentation, Xml};
 use std::alloc::Global;
 
 /// What every kind of Schema Object (OpenAPI 3.0.3, section 4.7.24) can say: its annotations. Each flag is false by

@@ -1,7 +1,7 @@
 //! How a caller proves a loop over the operations of a path item.
 ghost use Rattle.std.specs.Prelude.{◌≡◌, IfOk, map};
 ghost use Rattle.std.specs.Map.{keys_of, values_of};
-ghost use Rattle.openapi_operations.specs.Present.{present_operations};
+ghost use Rattle.openapi_documents.specs.Present.{present_operations};
 
 use openapiv3::{Operation, PathItem};
 use std::alloc::{AllocError, Global};

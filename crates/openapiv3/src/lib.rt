@@ -30,18 +30,18 @@ pub use openapi_metadata::ServerVariable;
 pub use openapi_documents::Components;
 
 // 4.7.8 Paths Object: the paths, each with what can be called there.
-pub use openapi_operations::Paths;
+pub use openapi_documents::Paths;
 
 // 4.7.9 Path Item Object: the operations of one path, by their methods.
-pub use openapi_operations::{
+pub use openapi_documents::{
     PathItem, PathItemIntoIter, PathItemIter, path_item_ref_from_node, path_item_ref_to_node,
 };
 
 // 4.7.10 Operation Object: one call of the API.
-pub use openapi_operations::Operation;
+pub use openapi_documents::Operation;
 
 // 4.7.11 External Documentation Object: a link to more documentation.
-pub use openapi_schema_annotations::ExternalDocumentation;
+pub use openapi_schema_types::ExternalDocumentation;
 
 // 4.7.12 Parameter Object: a parameter, by the place where it is sent, and the style of its value.
 pub use openapi_media_types::ParameterSchemaOrContent;
@@ -67,7 +67,7 @@ pub use openapi_values::StatusCode;
 pub use openapi_responses::{Response, response_ref_from_node, response_ref_to_node};
 
 // 4.7.18 Callback Object: calls that the API makes itself.
-pub use openapi_operations::{Callback, callback_ref_from_node, callback_ref_to_node};
+pub use openapi_documents::{Callback, callback_ref_from_node, callback_ref_to_node};
 
 // 4.7.19 Example Object: an example of a value.
 pub use openapi_metadata::{Example, example_ref_from_node, example_ref_to_node};
@@ -95,10 +95,10 @@ pub use openapi_values::{
 };
 
 // 4.7.25 Discriminator Object: the property that tells schemas apart.
-pub use openapi_schema_annotations::Discriminator;
+pub use openapi_schema_types::Discriminator;
 
 // 4.7.26 XML Object: how a property is written as XML.
-pub use openapi_schema_annotations::Xml;
+pub use openapi_schema_types::Xml;
 
 // 4.7.27 Security Scheme Object: a way to say who calls, and the place of an API key.
 pub use openapi_security::{

@@ -1,6 +1,6 @@
 use Rattle.std.proofs.Common.{◌≡◌, ◌++◌, map}
 use Rattle.std.specs.Map.{keys_of}
-use Rattle.openapi_operations.specs.Present.{present_operations}
+use Rattle.openapi_documents.specs.Present.{present_operations}
 use Rattle.openapi_vectors.proofs.loops.methods_of.Given as goal
 
 -- what was taken, and what is still to come

@@ -1,6 +1,6 @@
 use Rattle.std.proofs.Common.{◌≡◌, ◌++◌}
 use Rattle.std.specs.Map.{values_of}
-use Rattle.openapi_operations.specs.Present.{present_operations}
+use Rattle.openapi_documents.specs.Present.{present_operations}
 use Rattle.openapi_vectors.proofs.loops.operations_of.Given as goal
 
 -- what was taken, and what is still to come

@@ -1,5 +1,0 @@
-pub mod Fields
-pub mod OperationForms
-pub mod Parts
-pub mod Present
-pub mod Spared

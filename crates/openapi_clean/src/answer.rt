@@ -1,55 +1,70 @@
-//! The text that answers an input. Each step lets go of what the step before it made, so that no more than two forms of
-//! the input stand at a time (`openapi_text` says more).
+//! The text that answers an input. Each step lets go of what the step before it made, the first of the input itself, so
+//! that no more than two forms of it stand at a time (`openapi_text` says more).
 ghost use Rattle.std.specs.Prelude.{◌≡◌, ◌++◌, ◌∷◌, [], string_bytes, IfOk, IfErr, OnOk, true};
 ghost use Rattle.openapi_clean.specs.Commands.{kind_of};
-ghost use Rattle.openapi_clean.specs.Output.{IsAnswer, lines_of, operation_line};
+ghost use Rattle.openapi_clean.specs.Output.{IsAnswer, lines_of, operation_line, text_for};
 ghost use Rattle.openapi_tables.specs.Conforms.{conforms};
 ghost use Rattle.openapi_tables.specs.Operations.{ops};
 ghost use Rattle.openapi_tables.specs.Read.{form};
 ghost use Rattle.openapi_tables.specs.Tables.{final_tables};
-ghost use Rattle.openapi_text.specs.Texts.{Explains, IsTextOf, rewritten, text_in};
+ghost use Rattle.openapi_text.specs.Texts.{Explains, IsFaultOf, rewritten, text_in};
 ghost use Rattle.openapi_text.specs.Texts as texts;
 
 use crate::command::Command;
 use openapi_documents::OpenAPI;
 use openapi_fields::FromNode;
-use openapi_node::Steps;
-use openapi_text::{Layout, Rewriting, RunFault, read_object, rewrite, text_of};
+use openapi_node::{Node, Steps};
+use openapi_text::{Layout, Rewriting, RunFault, read_object, read_tree, rewrite, text_of};
 use std::alloc::Global;
 use std::mem;
 
-/// The text that answers the bytes.
+/// The text that answers the bytes, of which it lets go as soon as it has their tree.
 pub fn answer(
     alloc: Global,
     command: Command,
-    bytes: &[u8],
+    bytes: Vec<u8>,
     steps: &mut Steps,
 ) -> Result<String, RunFault>
-    ensures ok { IfOk result (λ text. IsAnswer command bytes.now (string_bytes text)) }
-    ensures err { IfErr result (Explains Layout.ByName (kind_of command) bytes.now) }
+    ensures ok { IfOk result (λ text. IsAnswer command bytes.items (string_bytes text)) }
+    ensures err { IfErr result (Explains Layout.ByName (kind_of command) bytes.items) }
+{
+    let node = read_tree(alloc, Layout::ByName, bytes.as_slice())?;
+    drop(bytes);
+    answer_tree(alloc, command, node, steps)
+}
+
+/// The text that answers the tree.
+fn answer_tree(
+    alloc: Global,
+    command: Command,
+    node: Node,
+    steps: &mut Steps,
+) -> Result<String, RunFault>
+    ensures ok { IfOk result (λ text. (conforms final_tables (kind_of command) node ≡ true)
+        × (string_bytes text ≡ text_for command node)) }
+    ensures err { IfErr result (IsFaultOf (kind_of command) node) }
 {
     match command {
-        Command::Tag => line(alloc, Rewriting::Tag, bytes, steps),
-        Command::Schema => line(alloc, Rewriting::Schema, bytes, steps),
-        Command::Document => line(alloc, Rewriting::Document, bytes, steps),
-        Command::Settle => line(alloc, Rewriting::Settle, bytes, steps),
-        Command::Operations => lines_of_object::<OpenAPI>(alloc, bytes, steps),
+        Command::Tag => line(alloc, Rewriting::Tag, node, steps),
+        Command::Schema => line(alloc, Rewriting::Schema, node, steps),
+        Command::Document => line(alloc, Rewriting::Document, node, steps),
+        Command::Settle => line(alloc, Rewriting::Settle, node, steps),
+        Command::Operations => lines_of_object::<OpenAPI>(alloc, node, steps),
     }
 }
 
-/// The line of what is made of the bytes.
+/// The line of what is made of the tree.
 fn line(
     alloc: Global,
     rewriting: Rewriting,
-    bytes: &[u8],
+    node: Node,
     steps: &mut Steps,
 ) -> Result<String, RunFault>
-    ensures ok { IfOk result (λ text. IsTextOf Layout.ByName bytes.now (λ t.
-        (conforms final_tables (texts.kind_of rewriting) t ≡ true)
-        × (string_bytes text ≡ text_in Layout.ByName (rewritten rewriting t)))) }
-    ensures err { IfErr result (Explains Layout.ByName (texts.kind_of rewriting) bytes.now) }
+    ensures ok { IfOk result (λ text. (conforms final_tables (texts.kind_of rewriting) node ≡ true)
+        × (string_bytes text ≡ text_in Layout.ByName (rewritten rewriting node))) }
+    ensures err { IfErr result (IsFaultOf (texts.kind_of rewriting) node) }
 {
-    let node = rewrite(alloc, rewriting, Layout::ByName, bytes, steps)?;
+    let node = rewrite(alloc, rewriting, node, steps)?;
     let text = text_of(alloc, &node, Layout::ByName, steps);
     // The program ends with this line, so nothing needs the room of the tree again.
     mem::forget(node);
@@ -59,15 +74,14 @@ fn line(
 /// The lines of what is read as a `T`.
 fn lines_of_object<T: Lines + Drop>(
     alloc: Global,
-    bytes: &[u8],
+    node: Node,
     steps: &mut Steps,
 ) -> Result<String, RunFault>
-    ensures ok { IfOk result (λ text. IsTextOf Layout.ByName bytes.now (λ t.
-        (conforms final_tables T.FromNode.kind t ≡ true)
-        × (string_bytes text ≡ T.lines_of_form (form final_tables T.FromNode.kind t)))) }
-    ensures err { IfErr result (Explains Layout.ByName T.FromNode.kind bytes.now) }
+    ensures ok { IfOk result (λ text. (conforms final_tables T.FromNode.kind node ≡ true)
+        × (string_bytes text ≡ T.lines_of_form (form final_tables T.FromNode.kind node))) }
+    ensures err { IfErr result (IsFaultOf T.FromNode.kind node) }
 {
-    let object = read_object::<T>(alloc, Layout::ByName, bytes, steps)?;
+    let object = read_object::<T>(alloc, node, steps)?;
     let lines = object.lines(alloc);
     mem::forget(object);
     lines

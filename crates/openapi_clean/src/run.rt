@@ -45,6 +45,6 @@ pub fn run<R: Read, W: Write>(
         → IfSome (R.remaining reader.old) (λ bytes. Explains Layout.ByName (kind_of command) bytes e)) }
 {
     let bytes = read_all(alloc, reader)?;
-    let line = answer(alloc, command, bytes.as_slice(), steps)?;
+    let line = answer(alloc, command, bytes, steps)?;
     write_all(writer, line.as_bytes())
 }

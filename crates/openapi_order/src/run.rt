@@ -7,7 +7,7 @@ ghost use Rattle.openapi_text.specs.Texts.{AppendsPart, Explains, kind_of};
 use crate::arguments::Task;
 use crate::failure::Failure;
 use openapi_node::Steps;
-use openapi_text::{RunFault, read_all, rewrite, text_of, write_all};
+use openapi_text::{RunFault, read_all, read_tree, rewrite, text_of, write_all};
 use std::alloc::Global;
 use std::io::{Read, Write};
 use std::mem;
@@ -73,7 +73,8 @@ fn text_for(
     ensures ok { IfOk result (λ text. IsAnswer task bytes.now (string_bytes text)) }
     ensures err { IfErr result (Explains task.layout (kind_of task.rewriting) bytes.now) }
 {
-    let node = rewrite(alloc, task.rewriting, task.layout, bytes, steps)?;
+    let read = read_tree(alloc, task.layout, bytes)?;
+    let node = rewrite(alloc, task.rewriting, read, steps)?;
     let text = text_of(alloc, &node, task.layout, steps);
     if is_last {
         mem::forget(node);

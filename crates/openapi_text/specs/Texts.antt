@@ -89,6 +89,10 @@ IsRefusalOf k t Memory = ⊥
 IsRefusalOf k t Read = ⊥
 IsRefusalOf k t Write = ⊥
 
+-- why nothing was made of the tree: memory ran out, or it is refused
+abbrev pub IsFaultOf : Kind → Tree → RunFault → Type 0
+IsFaultOf k t e = (e ≡ Memory) ⊎ IsRefusalOf k t e
+
 -- the refusal names the place of a number that is not whole
 abbrev pub IsUnwhole : Data → RunFault → Type 0
 IsUnwhole d (Refused f) = IsNotWhole d f

@@ -22,8 +22,10 @@ pub enum Layout {
 }
 
 /// The tree that bytes hold.
+///
+/// Err says that they are no JSON (RFC 8259), that a number of it is not whole, or that memory ran out.
 #[tactic(auto, using(crate::proofs::Texts::tree_by_name, crate::proofs::Texts::tree_in_order, crate::proofs::Texts::tree_of_pretty, crate::proofs::Texts::unread_text))]
-pub(crate) fn read_tree(alloc: Global, layout: Layout, bytes: &[u8]) -> Result<Node, RunFault>
+pub fn read_tree(alloc: Global, layout: Layout, bytes: &[u8]) -> Result<Node, RunFault>
     ensures ok { IfOk result (λ n. IsTextOf layout bytes.now (λ t. n ≡ t)) }
     ensures err { IfErr result (IsUnread bytes.now) }
 {

@@ -1,12 +1,13 @@
 #![tactic(auto)]
-//! From JSON text to JSON text: what the programs share. An object of OpenAPI is read of bytes and cleaned or settled, and
-//! its tree is written, by name or in order; all bytes of a reader are taken, and a text is written whole.
+//! From JSON text to JSON text: what the programs share. A tree is read of bytes, the object that it holds is cleaned or
+//! settled, and what comes of it is written, by name or in order; all bytes of a reader are taken, and a text is written
+//! whole.
 mod fault;
 mod layout;
 mod pipes;
 mod rewriting;
 
 pub use fault::RunFault;
-pub use layout::{Layout, text_of};
+pub use layout::{Layout, read_tree, text_of};
 pub use pipes::{read_all, write_all};
 pub use rewriting::{Rewriting, read_object, rewrite};

@@ -1,8 +1,8 @@
-//! The tree of an object that is read of a text and written again. Each step lets go of what the step before it made, so
-//! that no more than two forms of the input stand at a time: its tree, the object that was read, the cleaned or settled
+//! The tree that is made of a tree, by way of the object that it holds. Each step lets go of what the step before it made,
+//! so that no more than two forms of an input stand at a time: its tree, the object that was read, the cleaned or settled
 //! tree. Three stand while a tree is settled: the tree, the cleaned one, and an object.
 ghost use Rattle.std.specs.Prelude.{◌≡◌, ◌≢◌, ◌⊎◌, IfOk, IfErr, true, false};
-ghost use Rattle.openapi_text.specs.Texts.{Explains, IsRefusalOf, IsTextOf, kind_of, rewritten};
+ghost use Rattle.openapi_text.specs.Texts.{IsFaultOf, kind_of, rewritten};
 ghost use Rattle.openapi_fields.specs.Settled.{settled};
 ghost use Rattle.openapi_tables.specs.Conforms.{conforms};
 ghost use Rattle.openapi_tables.specs.Print.{clean, print};
@@ -10,7 +10,6 @@ ghost use Rattle.openapi_tables.specs.Read.{form};
 ghost use Rattle.openapi_tables.specs.Tables.{final_tables};
 
 use crate::fault::RunFault;
-use crate::layout::{Layout, read_tree};
 use openapi_documents::OpenAPI;
 use openapi_fields::{FromNode, IntoNode, Settle, ToNode};
 use openapi_metadata::Tag;
@@ -19,7 +18,7 @@ use openapi_schema::Schema;
 use std::alloc::Global;
 use std::str::FromStr;
 
-/// Which object is read of a text, and what is made of it.
+/// Which object a tree holds, and what is made of it.
 #[derive(Clone, Copy, Debug, PartialEq, Eq)]
 pub enum Rewriting {
     /// A Tag Object (OpenAPI 3.0.3, section 4.7.22) is cleaned.
@@ -51,69 +50,75 @@ impl FromStr for Rewriting {
     }
 }
 
-/// The tree that is made of the object which the bytes hold.
+/// The tree that is made of the object which a tree holds.
+///
+/// Err says that the tree does not conform, where, and which rule it breaks; or that memory ran out.
 pub fn rewrite(
     alloc: Global,
     rewriting: Rewriting,
-    layout: Layout,
-    bytes: &[u8],
+    node: Node,
     steps: &mut Steps,
 ) -> Result<Node, RunFault>
-    ensures ok { IfOk result (λ n. IsTextOf layout bytes.now (λ t. (conforms final_tables (kind_of rewriting) t ≡ true)
-        × (n ≡ rewritten rewriting t))) }
-    ensures err { IfErr result (Explains layout (kind_of rewriting) bytes.now) }
+    ensures ok { IfOk result (λ n. (conforms final_tables (kind_of rewriting) node ≡ true)
+        × (n ≡ rewritten rewriting node)) }
+    ensures err { IfErr result (IsFaultOf (kind_of rewriting) node) }
 {
     match rewriting {
-        Rewriting::Tag => cleaned_tree::<Tag>(alloc, layout, bytes, steps),
-        Rewriting::Schema => cleaned_tree::<Schema>(alloc, layout, bytes, steps),
-        Rewriting::Document => cleaned_tree::<OpenAPI>(alloc, layout, bytes, steps),
-        Rewriting::Settle => settled_tree::<OpenAPI>(alloc, layout, bytes, steps),
+        Rewriting::Tag => cleaned_tree::<Tag>(alloc, node, steps),
+        Rewriting::Schema => cleaned_tree::<Schema>(alloc, node, steps),
+        Rewriting::Document => cleaned_tree::<OpenAPI>(alloc, node, steps),
+        Rewriting::Settle => settled_tree::<OpenAPI>(alloc, node, steps),
     }
 }
 
 /// The cleaned tree.
 fn cleaned_tree<T: IntoNode>(
     alloc: Global,
-    layout: Layout,
-    bytes: &[u8],
+    node: Node,
     steps: &mut Steps,
 ) -> Result<Node, RunFault>
-    ensures ok { IfOk result (λ n. IsTextOf layout bytes.now (λ t. (conforms final_tables T.FromNode.kind t ≡ true)
-        × (n ≡ clean final_tables T.FromNode.kind t))) }
-    ensures err { IfErr result (Explains layout T.FromNode.kind bytes.now) }
+    ensures ok { IfOk result (λ n. (conforms final_tables T.FromNode.kind node ≡ true)
+        × (n ≡ clean final_tables T.FromNode.kind node)) }
+    ensures err { IfErr result (IsFaultOf T.FromNode.kind node) }
 {
-    let object = read_object::<T>(alloc, layout, bytes, steps)?;
+    let object = read_object::<T>(alloc, node, steps)?;
     tree_of_object(alloc, object)
 }
 
 /// The settled tree.
+#[tactic(auto, using(crate::proofs::Refusals::not_conforming))]
 fn settled_tree<T: ToNode + Drop>(
     alloc: Global,
-    layout: Layout,
-    bytes: &[u8],
+    node: Node,
     steps: &mut Steps,
 ) -> Result<Node, RunFault>
-    ensures ok { IfOk result (λ n. IsTextOf layout bytes.now (λ t. (conforms final_tables T.FromNode.kind t ≡ true)
-        × (n ≡ settled T.FromNode.kind t))) }
-    ensures err { IfErr result (Explains layout T.FromNode.kind bytes.now) }
+    ensures ok { IfOk result (λ n. (conforms final_tables T.FromNode.kind node ≡ true)
+        × (n ≡ settled T.FromNode.kind node)) }
+    ensures err { IfErr result (IsFaultOf T.FromNode.kind node) }
 {
-    let node = read_tree(alloc, layout, bytes)?;
-    settle_tree::<T>(alloc, &node, steps)
+    match T::settle(alloc, &node, steps) {
+        Ok(settled) => Ok(settled),
+        Err(fault) => Err(refusal(fault)),
+    }
 }
 
-/// The object that the bytes hold.
+/// The object that a tree holds.
+///
+/// Err says that the tree does not conform, where, and which rule it breaks; or that memory ran out.
+#[tactic(auto, using(crate::proofs::Refusals::not_conforming))]
 pub fn read_object<T: FromNode + Drop>(
     alloc: Global,
-    layout: Layout,
-    bytes: &[u8],
+    node: Node,
     steps: &mut Steps,
 ) -> Result<T, RunFault>
-    ensures ok { IfOk result (λ x. IsTextOf layout bytes.now (λ t. (conforms final_tables T.kind t ≡ true)
-        × (form final_tables T.kind t ≡ T.form_of x))) }
-    ensures err { IfErr result (Explains layout T.kind bytes.now) }
+    ensures ok { IfOk result (λ x. (conforms final_tables T.kind node ≡ true)
+        × (form final_tables T.kind node ≡ T.form_of x)) }
+    ensures err { IfErr result (IsFaultOf T.kind node) }
 {
-    let node = read_tree(alloc, layout, bytes)?;
-    object_of_tree(alloc, &node, steps)
+    match T::from_node(alloc, &node, steps) {
+        Ok(object) => Ok(object),
+        Err(fault) => Err(refusal(fault)),
+    }
 }
 
 /// A refusal of a tree, with want of memory apart.
@@ -127,19 +132,6 @@ fn refusal(fault: Fault) -> RunFault
     }
 }
 
-/// The object that a tree is read as.
-#[tactic(auto, using(crate::proofs::Refusals::not_conforming))]
-fn object_of_tree<T: FromNode>(alloc: Global, node: &Node, steps: &mut Steps) -> Result<T, RunFault>
-    ensures ok { IfOk result (λ x. (conforms final_tables T.kind node.now ≡ true)
-        × (form final_tables T.kind node.now ≡ T.form_of x)) }
-    ensures err { IfErr result (λ e. (e ≡ RunFault.Memory) ⊎ IsRefusalOf T.kind node.now e) }
-{
-    match T::from_node(alloc, node, steps) {
-        Ok(object) => Ok(object),
-        Err(fault) => Err(refusal(fault)),
-    }
-}
-
 /// The tree that an object is written as, for which it is taken.
 fn tree_of_object<T: IntoNode>(alloc: Global, object: T) -> Result<Node, RunFault>
     ensures ok { IfOk result (λ n. n ≡ print final_tables T.FromNode.kind (T.FromNode.form_of object)) }
@@ -148,22 +140,5 @@ fn tree_of_object<T: IntoNode>(alloc: Global, object: T) -> Result<Node, RunFaul
     match object.into_node(alloc) {
         Ok(node) => Ok(node),
         Err(_) => Err(RunFault::Memory),
-    }
-}
-
-/// What a tree settles to as a `T`.
-#[tactic(auto, using(crate::proofs::Refusals::not_conforming))]
-fn settle_tree<T: ToNode + Drop>(
-    alloc: Global,
-    node: &Node,
-    steps: &mut Steps,
-) -> Result<Node, RunFault>
-    ensures ok { IfOk result (λ n. (conforms final_tables T.FromNode.kind node.now ≡ true)
-        × (n ≡ settled T.FromNode.kind node.now)) }
-    ensures err { IfErr result (λ e. (e ≡ RunFault.Memory) ⊎ IsRefusalOf T.FromNode.kind node.now e) }
-{
-    match T::settle(alloc, node, steps) {
-        Ok(settled) => Ok(settled),
-        Err(fault) => Err(refusal(fault)),
     }
 }

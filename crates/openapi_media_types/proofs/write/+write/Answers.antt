@@ -113,13 +113,13 @@ write_encoding-returns t c =
     subst (λ fs. WrittenAs (by encoding) (fields plain (forms_of fs)) c.whole_object.result) (sym (encoding_rows-out x))
     (c.whole_object.ensures encoding (encoding_fields x) c.encoding_members.ensures)
 
-pub header_members-put_optional-requires-clause-before : goal.header_members-put_optional-requires-clause-before
+pub header_members-write_rows-put_optional-requires-clause-before : goal.header_members-write_rows-put_optional-requires-clause-before
 unfolding final_tables tables_with
-header_members-put_optional-requires-clause-before t c = none_written final_tables c.new-out.result c.new-out.ensures
+header_members-write_rows-put_optional-requires-clause-before t c = none_written final_tables c.new-out.result c.new-out.ensures
 
-pub media_type_members-put_optional-requires-clause-before : goal.media_type_members-put_optional-requires-clause-before
+pub media_type_members-write_rows-put_optional-requires-clause-before : goal.media_type_members-write_rows-put_optional-requires-clause-before
 unfolding final_tables tables_with
-media_type_members-put_optional-requires-clause-before t c = none_written final_tables c.new-out.result c.new-out.ensures
+media_type_members-write_rows-put_optional-requires-clause-before t c = none_written final_tables c.new-out.result c.new-out.ensures
 
 pub encoding_members-put_nullable-requires-clause-before : goal.encoding_members-put_nullable-requires-clause-before
 unfolding final_tables tables_with

@@ -1,5 +1,5 @@
 -- The rows that parameters of all places have, at the head of the table of each place.
-use Rattle.std.proofs.Common.{◌≡◌, List, [], ◌∷◌, drop, refl, sym, ap, ◌∙◌, subst, inl, inr}
+use Rattle.std.proofs.Common.{◌≡◌, ℕ, ◌*◌, List, [], ◌∷◌, drop, Err, refl, sym, ap, ◌∙◌, subst, inl, inr}
 use Rattle.openapi_node.specs.Place.{Place}
 use Rattle.openapi_node.specs.Tree.{object, Members}
 use Rattle.openapi_node.specs.declared.fault.Fault.{Fault}
@@ -7,13 +7,15 @@ use Rattle.openapi_tables.specs.Prelude.{Row, TableName, by, parameter_data, eac
 use Rattle.openapi_tables.specs.Prelude.{of_members, final_tables, checked_rows, Form, tree_of_root, Asking, Cause}
 use Rattle.openapi_tables.specs.Prelude.{asked, asks_rows, causes, root_asks, row_misses, Among, AreRows, Broken}
 use Rattle.openapi_tables.specs.Prelude.{asking}
+use Rattle.openapi_tables.specs.ByRow.{rows_weight}
 use Rattle.openapi_tables.proofs.ByRowLaws.{among_left, broken_root}
 use Rattle.openapi_tables.proofs.ListLaws.{join_assoc}
 use Rattle.openapi_tables.proofs.TreeLaws.{tree_of_root-seen}
-use Rattle.openapi_fields.specs.Returned.{Fails}
+use Rattle.openapi_fields.specs.Reading.{IsCaseRead}
+use Rattle.openapi_fields.specs.Returned.{Fails, RisesBy}
 use Rattle.openapi_fields.proofs.Referring.{fails_moved}
 use Rattle.openapi_fields.proofs.JoinedRows.{asks_join, rows_join}
-use Rattle.openapi_parameters.specs.Parameters.{parameter_data_rows}
+use Rattle.openapi_parameters.specs.Parameters.{parameter_data_rows, parameter_rows, parameter_word}
 use Rattle.openapi_parameters.specs.declared.parameter_data.ParameterData.{ParameterData}
 
 -- what rows miss they miss one after another
@@ -72,8 +74,12 @@ module _ (i j : TableName) (ws : List Row) (begins : final_tables i ≡ join (fi
 module _ (i : TableName) (begins : final_tables i ≡ join (final_tables parameter_data) (drop 9 (final_tables i)))
     (ms : Members) where
   -- a refusal by the rows that parameters of all places have is one by the whole table
-  pub data_fails : (f : Fault) → Fails f (by parameter_data) (object ms) → Fails f (by i) (object ms)
-  data_fails f h = head_fails i parameter_data (drop 9 (final_tables i)) begins ms f h
+  pub data_refused : (f : Fault) {tag : List ℕ} {old new : ℕ} → Fails f (by parameter_data) (object ms)
+      → RisesBy old new (3 * rows_weight (final_tables i) ms)
+      → IsCaseRead parameter_word parameter_rows (Err f) tag i ms old new
+  data_refused f h rises =
+      let refused = head_fails i parameter_data (drop 9 (final_tables i)) begins ms f h in
+      record { reads = refused; word = tt; count = rises }
 
   -- what those rows read, and what the other rows read behind it, is what the whole table reads
   pub data_reads : (d : ParameterData) (fs : List Form)

@@ -7,7 +7,6 @@ use Rattle.openapi_fields.proofs.Below.{wrong_view}
 use Rattle.openapi_fields.proofs.Tagging.{not_tagged, parameter_sound, tag_weight, tagged_read}
 use Rattle.openapi_parameters.specs.Parameters.{parameter_cases, parameter_location_word, parameter_locations}
 use Rattle.openapi_parameters.specs.Parameters.{parameter_rows, parameter_word}
-use Rattle.openapi_parameters.specs.declared.location.ParameterLocation.TheVariants as locations
 use Rattle.openapi_parameters.proofs.parameter.ParameterFromNode.from_view.Goals as goal
 
 pub returns-in_default : goal.returns-in_default

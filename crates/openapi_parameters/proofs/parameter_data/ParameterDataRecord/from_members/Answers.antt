@@ -1,6 +1,6 @@
 use Rattle.std.proofs.Common.{refl}
 use Rattle.std.proofs.lemmas.Result.{err_from_is_err_and}
-use Rattle.openapi_tables.specs.Prelude.{by, parameter_data, final_tables, tables_with}
+use Rattle.openapi_tables.specs.Prelude.{parameter_data, final_tables, tables_with}
 use Rattle.openapi_parameters.proofs.parameter_data.ParameterDataRecord.from_members.Goals as goal
 
 pub returns-in_err-read_format-clause-reads : goal.returns-in_err-read_format-clause-reads

@@ -73,9 +73,9 @@ write_callback-returns t c =
     subst (λ fs. WrittenAs (by callback_object) (fields plain (forms_of fs)) c.whole_object.result)
     (sym (callback_rows-out x)) (c.whole_object.ensures callback_object (callback_fields x) c.callback_members.ensures)
 
-pub path_item_members-put_optional-requires-clause-before : goal.path_item_members-put_optional-requires-clause-before
+pub path_item_members-write_rows-put_optional-requires-clause-before : goal.path_item_members-write_rows-put_optional-requires-clause-before
 unfolding final_tables tables_with
-path_item_members-put_optional-requires-clause-before t c = none_written final_tables c.new-out.result c.new-out.ensures
+path_item_members-write_rows-put_optional-requires-clause-before t c = none_written final_tables c.new-out.result c.new-out.ensures
 
 pub operation_members-put_before_callbacks-requires : goal.operation_members-put_before_callbacks-requires
 operation_members-put_before_callbacks-requires t c = none_written final_tables c.new-out.result c.new-out.ensures

@@ -72,11 +72,7 @@ pub fn rewrite(
 }
 
 /// The cleaned tree.
-fn cleaned_tree<T: IntoNode>(
-    alloc: Global,
-    node: Node,
-    steps: &mut Steps,
-) -> Result<Node, RunFault>
+fn cleaned_tree<T: IntoNode>(alloc: Global, node: Node, steps: &mut Steps) -> Result<Node, RunFault>
     ensures ok { IfOk result (λ n. (conforms final_tables T.FromNode.kind node ≡ true)
         × (n ≡ clean final_tables T.FromNode.kind node)) }
     ensures err { IfErr result (IsFaultOf T.FromNode.kind node) }

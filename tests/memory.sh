@@ -69,7 +69,9 @@ else
       if [ "$sample $call" != 'refused to_node' ]; then count "$call" "$sample"; fi
     done
   done
-  for sample in schema document tag; do count into_node "$sample"; done
+  for sample in schema document tag; do
+    for call in from_owned_node into_node; do count "$call" "$sample"; done
+  done
   for call in ref_ boxed_item insert; do count "$call"; done
 fi
 echo "$all requests for memory were refused in all"

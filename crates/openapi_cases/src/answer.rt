@@ -6,7 +6,7 @@ use crate::functions::by_functions;
 use crate::row::Row;
 use crate::sorts::{operations, sort};
 use crate::table::{expected_of, full_object, other_objects};
-use crate::taken::taken;
+use crate::taken::{given, taken};
 use crate::texts::{by_name, in_order, ordered_text, position, pretty};
 use crate::types::of_type;
 use openapi_test_support::trees::tree;
@@ -58,20 +58,17 @@ fn typed(rt: &HostRuntime, command: &str, name: &str, node: &Node) -> Result<Str
     }
 }
 
-/// What a tree is cleaned to, by the type and, where there are some, by functions of its own.
+/// What a tree is cleaned to by the type, and by functions of its own or by a tree that is given up, where there is such
+/// a way.
 fn clean(rt: &HostRuntime, name: &str, node: &Node) -> Result<String, Fail> {
     let answer = of_type(rt, name, Ask::Clean(node))?;
-    match by_functions(rt, name, node) {
+    match by_functions(rt, name, node).or(given(rt, name, node)) {
         Some(written) => {
             let other = told(rt, written)?;
             if other.as_str() == answer.as_str() {
                 Ok(answer)
             } else {
-                Ok(format!(in rt.alloc();
-                    "{}by its functions {}",
-                    answer.as_str(),
-                    other.as_str()
-                )?)
+                Ok(format!(in rt.alloc(); "{}another way {}", answer.as_str(), other.as_str())?)
             }
         }
         None => Ok(answer),

@@ -33,6 +33,12 @@ pub fn on_sample(rt: &HostRuntime, call: &str, sample: Sample) -> Result<Told, F
         "json_from_node_in_order" => nodes::json_from_node_in_order(rt, sample.text()),
         "pretty_from_node_in_order" => nodes::pretty_from_node_in_order(rt, sample.text()),
         "position_of" => nodes::position_of(rt, sample.text()),
+        "from_owned_node" => match sample {
+            Sample::Schema => typed::from_owned_node::<Schema>(rt, sample),
+            Sample::Document => typed::from_owned_node::<OpenAPI>(rt, sample),
+            Sample::Tag => typed::from_owned_node::<Tag>(rt, sample),
+            _ => Err(Fail::new("no such call of this sample")),
+        },
         "into_node" => match sample {
             Sample::Schema => typed::into_node::<Schema>(rt, sample),
             Sample::Document => typed::into_node::<OpenAPI>(rt, sample),

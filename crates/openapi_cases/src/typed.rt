@@ -106,3 +106,18 @@ pub fn into_node<T: IntoNode>(rt: &HostRuntime, sample: Sample) -> Result<Told, 
     mark(alloc, Moment::CallEnds)?;
     told_by_tree(rt, answer, sample.cleaned())
 }
+
+/// Reads a tree that is given up. What was read is told by what is written of it.
+pub fn from_owned_node<T: ToNode + Drop>(rt: &HostRuntime, sample: Sample) -> Result<Told, Fail> {
+    let alloc = rt.alloc();
+    let node = tree(rt, sample.text())?;
+    let mut steps = Steps::new(rt);
+    mark(alloc, Moment::CallBegins)?;
+    let answer = T::from_owned_node(alloc, node, &mut steps);
+    mark(alloc, Moment::CallEnds)?;
+    let written = match answer {
+        Ok(value) => value.to_node(alloc),
+        Err(fault) => Err(fault),
+    };
+    told_by_tree(rt, written, sample.cleaned())
+}

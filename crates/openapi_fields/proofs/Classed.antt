@@ -12,6 +12,7 @@ use Rattle.openapi_tables.specs.Prelude.{Entry, Seen, Shape, of_tree, of_members
 use Rattle.openapi_tables.specs.Prelude.{name, Pair, named as named_form, named_of, form, root_form, key_in, pairs_as}
 use Rattle.openapi_tables.specs.Prelude.{gather, same_key, root_asks, asks_row, asks_members, Among}
 use Rattle.openapi_tables.specs.Prelude.{print, unwritable, is_written, is_class, row_where, rows_asked, row_conforms}
+use Rattle.openapi_tables.specs.ByRow.{RowGives}
 use Rattle.openapi_tables.specs.Prelude.{row_form, row_weight, weight, asking, StepsTo, Slot, slot_where, before}
 use Rattle.openapi_tables.specs.Prelude.{through, slots_apart, slots_lost, IsWritten, pairs_of}
 use Rattle.openapi_tables.proofs.ByRowLaws.{among_flat, rows_ask}
@@ -98,18 +99,23 @@ module _ (c : Class) (k : Kind) where
   module _ (test : List ℕ → Bool) (tests : (n : List ℕ) → test n ≡ in_class c n) (keys : (n : List ℕ) → key_in c n
       ≡ name n)
       {X : Type 0} (view : X → Form) where
-    -- what the class gives
-    pub class_gives : (r : Result (Entries X) Fault) (o : Kind) (ms : Entries Tree)
-        → row_where (is_class c) (rows_asked final_tables o) ≡ Some (class c k) → EntriesReadAs view r k (chosen test ms)
-        → RowReadAs (map_form view) r o (class c k) (members_of ms)
+    -- what the class gives, where the entries whose names pass the test were read
+    pub class_taken : (m : Entries X) (ms : Entries Tree) → EntriesReadAs view (Ok m) k (chosen test ms)
+        → RowGives final_tables (class c k) (members_of ms) (map_form view m)
     unfolding row_form
-    class_gives (Ok m) o ms at h =
+    class_taken m ms h =
         let same = chosen_same test (in_class c) tests ms in (
           class_conforms ms ∙ sym (ap (every (λ (e : List ℕ × Tree). conforms final_tables k e.1)) same) ∙ h.0,
           ap (λ l. named_form (named_of l)) (gathered keys (pairs_as (key_in c) k
               (own (class c k) (of_members (root_form final_tables) (members_of ms))))
               ∙ class_pairs keys ms ∙ sym (ap (pairs_of (form final_tables k)) same) ∙ h.1),
         )
+
+    -- the same, or a refusal
+    pub class_gives : (r : Result (Entries X) Fault) (o : Kind) (ms : Entries Tree)
+        → row_where (is_class c) (rows_asked final_tables o) ≡ Some (class c k) → EntriesReadAs view r k (chosen test ms)
+        → RowReadAs (map_form view) r o (class c k) (members_of ms)
+    class_gives (Ok m) o ms at h = class_taken m ms h
     class_gives (Err f) o ms at h =
         ⊎_elim (λ m. memory_fails f o (object (members_of ms)) m)
         (λ (x : (e : List ℕ × Tree) × Among e (chosen test ms) × FailsBelow (named e.0) f k e.1).

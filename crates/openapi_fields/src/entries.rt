@@ -37,6 +37,17 @@ pub fn read_entries<N: Names, T: FromNode + Drop>(
     Ok(values)
 }
 
+/// Keeps the members whose names are in a set, in order, and lets go of the others.
+pub(crate) fn keep_entries<N: Names>(members: &mut Members)
+    ensures { members.new ≡ chosen N.test members.old }
+{
+    members.retain(
+        |name: &str, node: &mut Node| -> bool
+            ensures { (result ≡ N.test name.now) × (node.new ≡ node.old) }
+        { N::contains(name) },
+    );
+}
+
 /// Writes entries whose names are all to be in a set, in order, behind the members that are there.
 pub fn put_entries<N: Names, T: ToNode>(
     alloc: Global,

@@ -33,7 +33,7 @@ mod to_node;
 mod words;
 mod writing;
 
-pub use classes::{class_entries, extensions, put_class, put_extensions};
+pub use classes::{class_entries, extensions, into_extensions, put_class, put_extensions};
 pub use either::{Either, decided, decider, put_first, put_second};
 pub use entries::{put_entries, read_entries};
 pub use from_node::FromNode;

@@ -172,6 +172,18 @@ impl Node {
         let _ = self.open(steps);
         self.shape
     }
+
+    /// The members of an object in their order, taken out of it after a look, which raises the count by one; or `None`
+    /// where the value is no object. It is gone then too.
+    pub fn into_object(self, steps: &mut Steps) -> Option<OrderedMap<Node>>
+        ensures held { option_map members_of result ≡ members_in self }
+        ensures counted { steps.new ≡ steps.old + 1 }
+    {
+        match self.take(steps) {
+            Shape::Object(members) => Some(members),
+            _ => None,
+        }
+    }
 }
 
 impl<'a> View<'a> {

@@ -111,7 +111,7 @@ pub fn read_object<T: FromNode + Drop>(
         × (form final_tables T.kind node ≡ T.form_of x)) }
     ensures err { IfErr result (IsFaultOf T.kind node) }
 {
-    match T::from_node(alloc, &node, steps) {
+    match T::from_owned_node(alloc, node, steps) {
         Ok(object) => Ok(object),
         Err(fault) => Err(refusal(fault)),
     }

@@ -50,6 +50,6 @@ pub fn from_json<T: FromNode>(
     ensures refuses { IfErr result (Explains T.kind bytes.now steps.old steps.new) }
 {
     let tree = node_from_json(alloc, bytes)?;
-    let value = T::from_node(alloc, &tree, steps)?;
+    let value = T::from_owned_node(alloc, tree, steps)?;
     Ok(value)
 }

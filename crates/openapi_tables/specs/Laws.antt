@@ -1,24 +1,25 @@
 -- The laws that the functions of `laws` carry.
-use Rattle.std.specs.Prelude.{not, ◌≤◌, ◌*◌, ℕ, Bool, true, false, ◌&&◌, ◌||◌, List, [], ◌∷◌, Some, ◌≡◌, ◌↔◌, ◌⊎◌, codes}
+use Rattle.std.specs.Prelude.{not, ◌≤◌, ◌*◌, ℕ, Bool, true, false, cond, ◌&&◌, ◌||◌, List, [], ◌∷◌, Some, None, ◌≡◌, ◌↔◌}
+use Rattle.std.specs.Prelude.{◌⊎◌, codes}
 use Rattle.openapi_tables.specs.Lists.{each, every, join, same_text, has}
 use Rattle.openapi_node.specs.Tree.{Tree, text, list, object, items_of, size_of}
 use Rattle.openapi_tables.specs.Tree.{members_of, Entry, on_entry}
 use Rattle.openapi_tables.specs.Kind.{Kind, by, xml_object, tagged, a_schema, a_schema_kind, ref_to, flag_or_schema}
-use Rattle.openapi_tables.specs.Kind.{Tables, Class, Code, class, list_of, map_of}
+use Rattle.openapi_tables.specs.Kind.{Tables, Class, Code, Row, Mode, row, either, class, list_of, map_of}
 use Rattle.openapi_tables.specs.Kind.{code_of, text_of, writable_code, takes, extensions, callback_names, path_names}
 use Rattle.openapi_tables.specs.Kind.{status_names, begins}
-use Rattle.openapi_tables.specs.Members.{Choice, choice, rows_of, held, kind_names, own}
+use Rattle.openapi_tables.specs.Members.{Choice, choice, rows_of, held, kind_names, own, is_null}
 use Rattle.openapi_tables.specs.Tables.{tables_before_callbacks, tables_before_xml, final_tables}
 use Rattle.openapi_tables.specs.Form.{Form, reference, name, coded}
 use Rattle.openapi_tables.specs.Read.{form}
-use Rattle.openapi_tables.specs.Print.{print, clean, again, members_in}
+use Rattle.openapi_tables.specs.Print.{print, clean, again, members_in, is_silent, one}
 use Rattle.openapi_tables.specs.Sound.{sound, tables_sound, type_kinds, tables_small}
 use Rattle.openapi_tables.specs.Stays.{stays}
 use Rattle.openapi_tables.specs.Proper.{is_written, proper, shaped}
 use Rattle.openapi_tables.specs.Unwritable.{unwritable}
 use Rattle.openapi_node.specs.Named.{well_named}
 use Rattle.openapi_tables.specs.Distinct.{distinct}
-use Rattle.openapi_tables.specs.Conforms.{conforms}
+use Rattle.openapi_tables.specs.Conforms.{conforms, text_in}
 use Rattle.openapi_tables.specs.Faults.{Asking, Cause, asked, causes}
 
 -- the three lists of tables are well made, and so are the kinds of the types
@@ -103,17 +104,50 @@ abbrev pub keeps_names : Class → Bool
 keeps_names status_names = false
 keeps_names _ = true
 
--- A map and a list are cleaned value by value, in their order. In an object the members of a class, such as its
--- extensions or its paths, are those that it had, each cleaned, in their order.
+-- the members of a cleaned object that a row writes
+abbrev pub cleaned_by : (T : Tables) → Kind → Row → List (Entry Tree) → List (Entry Tree)
+cleaned_by T k w es = own w (members_in (clean T k (object (members_of es))))
+
+-- a row of the object that a kind reads by a choice, over tables and a kind that are well made
+abbrev pub IsRowOf : (T : Tables) → Kind → Choice → List (Entry Tree) → Row → Type 0
+IsRowOf T k c es w =
+    (tables_sound T ≡ true) × (sound T k ≡ true) × (choice k es ≡ Some c) × Among w (rows_of T k c)
+
+-- an object that is no reference is cleaned as its kind without references
+abbrev pub ItemsKept : Type 0
+ItemsKept = (T : Tables) (k : Kind) (es : List (Entry Tree)) → text_in (held (codes "$ref") es) ≡ None
+    → clean T k (object (members_of es)) ≡ clean T (item_kind k) (object (members_of es))
+
+-- the members of a class, such as extensions or paths, are each cleaned, in their order
+abbrev pub ClassesKept : Type 0
+ClassesKept = (T : Tables) (k : Kind) (c : Choice) (es : List (Entry Tree)) (n : Class) (j : Kind)
+    → IsRowOf T k c es (class n j) → keeps_names n ≡ true
+    → cleaned_by T k (class n j) es ≡ each (on_entry (clean T j)) (own (class n j) es)
+
+-- a member under a name is cleaned under that name, where its row writes it
+abbrev pub NamesKept : Type 0
+NamesKept = (T : Tables) (k : Kind) (c : Choice) (es : List (Entry Tree)) (n : List ℕ) (m : Mode) (j : Kind)
+    (e : Entry Tree) (others : List (Entry Tree))
+    → IsRowOf T k c es (row n m j) → own (row n m j) es ≡ e ∷ others → is_null e.value ≡ false
+    → cleaned_by T k (row n m j) es ≡ cond (is_silent m (form T j e.value)) [] (one n (clean T j e.value))
+
+-- of two names of which the first decides, the member that decides is cleaned under its name
+abbrev pub DecidersKept : Type 0
+DecidersKept = (T : Tables) (k : Kind) (c : Choice) (es : List (Entry Tree)) (a b : List ℕ) (i j : Kind)
+    (e : Entry Tree) (others : List (Entry Tree))
+    → IsRowOf T k c es (either a i b j) → own (either a i b j) es ≡ e ∷ others
+    → cleaned_by T k (either a i b j) es ≡ one e.name (clean T (cond (same_text a e.name) i j) e.value)
+
+-- A map and a list are cleaned value by value, in their order. In an object that is no reference each member that is
+-- read and written is cleaned by the kind of its row, and those of a class stay in their order. So these six lead
+-- from a document to any value in it.
 abbrev pub OrderKept : Type 0
 OrderKept =
     ((T : Tables) (k : Kind) (es : List (Entry Tree))
     → clean T (map_of k) (object (members_of es)) ≡ object (members_of (each (on_entry (clean T k)) es)))
     × ((T : Tables) (k : Kind) (ts : List Tree)
     → clean T (list_of k) (list (items_of ts)) ≡ list (items_of (each (clean T k) ts)))
-    × ((T : Tables) (k : Kind) (c : Choice) (es : List (Entry Tree)) (n : Class) (j : Kind) → tables_sound T ≡ true
-    → sound T k ≡ true → choice k es ≡ Some c → Among (class n j) (rows_of T k c) → keeps_names n ≡ true
-    → own (class n j) (members_in (clean T k (object (members_of es)))) ≡ each (on_entry (clean T j)) (own (class n j) es))
+    × ItemsKept × ClassesKept × NamesKept × DecidersKept
 
 -- what was read is read again from what it is written as, exactly when it stays
 abbrev pub FirstValue : Type 0

@@ -46,9 +46,13 @@ pub fn order()
     ensures { Order }
 {}
 
-/// A map and a list are cleaned value by value, in their order. The extensions of an object, its paths and the names of
-/// a callback are in the cleaned object those that it had, each cleaned, in their order. Status codes are left out: of a
-/// code that comes again the later value stands in the earlier place.
+/// States that cleaning keeps order, step by step from a document to any value in it.
+///
+/// A map and a list are cleaned value by value, in their order. An object that is no reference is cleaned as its kind
+/// without references. In an object the extensions, the paths and the names of a callback are those that it had, each
+/// cleaned, in their order; a member under a name is cleaned under that name, where its row writes it; and so is the
+/// one of two names that decides. Status codes are left out: of a code that comes again the later value takes the
+/// earlier place.
 pub fn order_kept()
     ensures { OrderKept }
 {}

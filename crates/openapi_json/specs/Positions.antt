@@ -33,8 +33,8 @@ value_at text p = option_and_then (json_at p) (parsed text)
 
 -- ---- how many tokens of a value come before one inside it
 
--- How many tokens of members come before the value of the last member of a name. The first token is the name of the first
--- member. Where the name comes again behind that member, the tokens of its value and those of later members come before too.
+-- How many tokens of members come before the value of the last member of a name. The name of the first member is one of them.
+-- Where the name comes in a later member, the tokens of the first member's value and those among the later ones come before too.
 abbrev pub before_member : List ℕ → Members → ℕ
 before_member name no_members = 0
 before_member name (member k j ms) =
@@ -114,9 +114,10 @@ pub record BeginsAt (text : List ℕ) (p : Point) (ts : List Token) : Type 0 whe
   pub point : IsBehind (take p.offset text) p
   pub tokens : tokens (drop p.offset text) ≡ ts
 
--- The text has a value at a place, and this is the position of its first token, by the number of tokens before it. Where the
--- place ends with a name, the name is the token just before. From there on the tokens of the text are those of the value
--- (behind its name), and more.
+-- The text has a value at a place, and this is the position of it and of no other: the point of its first token, found by the
+-- number of the tokens before it. Where the place ends with a name, the position has the point of the token before that one too,
+-- which is the name. Each token of the text has an offset. From the point on the tokens of the text are those of the value, and
+-- more; from the point of the name on they are the name, and these.
 pub record StandsAt (text : List ℕ) (p : Place) (it : Position) : Type 0 where
   pub utf8 : IsUtf8 text
   pub value : Json

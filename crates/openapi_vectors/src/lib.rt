@@ -24,6 +24,8 @@ mod readme;
 #[cfg(test)]
 mod readme_tests;
 #[cfg(test)]
+mod refused;
+#[cfg(test)]
 mod values;
 #[cfg(test)]
 mod walked;

@@ -8,6 +8,8 @@ mod built;
 #[cfg(test)]
 mod compared;
 #[cfg(test)]
+mod extended;
+#[cfg(test)]
 mod iterators;
 #[cfg(test)]
 mod listed;

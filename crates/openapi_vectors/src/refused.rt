@@ -1,24 +1,16 @@
 //! Objects inside others whose extension can't be written, since its name lacks the prefix `x-`: the refusal names the
 //! whole location. Each object is built, and not read, so that it can have such an extension.
 
-use crate::built::{
-    check_built, coded, document_of, document_of_paths, extension, responses_of, schema_of,
-};
+use crate::built::{check_built, coded, document_of, document_of_paths, responses_of};
+use crate::extended::{data_of, with_extension};
 use openapi_test_support::trees::map_with;
 use openapiv3::{
-    AnySchema, Components, Encoding, Header, HeaderStyle, MediaType, Node, OpenAPI, Operation,
-    OrderedMap, Parameter, ParameterData, ParameterSchemaOrContent, PathItem, PathStyle, Paths,
-    ReferenceOr, Response, Responses, Schema, SchemaData, SchemaKind, StatusCode, Xml,
+    AnySchema, Components, Content, Encoding, Header, MediaType, OpenAPI, Operation, OrderedMap,
+    Parameter, PathItem, PathStyle, Paths, ReferenceOr, Response, Responses, Schema, SchemaData,
+    SchemaKind, StatusCode, Xml,
 };
 use std::alloc::Global;
 use std::test::Fail;
-
-/// Returns an XML object with these extensions.
-fn xml_of(alloc: Global, extensions: OrderedMap<Node>) -> Xml {
-    let mut xml = Xml::new(alloc);
-    xml.extensions = extensions;
-    xml
-}
 
 /// Returns a schema with this XML object.
 fn schema_of_xml(alloc: Global, xml: Xml) -> Schema {
@@ -32,8 +24,7 @@ fn schema_of_xml(alloc: Global, xml: Xml) -> Schema {
 
 /// Returns a schema with an XML object that has an extension of this name.
 fn schema_with_xml(rt: &HostRuntime, name: &str) -> Result<Schema, Fail> {
-    let extensions = extension(rt, name)?;
-    Ok(schema_of_xml(rt.alloc(), xml_of(rt.alloc(), extensions)))
+    Ok(schema_of_xml(rt.alloc(), with_extension(rt, name)?))
 }
 
 #[test]
@@ -46,14 +37,13 @@ fn extensions_of_xml_objects_need_their_prefix(rt: HostRuntime) -> Result<(), Fa
 
 /// Returns a reference or item that is a schema with an extension of this name.
 fn item_with(rt: &HostRuntime, name: &str) -> Result<ReferenceOr<Schema>, Fail> {
-    let extensions = extension(rt, name)?;
-    Ok(ReferenceOr::Item(schema_of(rt.alloc(), extensions)))
+    Ok(ReferenceOr::Item(with_extension(rt, name)?))
 }
 
 /// Returns the same with the schema in a box.
 fn boxed_with(rt: &HostRuntime, name: &str) -> Result<ReferenceOr<Box<Schema>>, Fail> {
-    let extensions = extension(rt, name)?;
-    Ok(ReferenceOr::boxed_item(rt.alloc(), schema_of(rt.alloc(), extensions))?)
+    let schema = with_extension(rt, name)?;
+    Ok(ReferenceOr::boxed_item(rt.alloc(), schema)?)
 }
 
 /// Returns a schema of what another is not.
@@ -85,20 +75,6 @@ fn extensions_need_their_prefix_in_items_and_boxes(rt: HostRuntime) -> Result<()
     check_built(&rt, not_with(&rt, "x-foo"), wanted)
 }
 
-/// Returns a header with these extensions.
-fn header_of(alloc: Global, extensions: OrderedMap<Node>) -> Header {
-    Header {
-        description: None,
-        style: HeaderStyle::Simple,
-        required: false,
-        deprecated: None,
-        example: None,
-        format: ParameterSchemaOrContent::Content(OrderedMap::new(alloc)),
-        examples: OrderedMap::new(alloc),
-        extensions,
-    }
-}
-
 /// Returns a response with these headers.
 fn response_of(alloc: Global, headers: OrderedMap<ReferenceOr<Header>>) -> Response {
     let mut response = Response::new(alloc);
@@ -108,8 +84,7 @@ fn response_of(alloc: Global, headers: OrderedMap<ReferenceOr<Header>>) -> Respo
 
 /// Returns a response whose header `H` has an extension of this name.
 fn response_with(rt: &HostRuntime, name: &str) -> Result<Response, Fail> {
-    let header = header_of(rt.alloc(), extension(rt, name)?);
-    let headers = map_with(rt, "H", ReferenceOr::Item(header))?;
+    let headers = map_with(rt, "H", ReferenceOr::Item(with_extension(rt, name)?))?;
     Ok(response_of(rt.alloc(), headers))
 }
 
@@ -184,13 +159,6 @@ fn extensions_need_their_prefix_in_operations(rt: HostRuntime) -> Result<(), Fai
     check_built(&rt, document_with_paths(&rt, "x-foo"), wanted)
 }
 
-/// Returns an encoding with these extensions.
-fn encoding_of(alloc: Global, extensions: OrderedMap<Node>) -> Encoding {
-    let mut encoding = Encoding::new(alloc);
-    encoding.extensions = extensions;
-    encoding
-}
-
 /// Returns a media type with these encodings.
 fn media_type_of(alloc: Global, encodings: OrderedMap<Encoding>) -> MediaType {
     let mut media_type = MediaType::new(alloc);
@@ -200,25 +168,14 @@ fn media_type_of(alloc: Global, encodings: OrderedMap<Encoding>) -> MediaType {
 
 /// Returns a media type whose encoding of `e` has an extension of this name.
 fn media_type_with(rt: &HostRuntime, name: &str) -> Result<MediaType, Fail> {
-    let encoding = encoding_of(rt.alloc(), extension(rt, name)?);
-    let encodings = map_with(rt, "e", encoding)?;
+    let encodings = map_with(rt, "e", with_extension(rt, name)?)?;
     Ok(media_type_of(rt.alloc(), encodings))
 }
 
 /// Returns a parameter in a path with this content.
-fn parameter_of(alloc: Global, content: OrderedMap<MediaType>) -> Parameter {
+fn parameter_of(alloc: Global, content: Content) -> Parameter {
     Parameter::Path {
-        parameter_data: ParameterData {
-            name: String::new(alloc),
-            description: None,
-            required: false,
-            deprecated: None,
-            example: None,
-            examples: OrderedMap::new(alloc),
-            explode: None,
-            extensions: OrderedMap::new(alloc),
-            format: ParameterSchemaOrContent::Content(content),
-        },
+        parameter_data: data_of(alloc, content, OrderedMap::new(alloc)),
         style: PathStyle::Simple,
     }
 }

@@ -64,7 +64,7 @@ if [ $# -gt 0 ]; then
 else
   for sample in schema responses refused document operation tag; do
     for call in from_value copy clone to_value into_value node_from_json json_from_node node_from_json_in_order \
-      json_from_node_in_order pretty_from_node_in_order position_of from_node settle to_node; do
+      json_from_node_in_order pretty_from_node_in_order position_of position_below from_json from_node settle to_node; do
       # (the refused one is never an object that could be written)
       if [ "$sample $call" != 'refused to_node' ]; then count "$call" "$sample"; fi
     done
@@ -72,7 +72,7 @@ else
   for sample in schema document tag; do
     for call in from_owned_node into_node; do count "$call" "$sample"; done
   done
-  for call in ref_ boxed_item insert; do count "$call"; done
+  for call in ref_ boxed_item insert entry extend collect; do count "$call"; done
 fi
 echo "$all requests for memory were refused in all"
 echo "$passed passed, $failed failed"

@@ -68,6 +68,23 @@ ROWS = [
         b'"owner":{"$ref":"#/components/schemas/Owner"}},"required":["name"],"type":"object","x-table":"pets"}\n',
         b"",
     ),
+    # an empty list is a present member when the kind is chosen, and is not written
+    (
+        "a schema of no kind in particular",
+        ["schema"],
+        b'{"type":"integer","exclusiveMinimum":false,"required":[]}',
+        0,
+        b'{"exclusiveMinimum":false,"type":"integer"}\n',
+        b"",
+    ),
+    (
+        "a schema with an XML object",
+        ["schema"],
+        b'{"type":"string","xml":{"name":"n","attribute":true,"wrapped":false}}',
+        0,
+        b'{"type":"string","xml":{"attribute":true,"name":"n"}}\n',
+        b"",
+    ),
     ("the example of a document", ["document"], example("petstore"), 0, cleaned_petstore(), b""),
     ("the example of a document, settled", ["settle"], example("petstore"), 0, cleaned_petstore(), b""),
     (
@@ -100,6 +117,7 @@ ROWS = [
     ("a tag with no name", ["tag"], b"{}", 1, b"", b"missing field `name` at #\n"),
     ("a fault further in", ["tag"], b'{"name":"t","externalDocs":{}}', 1, b"", b"missing field `url` at #/externalDocs\n"),
     ("a number that is not whole", ["tag"], b'{"name":"t","x-n":[1,0.5]}', 1, b"", b"number not whole at #/x-n/1\n"),
+    ("a schema with a fraction", ["schema"], b'{"type":"number","multipleOf":0.5}', 1, b"", b"number not whole at #/multipleOf\n"),
     ("a schema of another kind", ["schema"], b"[]", 1, b"", b"invalid type, expected object at #\n"),
     ("no JSON", ["tag"], b'{"name":', 2, b"", b"not JSON\n"),
     ("no UTF-8", ["tag"], b'{"name":"\xff"}', 2, b"", b"not JSON\n"),

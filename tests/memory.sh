@@ -6,12 +6,17 @@
 # that it is made of, and its sort of few does without the room that it asks for. The last line is `N passed, M failed`, in
 # which each call on a tree counts once.
 #
-# usage: tests/memory.sh [CALL [SAMPLE]]      (with none: each call)
+# usage: tests/memory.sh [--unproved] [CALL [SAMPLE]]      (with none: each call)
 #
-# The program is the one that `./check` or `rt run` in crates/openapi_cases made.
+# The program is the one that `bin/prove.py openapi_cases` built; with --unproved the one that `bin/unproved.py openapi_cases`
+# built.
 set -eu
 top=$(cd "$(dirname "${BASH_SOURCE[0]}")/.." && pwd)
 program=$top/crates/openapi_cases/out/openapi_cases
+if [ "${1:-}" = --unproved ]; then
+  program=$program.unproved
+  shift
+fi
 if [ ! -x "$program" ]; then
   printf 'FAILED: %s is not built\n0 passed, 1 failed\n' "$program"
   exit 1

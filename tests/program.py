@@ -1,7 +1,7 @@
 #!/usr/bin/env python3
 """Runs the built programs as a person does, and compares their exit status, standard output and standard error.
 
-usage: tests/program.py [PROGRAM [ORDER]]      (with none: those that `./check` made, `openapi_clean` and `openapi_order`)
+usage: tests/program.py [PROGRAM [ORDER]]      (by default `openapi_clean` and `openapi_order` as `bin/prove.py` built them)
 
 The contracts say what is written for which bytes, which words are a command, and which status each end of a run has.
 What they can't say stands here: that `main` hands the real arguments and streams on and ends with that status, what is
@@ -187,7 +187,7 @@ ORDER_ROWS = [
 
 
 def outcome(program, arguments, **streams):
-    ran = subprocess.run([program, *arguments], stderr=subprocess.PIPE, timeout=60, **streams)
+    ran = subprocess.run([program, *arguments], stderr=subprocess.PIPE, timeout=300, **streams)
     return ran.returncode, ran.stdout, ran.stderr
 
 

@@ -51,7 +51,7 @@ def main():
             print(f"FAILED: {what.strip()}")
 
     def run(*words, **more):
-        env = {**os.environ, "PATH": f"{room}/tools:{os.environ['PATH']}", "OPENAPI_CLEAN_QUIET": "", "REFUSED": "", **more}
+        env = {**os.environ, "PATH": f"{room}/tools:{os.environ['PATH']}", "OPENAPI_CLEAN_QUIET": "", "REFUSED": "", "CI": "", **more}
         return subprocess.run(words, cwd=copy, env=env, stdin=subprocess.DEVNULL, stdout=subprocess.PIPE, stderr=subprocess.STDOUT, text=True)
 
     def answers(text, what):
@@ -81,6 +81,8 @@ def main():
         ran = run("bin/prove.py", "openapi_clean", REFUSED="openapi_node")
         check("a crate that is not proved fails the run", ran.returncode == 1 and ran.stdout.endswith("\n7 passed, 1 failed\n"))
         check("its errors are printed, with the paths of the repository", f"{copy}/crates/openapi_node/src/lib.rt:1:1: error\n" in ran.stdout)
+        ran = run("bin/prove.py", "openapi_clean", CI="true")
+        check("some crates are not enough for a merge", ran.returncode == 1 and ran.stdout.endswith("\n0 passed, 1 failed\n"))
         ran = run("bin/prove.py", "openapi_nothing")
         check("a crate that is none fails the run", ran.returncode == 1 and ran.stdout.endswith("\n0 passed, 1 failed\n"))
 

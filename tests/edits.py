@@ -26,7 +26,8 @@ its name, a hash of what the verdict rests on, and the reason, in one of these w
 - `twin REASON`: it is refused for this reason, and the crate with its twin is proved.
 - `proof`: a proof file does not check for itself, since it names what the mutation took away.
 - `limit`: the prover met a limit of its own, or its search did at each goal.
-- `function`: the mutation adds a function, so the refusal may tell of what the contract of that one leaves out.
+- `shape`: the mutation adds a function or a loop, so the refusal may tell of what the contract of that function leaves out, or
+  of an invariant that the loop has not.
 The last three are no refusals: the mutation is rewritten, or gets a twin. Without a reason a verdict counts for nothing.
 
 Mutations are expensive, so each is tried when what its verdict rests on has changed. The second line of `edits/verdicts` is that
@@ -74,6 +75,8 @@ REFUSED = ("goal", "lemma", "twin")
 LOWEST = ("openapi_json", "openapi_map", "openapi_node", "openapi_tables", "openapi_values")
 # A line of a source that no proof sees: a comment, or a hint on inlining.
 UNSEEN = re.compile(r"\s*(?://.*|#\[(?:inline(?:\((?:never|always)\))?|cold)\])?\s*")
+# A function or a loop.
+SHAPE = re.compile(r"\bfn \w+|\bfor [^{;]* in |\bwhile |\bloop \{")
 # How an item of a source begins, behind its attributes: what it is, and its name.
 BEGINS = re.compile(
     r" *(?:pub(?:\([\w: ]+\))? |unsafe |const (?=fn)|ghost (?=use))*"
@@ -116,10 +119,10 @@ class Edit:
                 lines.append(line)
         return Edit(self.name, lines) if lines != self.lines else None
 
-    def adds_function(self):
-        """Returns whether it adds a function."""
-        functions = lambda at: {name for pair in self.pairs() for name in re.findall(r"\bfn (\w+)", pair[at])}
-        return not functions(2) <= functions(1)
+    def adds_shape(self):
+        """Returns whether it adds a function or a loop."""
+        shapes = lambda at: {it for pair in self.pairs() for it in SHAPE.findall(pair[at])}
+        return not shapes(2) <= shapes(1)
 
     def applied(self, files):
         """Returns the files that it changes, as it leaves them; or None, where a text that it replaces doesn't stand once."""
@@ -531,7 +534,7 @@ class Copy:
         if reason and twin:
             is_proved = (self.said([twin]) or (1, ""))[0] == 0
             return (f"twin {reason}", line) if is_proved else (None, "its twin is refused too")
-        return ("function" if reason and edit.adds_function() else reason), line
+        return ("shape" if reason and edit.adds_shape() else reason), line
 
 
 class Trial:

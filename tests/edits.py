@@ -47,13 +47,14 @@ several functions, ..) rests on all sources, specs and proofs of the crate. Othe
 Mutations are tried by `rt check`, in a copy of the crate with what a check of it left. Mutations of different functions are
 tried together: each of these functions has to be refused for itself, at a place in its body or in its own proof (in that of its
 cycle, at a goal of its own). One that is not refused so is tried by itself, and at last from nothing. What makes a text that
-the prover can't read, or that breaks a rule of the language, is not refused. What came of each mutation is kept in the crate's
-out/edits, so that a run that was ended goes on where it stopped. The last line is `N passed, M failed`, and counts mutations.
+the prover can't read, or that breaks a rule of the language, is not refused. A verdict is kept as soon as it is known, so that a
+run that was ended goes on where it stopped. The last line is `N passed, M failed`, and counts mutations.
 
 Lines of a source that are a comment count for no hash, nor do those that say no more than how a function is to be inlined:
 they are hints to the compiler that makes a program of what is proved. No proof sees either.
 """
 import argparse
+import fcntl
 import hashlib
 import itertools
 import os
@@ -321,14 +322,21 @@ def verdicts(kit):
     return kit, {}
 
 
-def record(kit, came):
-    """Keeps the hashes and the reasons of these mutations. Those of the others stand."""
-    before, found = verdicts(kit)
+def record(kit, name, whole, reason):
+    """Keeps the hash of what the verdict on a mutation rests on, and the reason. The other verdicts stay."""
     known = {it.name for crate in crates_with_edits() for it in edits_of(crate)}
-    lines = [f"{name} {' '.join(verdict)}\n" for name, verdict in sorted((found | came).items()) if name in known]
-    with open(f"{VERDICTS}.new", "w") as it:
-        it.write(HEAD + before + "\n" + "".join(lines))
-    os.replace(f"{VERDICTS}.new", VERDICTS)
+    folder = os.open(os.path.dirname(VERDICTS), os.O_RDONLY)
+    try:
+        # (runs for other crates write the same file)
+        fcntl.flock(folder, fcntl.LOCK_EX)
+        before, found = verdicts(kit)
+        found[name] = whole, reason
+        lines = [f"{it} {' '.join(verdict)}\n" for it, verdict in sorted(found.items()) if it in known]
+        with open(f"{VERDICTS}.new", "w") as it:
+            it.write(HEAD + before + "\n" + "".join(lines))
+        os.replace(f"{VERDICTS}.new", VERDICTS)
+    finally:
+        os.close(folder)
 
 
 def is_refusal(reason):
@@ -343,7 +351,7 @@ def due_of(crate, found):
     for it in edits:
         whole, *reason = found.get(it.name, ("",))
         if whole != sources.hash_of(it) or it.applied(sources.files) is None:
-            due[it.name] = "changed"
+            due[it.name] = "no verdict on this text"
         elif not reason or not is_refusal(*reason):
             due[it.name] = reason[0] if reason else "no reason"
     return [it.name for it in edits], due
@@ -486,7 +494,7 @@ class Copy:
         shutil.copy(f"{TOP}/crates.txt", self.room.name)
         for it in os.listdir(f"{TOP}/crates"):
             if it != crate:
-                left_out = shutil.ignore_patterns("incremental", "edits", "*.unproved")
+                left_out = shutil.ignore_patterns("incremental", "*.unproved")
                 shutil.copytree(f"{TOP}/crates/{it}", f"{self.room.name}/crates/{it}", ignore=left_out, copy_function=linked)
         self.folder, self.kept = f"{self.room.name}/crates/{crate}", f"{TOP}/crates/{crate}/out/incremental"
         os.makedirs(f"{self.folder}/out")
@@ -541,21 +549,11 @@ class Trial:
     """The mutations of one crate that are to be tried, and what came of those that were: their hash and the reason."""
 
     def __init__(self, crate, together, line, drawn=None):
-        self.crate, self.at_most, self.logic, self.lock = crate, together, logic_of(line), threading.Lock()
+        self.crate, self.at_most, self.line, self.lock = crate, together, line, threading.Lock()
         self.sources, self.edits, self.is_drawn = Sources(crate), drawn or edits_of(crate), drawn is not None
         self.hashes = {it: self.sources.hash_of(it) for it in self.edits}
-        self.kept, self.came = f"{TOP}/crates/{crate}/out/edits", {}
-        if not self.is_drawn:
-            found = {it[0]: it[1] for it in verdicts(line)[1].values() if len(it) > 1} | self.kept_reasons()
-            self.came = {it: found[whole] for it, whole in self.hashes.items() if whole in found}
-
-    def kept_reasons(self):
-        """Returns the reasons that were kept here under this logic, by the hashes."""
-        if not os.path.exists(self.kept):
-            return {}
-        with open(self.kept) as it:
-            lines = [line.strip().partition(f" {self.logic}: ") for line in it]
-        return {whole: reason for whole, _, reason in lines if reason}
+        found = {} if self.is_drawn else {(name, it[0]): it[1] for name, it in verdicts(line)[1].items() if len(it) > 1}
+        self.came = {it: found[it.name, whole] for it, whole in self.hashes.items() if (it.name, whole) in found}
 
     def left(self):
         return [it for it in self.edits if it not in self.came]
@@ -569,8 +567,7 @@ class Trial:
             with self.lock:
                 self.came[edit] = reason
                 if not self.is_drawn:
-                    with open(self.kept, "a") as it:
-                        it.write(f"{self.hashes[edit]} {self.logic}: {reason}\n")
+                    record(self.line, edit.name, self.hashes[edit], reason)
         print(f"{edit.name}: {reason or 'NOT REFUSED for itself'} ({how}): {line}", flush=True)
 
     def ready(self):
@@ -669,10 +666,7 @@ def main():
         return try_all([Trial(it, given.together, now, lot) for it, lot in lots.items() if lot], given.jobs)
     found = verdicts(now)[1]
     trials = [Trial(it, given.together, now) for it in given.crates or crates_with_edits() if given.crates or due_of(it, found)[1]]
-    status = try_all(trials, given.jobs)
-    for trial in trials:
-        record(now, {it.name: (trial.hashes[it], reason) for it, reason in trial.came.items()})
-    return status
+    return try_all(trials, given.jobs)
 
 
 if __name__ == "__main__":

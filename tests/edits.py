@@ -1,44 +1,60 @@
 #!/usr/bin/env python3
-"""Tries the edits that must be refused, and keeps what came of it.
+"""Tries the mutations that must be refused, and keeps the verdicts.
 
 usage: tests/edits.py [--jobs N] [--together N] [CRATE ..]
-           tries those edits of these crates, or of all, that have no verdict on the text as it stands; as many side by side as
-           there are jobs, and at most so many together in one check (12 if left out; of a large crate fewer are quicker, and
+           tries those mutations of these crates, or of all, that have no verdict on the text as it stands; as many side by side
+           as there are jobs, and at most so many together in one check (12 if left out; of a large crate fewer are quicker, and
            take less memory)
+       tests/edits.py --draw N [CRATE ..]
+           tries N mutations, whether or not they have a verdict, and keeps none. They are drawn by the hash of the commit, from
+           two of these crates, or of the five lowest, whose proofs take minutes where none are kept
        tests/edits.py --compare
-           tries nothing: tells of each crate which of its edits have no verdict on the text as it stands
+           tries nothing: prints for each crate which of its mutations have no verdict of a refusal on the text as it stands
 
-The edits of a crate stand in edits/CRATE.txt. A line `file:` between two empty lines names a file of the crate, and the edits
-below change it, up to the next such line. An edit is a line with its name, and below it pairs of lines `old:` and `new:`, of
-which each replaces a text that stands in the file once. (A line `file:` within an edit leads to another file.) A line that
-begins with `#` is a comment. The prover must refuse the crate with the edit. Edits are dear, so each is tried when what its
-verdict rests on has changed. `edits/verdicts` has a line for each edit that was refused: its name, and a hash of what the
-refusal rests on. The line above them is that of `rt version`. The verdicts hold for each release of the kit that has the
-same logic, which that line names too.
+The mutations of a crate stand in edits/CRATE.txt. A line `file:` between two empty lines names a file of the crate, and the
+mutations below change it, up to the next such line. A mutation is a line with its name, and below it pairs of lines `old:` and
+`new:`, of which each replaces a text that stands in the file once. (A line `file:` within a mutation leads to another file.) A
+line `twin:` behind a `new:` is the harmless twin: a text that means the same as `old:`, in the shape of `new:`. A line that
+begins with `#` is a comment.
 
-No body is seen by the proof of another function. So the refusal of an edit in the body of one function rests on:
-- the edit, and the text of the function with its attributes;
+The prover must refuse the crate with the mutation, at a clause. `edits/verdicts` has a line for each mutation that was tried:
+its name, a hash of what the verdict rests on, and the reason, in one of these words:
+- `goal NAME`: the prover names a goal that is not proved: an `ensures`, a `requires`, a ghost field, the invariant of a loop or
+  of a type, or a safety fact. A goal that a proof file answers counts where its answer has another type or proves another
+  thing, and not where it names what is gone.
+- `lemma NAME`: after a change of a definition, a lemma is not proved, in the same ways.
+- `twin REASON`: it is refused for this reason, and the crate with its twin is proved.
+- `proof`: a proof file does not check for itself, since it names what the mutation took away.
+- `limit`: the prover met a limit of its own, or its search did at each goal.
+- `shape`: the mutation adds a function or a loop, so the refusal may tell of what the contract of that function leaves out, or
+  of an invariant that the loop has not.
+The last three are no refusals: the mutation is rewritten, or gets a twin. Without a reason a verdict counts for nothing.
+
+Mutations are expensive, so each is tried when what its verdict rests on has changed. The second line of `edits/verdicts` is that
+of `rt version`. The verdicts hold for each release of the kit that has the same logic, which that line names too.
+
+No body is seen by the proof of another function. So the verdict on a mutation in the body of one function rests on:
+- the mutation, and the text of the function with its attributes;
 - the function's own proofs, or those of its cycle, and all of the crate's specs;
 - what the function can see of the crate's sources: the heads of functions that it names, with their contracts; the types,
   traits, constants and macros that are named in any of this; and what stands beside the functions in the traits and impls of
   these. An impl counts where all that its head has of the crate is named. If it is of a trait, the heads of its functions
   count too, since an operator, a loop or a `?` calls one without its name;
 - what the files of all this take from elsewhere under a name that stands in it.
-Lemmas do not count: a lemma means what its statement says, and is proved. Any other edit (of a definition, a constant,
+Lemmas do not count: a lemma means what its statement says, and is proved. Any other mutation (of a definition, a constant,
 several functions, ..) rests on all sources, specs and proofs of the crate. Other crates do not count.
 
-Edits are tried by `rt check`, in a copy of the crate with what a check of it left. Edits of different functions are tried
-together: each of these functions has to be refused for itself, at a place in its body or in its own proof (in that of its
+Mutations are tried by `rt check`, in a copy of the crate with what a check of it left. Mutations of different functions are
+tried together: each of these functions has to be refused for itself, at a place in its body or in its own proof (in that of its
 cycle, at a goal of its own). One that is not refused so is tried by itself, and at last from nothing. What makes a text that
-the prover can't read, or that breaks a rule of the language, is not refused; where the prover meets a limit of its own with
-an edit by itself, the edit is refused, and that is told. As many checks run side by side as there are processors. Which edits
-were refused is kept in the crate's out/edits, so that a run that was ended goes on where it stopped. The last line is
-`N passed, M failed`, and counts edits.
+the prover can't read, or that breaks a rule of the language, is not refused. A verdict is kept as soon as it is known, so that a
+run that was ended goes on where it stopped. The last line is `N passed, M failed`, and counts mutations.
 
 Lines of a source that are a comment count for no hash, nor do those that say no more than how a function is to be inlined:
 they are hints to the compiler that makes a program of what is proved. No proof sees either.
 """
 import argparse
+import fcntl
 import hashlib
 import itertools
 import os
@@ -53,9 +69,15 @@ import time
 
 TOP = os.path.dirname(os.path.dirname(os.path.realpath(__file__)))
 VERDICTS = f"{TOP}/edits/verdicts"
-HEAD = "# The kit, and for each edit that was refused the hash of what that rests on.\n"
+HEAD = "# The kit, and for each mutation the hash of what its verdict rests on, and the reason.\n"
+# The first words of the reasons that make a mutation refused.
+REFUSED = ("goal", "lemma", "twin")
+# The crates that `--draw` draws from where none is named: the lowest, so that few proofs are needed where none are kept.
+LOWEST = ("openapi_json", "openapi_map", "openapi_node", "openapi_tables", "openapi_values")
 # A line of a source that no proof sees: a comment, or a hint on inlining.
 UNSEEN = re.compile(r"\s*(?://.*|#\[(?:inline(?:\((?:never|always)\))?|cold)\])?\s*")
+# A function or a loop.
+SHAPE = re.compile(r"\bfn \w+|\bfor [^{;]* in |\bwhile |\bloop \{")
 # How an item of a source begins, behind its attributes: what it is, and its name.
 BEGINS = re.compile(
     r" *(?:pub(?:\([\w: ]+\))? |unsafe |const (?=fn)|ghost (?=use))*"
@@ -70,10 +92,10 @@ def version():
 
 
 class Edit:
-    """An edit: its crate and its name, and the lines `file:`, `old:` and `new:` that it has."""
+    """A mutation: its name with that of its crate, and the lines `file:`, `old:`, `new:` and `twin:` that it has."""
 
-    def __init__(self, crate, name, lines):
-        self.name, self.lines = f"{crate}/{name}", lines
+    def __init__(self, name, lines):
+        self.name, self.lines = name, lines
 
     def pairs(self):
         """Returns the texts that it replaces: for each its file, itself, and what takes its place."""
@@ -88,6 +110,21 @@ class Edit:
             elif word == "new":
                 yield file, old, text
 
+    def twin(self):
+        """Returns its harmless twin, or None where it has none."""
+        lines = []
+        for line in self.lines:
+            if line.startswith("twin:"):
+                lines[-1] = "new" + line.removeprefix("twin")
+            else:
+                lines.append(line)
+        return Edit(self.name, lines) if lines != self.lines else None
+
+    def adds_shape(self):
+        """Returns whether it adds a function or a loop."""
+        shapes = lambda at: {it for pair in self.pairs() for it in SHAPE.findall(pair[at])}
+        return not shapes(2) <= shapes(1)
+
     def applied(self, files):
         """Returns the files that it changes, as it leaves them; or None, where a text that it replaces doesn't stand once."""
         changed = {}
@@ -100,13 +137,13 @@ class Edit:
 
 
 def edits_of(crate):
-    """Returns the edits of a crate."""
+    """Returns the mutations of a crate."""
     with open(f"{TOP}/edits/{crate}.txt", encoding="utf-8") as it:
         lines = [line for line in it.read().split("\n") if not line.startswith("#")]
     found, file = [], ""
     for name, *text in ([*part] for is_part, part in itertools.groupby(lines, bool) if is_part):
         if text:
-            found.append(Edit(crate, name, [file, *text]))
+            found.append(Edit(f"{crate}/{name}", [file, *text]))
         else:
             file = name
     return found
@@ -274,47 +311,67 @@ def logic_of(kit):
 
 
 def verdicts(kit):
-    """Returns the line of the kit that the verdicts name, and for each edit the hash that it was refused with; or this kit and
-    nothing, where that has another logic."""
+    """Returns the line of the kit that the verdicts name, and for each mutation its hash and the reason; or this kit and nothing,
+    where that has another logic."""
     if os.path.exists(VERDICTS):
         with open(VERDICTS) as it:
             before, *lines = [line.strip() for line in it if line.strip() and not line.startswith("#")] or [""]
         if logic_of(before) == logic_of(kit):
-            return before, dict(it.split() for it in lines)
+            words = [it.split(" ", 2) for it in lines]
+            return before, {name: (whole, *reason) for name, whole, *reason in words}
     return kit, {}
 
 
-def record(kit, refused):
-    """Keeps the hashes of these edits, which were refused. Those of the other edits stand."""
-    before, found = verdicts(kit)
+def record(kit, name, whole, reason):
+    """Keeps the hash of what the verdict on a mutation rests on, and the reason. The other verdicts stay."""
     known = {it.name for crate in crates_with_edits() for it in edits_of(crate)}
-    lines = [f"{name} {whole}\n" for name, whole in sorted((found | refused).items()) if name in known]
-    with open(f"{VERDICTS}.new", "w") as it:
-        it.write(HEAD + before + "\n" + "".join(lines))
-    os.replace(f"{VERDICTS}.new", VERDICTS)
+    folder = os.open(os.path.dirname(VERDICTS), os.O_RDONLY)
+    try:
+        # (runs for other crates write the same file)
+        fcntl.flock(folder, fcntl.LOCK_EX)
+        before, found = verdicts(kit)
+        found[name] = whole, reason
+        lines = [f"{it} {' '.join(verdict)}\n" for it, verdict in sorted(found.items()) if it in known]
+        with open(f"{VERDICTS}.new", "w") as it:
+            it.write(HEAD + before + "\n" + "".join(lines))
+        os.replace(f"{VERDICTS}.new", VERDICTS)
+    finally:
+        os.close(folder)
+
+
+def is_refusal(reason):
+    return reason.split(" ")[0] in REFUSED
 
 
 def due_of(crate, found):
-    """Returns the names of the crate's edits, and of those that are to be tried, since these verdicts are not on the text that
-    stands, or since the edit itself does not fit it any more."""
-    sources, edits = Sources(crate), edits_of(crate)
-    due = [it.name for it in edits if found.get(it.name) != sources.hash_of(it) or it.applied(sources.files) is None]
+    """Returns the names of the crate's mutations, and for each of those that these verdicts do not tell to be refused, on the
+    text that stands, why: another text, no reason or a reason that is none."""
+    sources, due = Sources(crate), {}
+    edits = edits_of(crate)
+    for it in edits:
+        whole, *reason = found.get(it.name, ("",))
+        if whole != sources.hash_of(it) or it.applied(sources.files) is None:
+            due[it.name] = "no verdict on this text"
+        elif not reason or not is_refusal(*reason):
+            due[it.name] = reason[0] if reason else "no reason"
     return [it.name for it in edits], due
 
 
 def compare():
-    """Tells of each crate with edits which of them were not refused on its text as it stands."""
-    passed, failed, found = 0, 0, verdicts(version())[1]
+    """Prints for each crate with mutations which of them were not refused on its text as it stands."""
+    found, edits, due = verdicts(version())[1], [], {}
     for crate in crates_with_edits():
-        edits, due = due_of(crate, found)
-        passed, failed = passed + len(edits) - len(due), failed + len(due)
-        if due:
-            named = " ".join(it.partition("/")[2] for it in due)
-            print(f"edits of {crate}: FAILED: {len(due)} of {len(edits)} are due; run tests/edits.py {crate}: {named}")
+        own, left = due_of(crate, found)
+        edits, due = edits + own, due | left
+        if left:
+            print(f"mutations of {crate}: FAILED: {len(left)} of {len(own)} are due; run tests/edits.py {crate}")
+            for why, names in itertools.groupby(sorted(left, key=left.get), left.get):
+                print(f"    {why}: {' '.join(it.partition('/')[2] for it in names)}")
         else:
-            print(f"edits of {crate}: {len(edits)} were refused, on the text that stands")
-    print(f"{passed} passed, {failed} failed")
-    return 1 if failed else 0
+            print(f"mutations of {crate}: {len(own)} were refused, on the text that stands")
+    print(f"a reason is kept for {sum(len(found.get(it, ())) > 1 for it in edits)} of {len(edits)} verdicts")
+    print(f"{len(edits) - len(due)} passed, {len(due)} failed")
+    return 1 if due else 0
 
 
 def owner_in(head):
@@ -349,27 +406,48 @@ class Function:
         own = rf"(.*/)?\w*{self.owner}\w*/{self.name}" if self.item.block else f"{inside}{self.name}"
         return bool(re.match(rf"proofs/({own}|(.*/)?\+({self.cycle or self.name}))/", path, re.I))
 
-    def is_told_of(self, line):
-        """Returns whether a line of a check tells what is not proved of this function: it names a place in its body, in its
+    def is_told_of(self, remark):
+        """Returns whether a remark of a check tells what is not proved of this function: it names a place in its body, in its
         proof, or in that of its cycle at a goal of its own."""
-        at = re.match(r"(?:note: )?(?:\./)?(\S+?):(\d+):\d+: (.*)", line)
-        if not at:
+        path, line, text = remark.groups()
+        if path == self.file:
+            return int(line) in self.lines and text.startswith(("error", *UNPROVED))
+        if not text.startswith("error"):
             return False
-        if at[1] == self.file:
-            return int(at[2]) in self.lines and (": error" in line or "it is not proved" in at[3])
         proofs = "/".join(filter(None, ["proofs", *self.module.split("::")])) + "/"
         if self.cycle:
-            own = rf"`{self.name}-"
-            return at[1].startswith(f"{proofs}+{self.cycle}/") and bool(re.search(own, at[3])) and "error" in at[3]
+            return path.startswith(f"{proofs}+{self.cycle}/") and f"`{self.name}-" in text
         # The proofs of an impl stand with its type, in whatever file the impl is; those of a function that calls itself in
         # the folder of a cycle.
         own = rf"proofs/(\S*/)?{self.owner}{self.more}/" if self.owner else proofs
-        own = rf"{own}\+?{self.name}/"
-        return bool(re.match(own, at[1])) and "error" in at[3]
+        return bool(re.match(rf"{own}\+?{self.name}/", path))
 
 
-# A line on a proof that names what an edit took away, or that cites such a proof: it says little of a contract.
-NAMES = re.compile(r"(\./)?proofs/.*(has no field|is not in scope|has no `|was not admitted)")
+# How a remark on a source begins that names a goal which is not proved.
+UNPROVED = ("it is not proved", "`search` found no proof")
+# A remark of a check on a place in a file: the file, the line, and the text, with the lines below that are a part of it.
+REMARK = re.compile(r"(?m)^(?:note: )?(?:\./)?(\S+?):(\d+):\d+: (.*(?:\n  .*)*)")
+# The goal that a remark names: that of an answer in a proof file, or one that has no answer.
+GOAL = re.compile(r"error: `([^`]+)`: |(?:it is not proved|`search` found no proof)[^\n]*\(`([^`]+)`\)")
+# What a remark on a proof says where that names what an edit took away, or cites such a proof.
+GONE = re.compile(r"has no field|is not in scope|has no `|was not admitted|is no name")
+
+
+def reason_of(remark, files):
+    """Returns the reason that a remark gives: `goal` or `lemma` with its name, `limit` or `proof`."""
+    path, _, text = remark.groups()
+    named = GOAL.search(text)
+    if not named or GONE.search(text):
+        return "proof"
+    name = named[1] or named[2]
+    is_goal = path.startswith("src/") or f": goal.{name}\n" in files.get(path, "")
+    return "limit" if "gave up at one of its limits" in text else f"{'goal' if is_goal else 'lemma'} {name}"
+
+
+def best_of(remarks, files):
+    """Returns the best reason that these remarks give, and the first remark that gives it; or None where there is none."""
+    told = [(reason_of(it, files), it) for it in remarks]
+    return next((it for word in ("goal", "lemma", "limit", "proof") for it in told if it[0].startswith(word)), None)
 
 
 def function_of(edit, sources):
@@ -385,21 +463,13 @@ def function_of(edit, sources):
     return Function(item) if item else None
 
 
-def refusals(said, functions):
-    """Returns for each of these functions that is refused for itself what a check said of it. That it calls one that is not
-    proved is told of the function too, but by no place of its own."""
-    lines, found = said.split("\n"), {}
-    for function in functions:
-        told = [it for it in lines if function.is_told_of(it) and not NAMES.match(it)]
-        if told:
-            found[function.key] = told[0]
-    return found
-
-
-# A line that tells a place in a proof that is not one any more, or of which it is not proved what it has to be.
-PLACE = re.compile(r"(?:note: )?(?:\./)?(?:proofs/\S+?:\d+:\d+: error|\S+?:\d+:\d+: it is not proved)")
 # What the prover says where it meets a limit of its own, which it meets wherever it checks the same.
 LIMIT = re.compile(r"antt ran out of (stack|the (steps|memory) that the check)|outgrew the memory limit|stopped at the step limit")
+
+
+def is_place(remark):
+    """Returns whether a remark tells of what is not proved, wherever that is."""
+    return remark[3].startswith(("it is not proved", "error" if remark[1].startswith("proofs/") else UNPROVED[0]))
 
 
 def is_bad(said):
@@ -424,7 +494,7 @@ class Copy:
         shutil.copy(f"{TOP}/crates.txt", self.room.name)
         for it in os.listdir(f"{TOP}/crates"):
             if it != crate:
-                left_out = shutil.ignore_patterns("incremental", "edits", "*.unproved")
+                left_out = shutil.ignore_patterns("incremental", "*.unproved")
                 shutil.copytree(f"{TOP}/crates/{it}", f"{self.room.name}/crates/{it}", ignore=left_out, copy_function=linked)
         self.folder, self.kept = f"{self.room.name}/crates/{crate}", f"{TOP}/crates/{crate}/out/incremental"
         os.makedirs(f"{self.folder}/out")
@@ -448,48 +518,57 @@ class Copy:
         return ran.returncode, ran.stdout
 
     def tried(self, group):
-        """Returns for each of these edits that the check refuses what it says of it. They are of different functions, or there
-        is only one."""
+        """Returns for each of these mutations that the check refuses the reason, and what it says. They are of different
+        functions, or there is only one. That a function calls one that is not proved is told of it too, but by no place of its
+        own."""
         ran = self.said([edit for _, edit in group])
         if ran is None:
             return {}
         status, said = ran
         if status == 3 and len(group) == 1 and LIMIT.search(said):
-            return {group[0][1]: f"refused, only by a limit of the prover: {LIMIT.search(said)[0]}"}
+            return {group[0][1]: ("limit", LIMIT.search(said)[0])}
         if status != 1 or is_bad(said):
             return {}
-        found = refusals(said, [it for it, _ in group if it])
-        told = {edit: found[function.key] for function, edit in group if function and function.key in found}
-        at = next((it for it in said.split("\n") if PLACE.match(it) and not NAMES.match(it)), None)
-        told |= {edit: at for function, edit in group if function is None and at}
-        return {edit: f"refused: {line[:160]}" for edit, line in told.items()}
+        remarks, found = [*REMARK.finditer(said)], {}
+        for function, edit in group:
+            told = best_of((it for it in remarks if (function.is_told_of(it) if function else is_place(it))), self.files)
+            if told:
+                found[edit] = told[0], told[1][0].partition("\n")[0][:160]
+        return found
+
+    def judged(self, edit, told):
+        """Returns what came of a mutation of which a check said this: its reason where it needs no twin, or its twin is proved."""
+        twin, (reason, line) = edit.twin(), told or (None, "")
+        if reason and twin:
+            is_proved = (self.said([twin]) or (1, ""))[0] == 0
+            return (f"twin {reason}", line) if is_proved else (None, "its twin is refused too")
+        return ("shape" if reason and edit.adds_shape() else reason), line
 
 
 class Trial:
-    """The edits of one crate, and those of them that were refused."""
+    """The mutations of one crate that are to be tried, and what came of those that were: their hash and the reason."""
 
-    def __init__(self, crate, together, line):
+    def __init__(self, crate, together, line, drawn=None):
         self.crate, self.at_most, self.line, self.lock = crate, together, line, threading.Lock()
-        self.sources, self.edits = Sources(crate), edits_of(crate)
+        self.sources, self.edits, self.is_drawn = Sources(crate), drawn or edits_of(crate), drawn is not None
         self.hashes = {it: self.sources.hash_of(it) for it in self.edits}
-        self.kept = f"{TOP}/crates/{crate}/out/edits"
-        found = verdicts(line)[1]
-        self.came = {it for it in self.edits if found.get(it.name) == self.hashes[it]}
-        if os.path.exists(self.kept):
-            with open(self.kept) as it:
-                kept = {line.strip() for line in it}
-            self.came |= {it for it in self.edits if f"{self.hashes[it]} {logic_of(line)}" in kept}
+        found = {} if self.is_drawn else {(name, it[0]): it[1] for name, it in verdicts(line)[1].items() if len(it) > 1}
+        self.came = {it: found[it.name, whole] for it, whole in self.hashes.items() if (it.name, whole) in found}
 
     def left(self):
         return [it for it in self.edits if it not in self.came]
 
-    def keep(self, edit, told, how):
-        """Prints what came of an edit, and keeps it where it was refused."""
-        if told:
-            with self.lock, open(self.kept, "a") as it:
-                self.came.add(edit)
-                it.write(f"{self.hashes[edit]} {logic_of(self.line)}\n")
-        print(f"{edit.name}: {told or 'NOT REFUSED for itself'} ({how})", flush=True)
+    def failed(self):
+        return [it for it in self.edits if not is_refusal(self.came.get(it, ""))]
+
+    def keep(self, edit, reason, line, how):
+        """Prints what came of a mutation, and keeps it where it has a reason."""
+        if reason:
+            with self.lock:
+                self.came[edit] = reason
+                if not self.is_drawn:
+                    record(self.line, edit.name, self.hashes[edit], reason)
+        print(f"{edit.name}: {reason or 'NOT REFUSED for itself'} ({how}): {line}", flush=True)
 
     def ready(self):
         """Checks the crate as it stands, and so brings what is kept of it up to date; returns whether it is proved."""
@@ -500,7 +579,7 @@ class Trial:
         return not ran.returncode
 
     def groups(self, edits):
-        """Returns the edits in groups, each beside its function, in each of which no two change the same function."""
+        """Returns the mutations in groups, each beside its function, in each of which no two change the same function."""
         found = []
         for edit in edits:
             function = function_of(edit, self.sources)
@@ -514,29 +593,29 @@ class Trial:
         return [it for _, it in found]
 
     def try_group(self, group):
-        """Tries the edits of a group together, those that are not refused so by themselves, and from nothing what is not refused
-        even so, or where the crate itself is not proved over what is kept any more."""
+        """Tries the mutations of a group together, those that are not refused so by themselves, and from nothing what is not
+        refused even so, or where the crate itself is not proved over what is kept any more."""
         copy, came = Copy(self.crate, self.sources.files, True), {}
         told = copy.tried(group) if len(group) > 1 else {}
         for function, edit in group:
-            if edit in told:
-                came[edit] = told[edit], f"with {len(group) - 1} others"
-            else:
-                came[edit] = copy.tried([(function, edit)]).get(edit), "by itself"
+            how = f"with {len(group) - 1} others" if edit in told else "by itself"
+            came[edit] = told.get(edit) or copy.tried([(function, edit)]).get(edit), how
         is_sound = copy.said([])[0] == 0
         for function, edit in group:
-            if not came[edit][0] or not is_sound:
-                came[edit] = Copy(self.crate, self.sources.files, False).tried([(function, edit)]).get(edit), "from nothing"
-            self.keep(edit, *came[edit])
+            said, how = came[edit]
+            if not said or not is_sound:
+                whole = Copy(self.crate, self.sources.files, False)
+                said, how = whole.tried([(function, edit)]).get(edit), "from nothing"
+            self.keep(edit, *copy.judged(edit, said), how)
 
 
-def try_all(names, jobs, together):
+def try_all(trials, jobs):
+    """Tries the mutations of these trials that are left, and returns the status to end with."""
     os.chdir(TOP)
-    now, todo = version(), queue.SimpleQueue()
-    trials = [Trial(it, together, now) for it in names]
+    todo = queue.SimpleQueue()
     for trial in trials:
         left = trial.left()
-        print(f"{trial.crate}: {len(trial.edits)} edits, {len(left)} to be tried", flush=True)
+        print(f"{trial.crate}: {len(trial.edits)} mutations, {len(left)} to be tried", flush=True)
         if left and trial.ready():
             for group in trial.groups(left):
                 todo.put((trial, group))
@@ -554,28 +633,40 @@ def try_all(names, jobs, together):
         it.start()
     for it in lanes:
         it.join()
-    passed = failed = 0
-    for trial in trials:
-        passed, failed = passed + len(trial.came), failed + len(trial.left())
-        for edit in trial.left():
-            print(f"FAILED: {edit.name}")
-        record(now, {it.name: trial.hashes[it] for it in trial.came})
-    print(f"{passed} passed, {failed} failed")
+    failed = [(edit.name, trial.came.get(edit, "no verdict")) for trial in trials for edit in trial.failed()]
+    for name, reason in failed:
+        print(f"FAILED: {name}: {reason}")
+    print(f"{sum(len(it.edits) for it in trials) - len(failed)} passed, {len(failed)} failed")
     return 1 if failed else 0
+
+
+def drawn(many, names):
+    """Returns for two of these crates those of so many mutations that are theirs, drawn by the hash of the commit."""
+    ran = subprocess.run(["git", "rev-parse", "HEAD"], cwd=TOP, capture_output=True, text=True, check=True)
+    lot = lambda name: hash_of_texts([ran.stdout.strip(), name])
+    two = sorted(names, key=lot)[:2]
+    found = sorted((it for crate in two for it in edits_of(crate)), key=lambda it: lot(it.name))[:many]
+    for it in found:
+        print(f"drawn: {it.name}", flush=True)
+    return {crate: [it for it in found if it.name.startswith(f"{crate}/")] for crate in two}
 
 
 def main():
     asked = argparse.ArgumentParser(description=__doc__, formatter_class=argparse.RawDescriptionHelpFormatter)
     asked.add_argument("--compare", action="store_true")
+    asked.add_argument("--draw", type=int, metavar="N")
     asked.add_argument("--jobs", type=int, default=os.cpu_count())
     asked.add_argument("--together", type=int, default=12)
     asked.add_argument("crates", nargs="*", metavar="CRATE")
-    given = asked.parse_args()
+    given, now = asked.parse_args(), version()
     if given.compare:
         return compare()
-    found = verdicts(version())[1]
-    changed = [it for it in crates_with_edits() if due_of(it, found)[1]]
-    return try_all(given.crates or changed, given.jobs, given.together)
+    if given.draw:
+        lots = drawn(given.draw, given.crates or LOWEST)
+        return try_all([Trial(it, given.together, now, lot) for it, lot in lots.items() if lot], given.jobs)
+    found = verdicts(now)[1]
+    trials = [Trial(it, given.together, now) for it in given.crates or crates_with_edits() if given.crates or due_of(it, found)[1]]
+    return try_all(trials, given.jobs)
 
 
 if __name__ == "__main__":

@@ -1,57 +1,38 @@
-#!/usr/bin/env python3
-"""Tells each crate as it is done, of what `rt ci` prints.
+"""Prints each crate when it is done, from the output of `rt ci`.
 
-usage: rt ci [NAME ..] 2>&1 | bin/progress.py [NAME ..]
-
-For each crate that is proved, or kept from an earlier run, there is a line with the seconds since the crate before, how many
-of how many crates are done, and what is likely left, by the lines that the others have. On a terminal it is written over. What
-was said of a crate that is not proved is printed, and so is all that tells of failures, and what comes at the end.
+For each crate that is proved, or kept from an earlier run, it prints a line with the seconds since the crate before, how many
+of how many crates are done, and an estimate of what is left, by the lines of the others. On a terminal each such line
+replaces the one before. For a crate that is not proved it prints all that `rt ci` did, and at the end what `rt ci` prints of
+failures and of the whole run.
 """
-import os
 import re
 import sys
 import time
 
-TOP = os.path.dirname(os.path.dirname(os.path.realpath(__file__)))
+import sources
+
 DONE = re.compile(r"rt: (\w+) (proved|NOT PROVED|is kept: .*)$")
 TESTS = re.compile(r"rt: (\w+): its tests are (proved|NOT PROVED)$")
-# What is said of a crate that tells of no failure.
+# Lines on a crate that report no failure.
 IS_WELL = re.compile(r": proved$|^statements ")
-# What is said behind the proofs: of edits, tests and programs, and in the end of all; and those lines of it that tell nothing.
+# The lines after the proofs, on edits, tests, programs and the whole run; and those of them that report no failure.
 IS_SAID = re.compile(r"rt: |test .* \.\.\. FAILED|\d+ passed")
+VERDICT = re.compile(r"\d+ passed, \d+ failed")
 PASSED = re.compile(r"refused, as it must be|trying its must-fail edits|must-fail edits were tried by|waiting for it$|ran.*, and wrote what")
 
 
-def crates_of(names):
-    """Returns the crates that are named, and those below them, or all; each with the number of its lines."""
-    below = {}
-    with open(f"{TOP}/crates.txt", encoding="utf-8") as it:
-        for line in it:
-            name, colon, rest = line.partition("#")[0].partition(":")
-            if colon:
-                below[name.split()[0]] = rest.split()
-    wanted, left = set(), [*(names or below)]
-    while left:
-        name = left.pop()
-        if name in below and name not in wanted:
-            wanted.add(name)
-            left += below[name]
-    return {name: lines_of(f"{TOP}/crates/{name}") for name in wanted}
-
-
-def lines_of(folder):
+def lines_of(crate):
+    """Returns the number of lines of a crate, and one."""
     number = 1
-    for part in ("src", "specs", "proofs"):
-        for at, _, files in os.walk(f"{folder}/{part}"):
-            for file in files:
-                with open(f"{at}/{file}", "rb") as it:
-                    number += it.read().count(b"\n")
+    for file in sources.files_of(crate):
+        with open(file, "rb") as it:
+            number += it.read().count(b"\n")
     return number
 
 
 class Progress:
     def __init__(self, names):
-        self.sizes = crates_of(names)
+        self.sizes = {it: lines_of(it) for it in names}
         self.left = dict(self.sizes)
         self.began = self.last = time.time()
         self.proved = 0
@@ -75,9 +56,11 @@ class Progress:
             print(line, flush=True)
 
 
-def main():
-    progress, block, ending = Progress(sys.argv[1:]), [], []
-    for line in map(str.rstrip, sys.stdin):
+def report(lines, names):
+    """Prints the progress of a run of `rt ci` that prints these lines and proves these crates. If it ends without a verdict,
+    prints all that it did beside the crates."""
+    progress, block, rest = Progress(names), [], []
+    for line in map(str.rstrip, lines):
         done = DONE.match(line)
         tests = TESTS.match(line)
         if line.startswith("== "):
@@ -92,11 +75,8 @@ def main():
             block = []
         elif block:
             block.append(line)
-        elif IS_SAID.match(line) and not PASSED.search(line):
-            ending.append(line)
-    for line in ending:
+        else:
+            rest.append(line)
+    ending = [it for it in rest if IS_SAID.match(it) and not PASSED.search(it)]
+    for line in ending if any(map(VERDICT.match, ending)) else rest:
         progress.say(line)
-
-
-if __name__ == "__main__":
-    main()

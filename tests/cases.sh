@@ -1,10 +1,10 @@
 #!/usr/bin/env bash
-# Asks that each case of tests/cases comes out as it has to. The last line is `N passed, M failed`.
+# Checks the result of each case of tests/cases. The last line is `N passed, M failed`.
 #
 # usage: tests/cases.sh [--unproved] [FILE ..]      (files of tests/cases; with none: all of them)
 #
-# The program is the one that `./check` or `rt run` in crates/openapi_cases made; with --unproved the one that
-# `bin/unproved.py openapi_cases` made.
+# The program is the one that `bin/prove.py openapi_cases` built; with --unproved the one that `bin/unproved.py openapi_cases`
+# built.
 set -eu
 top=$(cd "$(dirname "${BASH_SOURCE[0]}")/.." && pwd)
 program=$top/crates/openapi_cases/out/openapi_cases

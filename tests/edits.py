@@ -28,7 +28,8 @@ its name, a hash of what the verdict rests on, and the reason, in one of these w
 - `limit`: the prover met a limit of its own, or its search did at each goal.
 - `shape`: the mutation adds a function or a loop, so the refusal may tell of what the contract of that function leaves out, or
   of an invariant that the loop has not.
-The last three are no refusals: the mutation is rewritten, or gets a twin. Without a reason a verdict counts for nothing.
+The last three are no refusals: the mutation is rewritten, or gets a twin. A verdict without a reason was kept before reasons were:
+`--compare` counts it, and the mutation is tried again when its crate is.
 
 Mutations are expensive, so each is tried when what its verdict rests on has changed. The second line of `edits/verdicts` is that
 of `rt version`. The verdicts hold for each release of the kit that has the same logic, which that line names too.
@@ -72,6 +73,8 @@ VERDICTS = f"{TOP}/edits/verdicts"
 HEAD = "# The kit, and for each mutation the hash of what its verdict rests on, and the reason.\n"
 # The first words of the reasons that make a mutation refused.
 REFUSED = ("goal", "lemma", "twin")
+# Why a mutation is tried again whose verdict was kept before reasons were.
+NO_REASON = "no reason"
 # The crates that `--draw` draws from where none is named: the lowest, so that few proofs are needed where none are kept.
 LOWEST = ("openapi_json", "openapi_map", "openapi_node", "openapi_tables", "openapi_values")
 # A line of a source that no proof sees: a comment, or a hint on inlining.
@@ -353,25 +356,27 @@ def due_of(crate, found):
         if whole != sources.hash_of(it) or it.applied(sources.files) is None:
             due[it.name] = "no verdict on this text"
         elif not reason or not is_refusal(*reason):
-            due[it.name] = reason[0] if reason else "no reason"
+            due[it.name] = reason[0] if reason else NO_REASON
     return [it.name for it in edits], due
 
 
 def compare():
-    """Prints for each crate with mutations which of them were not refused on its text as it stands."""
-    found, edits, due = verdicts(version())[1], [], {}
+    """Prints for each crate with mutations which of them were not refused on its text as it stands. A verdict on that text that
+    was kept before reasons were is none of them."""
+    found, edits, without, failed = verdicts(version())[1], [], 0, 0
     for crate in crates_with_edits():
         own, left = due_of(crate, found)
-        edits, due = edits + own, due | left
-        if left:
-            print(f"mutations of {crate}: FAILED: {len(left)} of {len(own)} are due; run tests/edits.py {crate}")
-            for why, names in itertools.groupby(sorted(left, key=left.get), left.get):
+        due = {name: why for name, why in left.items() if why != NO_REASON}
+        edits, without, failed = edits + own, without + len(left) - len(due), failed + len(due)
+        if due:
+            print(f"mutations of {crate}: FAILED: {len(due)} of {len(own)} are due; run tests/edits.py {crate}")
+            for why, names in itertools.groupby(sorted(due, key=due.get), due.get):
                 print(f"    {why}: {' '.join(it.partition('/')[2] for it in names)}")
         else:
             print(f"mutations of {crate}: {len(own)} were refused, on the text that stands")
-    print(f"a reason is kept for {sum(len(found.get(it, ())) > 1 for it in edits)} of {len(edits)} verdicts")
-    print(f"{len(edits) - len(due)} passed, {len(due)} failed")
-    return 1 if due else 0
+    print(f"no reason is kept for {without} of {len(edits)} verdicts; tests/edits.py tries these again")
+    print(f"{len(edits) - failed} passed, {failed} failed")
+    return 1 if failed else 0
 
 
 def owner_in(head):
@@ -552,11 +557,13 @@ class Trial:
         self.crate, self.at_most, self.line, self.lock = crate, together, line, threading.Lock()
         self.sources, self.edits, self.is_drawn = Sources(crate), drawn or edits_of(crate), drawn is not None
         self.hashes = {it: self.sources.hash_of(it) for it in self.edits}
-        found = {} if self.is_drawn else {(name, it[0]): it[1] for name, it in verdicts(line)[1].items() if len(it) > 1}
-        self.came = {it: found[it.name, whole] for it, whole in self.hashes.items() if (it.name, whole) in found}
+        found = {} if self.is_drawn else {(name, whole): reason for name, (whole, *reason) in verdicts(line)[1].items()}
+        self.known = {it: found[it.name, whole] for it, whole in self.hashes.items() if (it.name, whole) in found}
+        self.came = {it: reason[0] for it, reason in self.known.items() if reason}
 
     def left(self):
-        return [it for it in self.edits if it not in self.came]
+        """Returns the mutations that are to be tried, those first that have no verdict at all on the text as it stands."""
+        return sorted((it for it in self.edits if it not in self.came), key=self.known.__contains__)
 
     def failed(self):
         return [it for it in self.edits if not is_refusal(self.came.get(it, ""))]

@@ -1,47 +1,106 @@
 #!/usr/bin/env python3
-"""Runs the example programs as the README shows them, and asks that each prints what stands there.
+"""Runs the programs as the README shows them, and as their crates say, and compares output and exit status.
 
-usage: tests/examples.py [--unproved]      (with it: what `bin/unproved.py` made; else what `./check` made)
+usage: tests/examples.py [--unproved [NAME ..]]
+           (runs what `bin/prove.py` built; of these crates, or of all if none is named, what `bin/unproved.py` built)
 
-A run is a line `    $ ./example NAME [WORD ..] < FILE` of the README, and the lines below it, up to an empty one or the next run,
-are what is printed. The last line is `N passed, M failed`.
+A run in the README is a line `    $ COMMAND`. The lines below it, up to an empty one or the next run, are what a terminal shows:
+standard output and standard error. Its exit status is 0, unless the next run of the same block is `echo $?`, which prints it.
+
+A crate of a program has files `stdin`, `args` (a word a line), `stdout` and `status` (0 by default), which `rt ci` compares too.
+
+The last line is `N passed, M failed`.
 """
 import os
 import re
-import shlex
 import subprocess
 import sys
+import tempfile
 
 TOP = os.path.dirname(os.path.dirname(os.path.realpath(__file__)))
-RUN = re.compile(r"^    \$ \./example (.*) < (\S+)\n((?:    (?!\$ ).*\n)*)", re.M)
+BLOCK = re.compile(r"(?:^    .*\n)+", re.M)
+RUN = re.compile(r"^\$ (.*)\n((?:(?!\$ ).*\n)*)", re.M)
+# What the README calls the programs; `./example NAME` runs example_NAME.
+SCRIPTS = {"openapi_clean": "openapi_clean", "openapi_order": "openapi_order", "example": "example_$1"}
 
 
-def program_of(name, is_unproved):
-    return f"{TOP}/crates/example_{name}/out/example_{name}{'.unproved' if is_unproved else ''}"
+def programs():
+    """Returns the names of the crates that are programs."""
+    return sorted(it for it in os.listdir(f"{TOP}/crates") if os.path.isfile(f"{TOP}/crates/{it}/src/main.rt"))
+
+
+def file_of(crate, name, missing):
+    try:
+        with open(f"{TOP}/crates/{crate}/{name}") as it:
+            return it.read()
+    except FileNotFoundError:
+        return missing
+
+
+class Tests:
+    def __init__(self, unproved):
+        self.passed = self.failed = 0
+        self.unproved = unproved
+
+    def program_of(self, name):
+        return f"{TOP}/crates/{name}/out/{name}{'.unproved' if name in self.unproved else ''}"
+
+    def compare(self, what, came, wanted):
+        if came == wanted:
+            self.passed += 1
+        else:
+            self.failed += 1
+            print(f"FAILED: {what}: exit status {came[0]} in place of {wanted[0]}, and output\n{came[1]}in place of\n{wanted[1]}")
+
+    def run_crate(self, crate):
+        """Runs a program as its crate says."""
+        words = [self.program_of(crate), *file_of(crate, "args", "").splitlines()]
+        ran = subprocess.run(words, input=file_of(crate, "stdin", ""), stdout=subprocess.PIPE, text=True)
+        self.compare(f"crates/{crate}", (ran.returncode, ran.stdout), (int(file_of(crate, "status", "0")), file_of(crate, "stdout", "")))
+
+    def run_block(self, runs, room):
+        """Runs what one block of the README shows."""
+        status = 0
+        for (command, shown), (following, told) in zip(runs, [*runs[1:], ("", "")]):
+            ran = subprocess.run(["bash", "-c", f"(exit {status}); {command}"], cwd=room, stdout=subprocess.PIPE, stderr=subprocess.STDOUT, text=True)
+            status = ran.returncode
+            self.compare(command, (status, ran.stdout), (int(told) if following == "echo $?" else 0, shown))
+
+    def run_readme(self):
+        """Runs what the README shows, in a folder with the programs and the examples as the top of the repository has them."""
+        with open(f"{TOP}/README.md") as it:
+            blocks = [RUN.findall(re.sub("^    ", "", block, flags=re.M)) for block in BLOCK.findall(it.read())]
+        shown = [command for block in blocks for command, _ in block]
+        for name in programs():
+            call = name.replace("example_", "example ")
+            if name != "openapi_cases" and not any(f"./{call} " in it for it in shown):
+                self.failed += 1
+                print(f"FAILED: the README shows no run of ./{call}")
+        with tempfile.TemporaryDirectory(prefix="examples-") as room:
+            os.symlink(f"{TOP}/examples", f"{room}/examples")
+            for script, name in SCRIPTS.items():
+                with open(f"{room}/{script}", "w") as it:
+                    ending = ".unproved" if script in self.unproved or any(it.startswith(f"{script}_") for it in self.unproved) else ""
+                    it.write(f"#!/bin/sh\nname={name}\n{'shift' if '$1' in name else ''}\nexec {TOP}/crates/$name/out/$name{ending} \"$@\"\n")
+                os.chmod(f"{room}/{script}", 0o755)
+            for block in blocks:
+                self.run_block(block, room)
 
 
 def main():
-    is_unproved = sys.argv[1:] == ["--unproved"]
-    with open(f"{TOP}/README.md") as it:
-        runs = RUN.findall(it.read())
-    shown = {words.split()[0] for words, _, _ in runs}
-    names = {it.removeprefix("example_") for it in os.listdir(f"{TOP}/crates") if it.startswith("example_")}
-    passed, failed = 0, 0
-    for name in sorted(names - shown):
-        failed += 1
-        print(f"FAILED: the README shows no run of {name}")
-    for words, file, text in runs:
-        name, *rest = shlex.split(words)
-        wanted = re.sub(r"^    ", "", text, flags=re.M)
-        with open(f"{TOP}/{file}") as it:
-            made = subprocess.run([program_of(name, is_unproved), *rest], stdin=it, stdout=subprocess.PIPE, stderr=subprocess.STDOUT, text=True)
-        if made.stdout == wanted:
-            passed += 1
-        else:
-            failed += 1
-            print(f"FAILED: ./example {words} < {file} printed\n{made.stdout}in place of\n{wanted}")
-    print(f"{passed} passed, {failed} failed")
-    return 1 if failed or not passed else 0
+    words = sys.argv[1:]
+    if words and words[0] != "--unproved":
+        sys.exit(__doc__.split("\n\n")[1])
+    tests = Tests([*words[1:]] or programs() if words else [])
+    lacking = [it for it in programs() if not os.access(tests.program_of(it), os.X_OK)]
+    if lacking:
+        print(f"FAILED: {tests.program_of(lacking[0])} is not built\n0 passed, {len(lacking)} failed")
+        return 1
+    tests.run_readme()
+    for crate in programs():
+        tests.run_crate(crate)
+    print(f"{tests.passed} passed, {tests.failed} failed")
+    return 1 if tests.failed or not tests.passed else 0
 
 
 if __name__ == "__main__":

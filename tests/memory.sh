@@ -6,12 +6,17 @@
 # that it is made of, and its sort of few does without the room that it asks for. The last line is `N passed, M failed`, in
 # which each call on a tree counts once.
 #
-# usage: tests/memory.sh [CALL [SAMPLE]]      (with none: each call)
+# usage: tests/memory.sh [--unproved] [CALL [SAMPLE]]      (with none: each call)
 #
-# The program is the one that `./check` or `rt run` in crates/openapi_cases made.
+# The program is the one that `bin/prove.py openapi_cases` built; with --unproved the one that `bin/unproved.py openapi_cases`
+# built.
 set -eu
 top=$(cd "$(dirname "${BASH_SOURCE[0]}")/.." && pwd)
 program=$top/crates/openapi_cases/out/openapi_cases
+if [ "${1:-}" = --unproved ]; then
+  program=$program.unproved
+  shift
+fi
 if [ ! -x "$program" ]; then
   printf 'FAILED: %s is not built\n0 passed, 1 failed\n' "$program"
   exit 1
@@ -64,7 +69,7 @@ if [ $# -gt 0 ]; then
 else
   for sample in schema responses refused document operation tag; do
     for call in from_value copy clone to_value into_value node_from_json json_from_node node_from_json_in_order \
-      json_from_node_in_order pretty_from_node_in_order position_of from_node settle to_node; do
+      json_from_node_in_order pretty_from_node_in_order position_of position_below from_json from_node settle to_node; do
       # (the refused one is never an object that could be written)
       if [ "$sample $call" != 'refused to_node' ]; then count "$call" "$sample"; fi
     done
@@ -72,7 +77,7 @@ else
   for sample in schema document tag; do
     for call in from_owned_node into_node; do count "$call" "$sample"; done
   done
-  for call in ref_ boxed_item insert; do count "$call"; done
+  for call in ref_ boxed_item insert entry extend collect; do count "$call"; done
 fi
 echo "$all requests for memory were refused in all"
 echo "$passed passed, $failed failed"

@@ -1,12 +1,12 @@
 #!/usr/bin/env python3
-"""Lists the public functions that users call and that no test names, and fails where there is one.
+"""Lists the public functions that users call and that no test names, and fails if there are any.
 
-Users call what stands at the root of openapiv3: the functions that it names, and those of the types that it names. A
-contract is met as well by a body that always says that memory ran out. So each of them is called once where memory is
-plenty, and its answer is compared. Whether that is so is read off the text of the tests and of the program that answers
-the cases: a function counts as named where they call it, a method where they call one of its name on something, and what
-makes a value of a type (`Type::new`) where they call that of the type. Left out are the functions with an empty body,
-which are laws and compute nothing, and the methods of traits, which are called by the functions that need the trait.
+Users call what the root of openapiv3 exports: its functions, and those of its types. A body that always returns an
+allocation failure meets its contract too. So each of them is called once with enough memory, and its result is compared.
+Whether that is so is read from the text of the tests and of the program of the cases: a function counts as named if they call
+it, a method if they call one of its name on something, and a function of a type (`Type::new`) if they call that of the type.
+Left out are the functions with an empty body, which are laws and compute nothing, and the methods of traits, which are called
+by the functions that need the trait.
 
 The last line is `N passed, M failed`.
 """
@@ -17,8 +17,11 @@ import sys
 TOP = os.path.dirname(os.path.dirname(os.path.realpath(__file__)))
 # The crates of tests, and the program that answers the cases.
 TESTS = re.compile(r"^openapi_(vectors|test_support|cases)$")
-# What the root of openapiv3 names: the crate that it comes from, and its name.
-EXPORT = re.compile(r"^pub use (\w+)::(\w+);$", re.M)
+# What the root of openapiv3 exports: a path, and behind it a list in braces, which may hold others.
+EXPORT = re.compile(r"^pub use ([^;]+);$", re.M)
+# What an exported item may be, and the crates of the kit whose items the root exports.
+KINDS = "struct|enum|trait|type|const|static|fn|const fn"
+OF_KIT = ("indexmap",)
 # An `impl` with the type that it is for; the end of an item; a public function with its indentation and its name, and the
 # word `self` if it is a method. The head of a function may take several lines.
 ITEM = re.compile(
@@ -36,6 +39,37 @@ def sources():
             for name in sorted(names):
                 with open(f"{folder}/{name}") as it:
                     yield crate, name, it.read()
+
+
+def leaves(path):
+    """Yields the parts of each path that a `use` imports, without the name that it gives it."""
+    start, brace, inner = path.partition("{")
+    if not brace:
+        yield path.partition(" as ")[0].strip().split("::")
+        return
+    depth, item = 0, ""
+    for sign in f"{inner.rstrip().removesuffix('}')},":
+        if sign == "," and not depth:
+            if item.strip():
+                yield from leaves(f"{start}{item.strip()}")
+            item = ""
+        else:
+            depth += (sign == "{") - (sign == "}")
+            item += sign
+
+
+def exports(text):
+    """Returns the first and the last part of the path of each name that a source exports."""
+    return [(parts[0], parts[-1]) for path in EXPORT.findall(text) for parts in leaves(" ".join(path.split()))]
+
+
+def home_of(crate, item, texts):
+    """Returns the crate that defines an item which another crate, or this one, exports; or None."""
+    own = [text for of, _, text in texts if of == crate]
+    if any(re.search(rf"^pub (?:{KINDS}) {item}\b", text, re.M) for text in own):
+        return crate
+    above = (of for text in own for of, name in exports(text) if name == item and of != crate)
+    return next((home for of in above if (home := home_of(of, item, texts))), None)
 
 
 def is_empty(text, indent, start):
@@ -70,22 +104,35 @@ def main():
     texts = list(sources())
     tests = "\n".join(text for crate, name, text in texts if TESTS.search(crate) or name.endswith("tests.rt"))
     root = next(text for crate, name, text in texts if (crate, name) == ("openapiv3", "lib.rt"))
-    exports = EXPORT.findall(root)
-    crates, names = {"openapiv3", *(crate for crate, _ in exports)}, {name for _, name in exports}
+    exported, crates, names = exports(root), {crate for crate, _, _ in texts}, set()
     passed = failed = 0
+
+    def fail(why):
+        nonlocal failed
+        failed += 1
+        print(f"FAILED: {why}")
+
+    # counted apart: the words behind which there is no `::`
+    written = [it for text in re.findall(r"^pub use\b(.*?);", root, re.M | re.S) for it in re.findall(r"\w+\b(?!\s*::)", re.sub(r"\bas \w+", "", text))]
+    if len(exported) != len(written) or not written:
+        fail(f"the root of openapiv3 exports {len(written)} names, and {len(exported)} of them were read")
+    for crate, item in exported:
+        # (a path that begins with no crate begins with a module of openapiv3)
+        home = home_of(crate if crate in crates else "openapiv3", item, texts)
+        if home:
+            names.add((home, item))
+        elif crate not in OF_KIT:
+            fail(f"the root of openapiv3 exports {item}, and nothing defines it")
     for crate, name, text in texts:
-        if crate not in crates:
-            continue
         for owner, function, is_method in functions(text):
-            if (owner or function) not in names:
+            if (crate, owner or function) not in names:
                 continue
             if is_named(tests, owner, function, is_method):
                 passed += 1
             else:
-                failed += 1
-                print(f"FAILED: no test names {f'{owner}::' if owner else ''}{function} ({crate}/src/{name})")
-    print(f"{passed} passed, {failed} failed")
-    return 1 if failed else 0
+                fail(f"no test names {f'{owner}::' if owner else ''}{function} ({crate}/src/{name})")
+    print(f"{len(exported)} names at the root of openapiv3\n{passed} passed, {failed} failed")
+    return 1 if failed or not passed else 0
 
 
 if __name__ == "__main__":

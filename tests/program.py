@@ -1,7 +1,7 @@
 #!/usr/bin/env python3
 """Runs the built programs as a person does, and compares their exit status, standard output and standard error.
 
-usage: tests/program.py [PROGRAM [ORDER]]      (with none: those that `./check` made, `openapi_clean` and `openapi_order`)
+usage: tests/program.py [PROGRAM [ORDER]]      (by default `openapi_clean` and `openapi_order` as `bin/prove.py` built them)
 
 The contracts say what is written for which bytes, which words are a command, and which status each end of a run has.
 What they can't say stands here: that `main` hands the real arguments and streams on and ends with that status, what is
@@ -68,6 +68,23 @@ ROWS = [
         b'"owner":{"$ref":"#/components/schemas/Owner"}},"required":["name"],"type":"object","x-table":"pets"}\n',
         b"",
     ),
+    # an empty list is a present member when the kind is chosen, and is not written
+    (
+        "a schema of no kind in particular",
+        ["schema"],
+        b'{"type":"integer","exclusiveMinimum":false,"required":[]}',
+        0,
+        b'{"exclusiveMinimum":false,"type":"integer"}\n',
+        b"",
+    ),
+    (
+        "a schema with an XML object",
+        ["schema"],
+        b'{"type":"string","xml":{"name":"n","attribute":true,"wrapped":false}}',
+        0,
+        b'{"type":"string","xml":{"attribute":true,"name":"n"}}\n',
+        b"",
+    ),
     ("the example of a document", ["document"], example("petstore"), 0, cleaned_petstore(), b""),
     ("the example of a document, settled", ["settle"], example("petstore"), 0, cleaned_petstore(), b""),
     (
@@ -100,6 +117,7 @@ ROWS = [
     ("a tag with no name", ["tag"], b"{}", 1, b"", b"missing field `name` at #\n"),
     ("a fault further in", ["tag"], b'{"name":"t","externalDocs":{}}', 1, b"", b"missing field `url` at #/externalDocs\n"),
     ("a number that is not whole", ["tag"], b'{"name":"t","x-n":[1,0.5]}', 1, b"", b"number not whole at #/x-n/1\n"),
+    ("a schema with a fraction", ["schema"], b'{"type":"number","multipleOf":0.5}', 1, b"", b"number not whole at #/multipleOf\n"),
     ("a schema of another kind", ["schema"], b"[]", 1, b"", b"invalid type, expected object at #\n"),
     ("no JSON", ["tag"], b'{"name":', 2, b"", b"not JSON\n"),
     ("no UTF-8", ["tag"], b'{"name":"\xff"}', 2, b"", b"not JSON\n"),
@@ -169,7 +187,7 @@ ORDER_ROWS = [
 
 
 def outcome(program, arguments, **streams):
-    ran = subprocess.run([program, *arguments], stderr=subprocess.PIPE, timeout=60, **streams)
+    ran = subprocess.run([program, *arguments], stderr=subprocess.PIPE, timeout=300, **streams)
     return ran.returncode, ran.stdout, ran.stderr
 
 

@@ -1,17 +1,20 @@
 #!/usr/bin/env python3
-"""Makes random documents from OpenAPI's own tables, and compares the program's answers with what their maker knows.
+"""Makes random documents from OpenAPI's own tables, and compares the programs' output with what their maker knows.
 
 usage: tests/random_documents.py [--seed N] [--count N] [PROGRAM [ORDER]]
-       (with no PROGRAM: those that `./check` made, `openapi_clean` and `openapi_order`)
+       (without PROGRAM: `openapi_clean` and `openapi_order` as `bin/prove.py` built them)
 
 Each round makes a document that conforms, with members that OpenAPI does not know, nulls where a member may be missing,
 empty lists and maps, flags that are false, names and texts of all sorts, and numbers up to the limits. The maker knows the
-cleaned document, the settled one and the operations, and asks the program for each; what was settled has to settle to
-itself. Then it plants one fault, of which it knows the cause and the place, and asks again. The same is asked of
-`openapi_order`: the answer has to be the same but for the order of members, with the entries of each map, the extensions and
-what stands in these in the order of the text; and a fault has to be told at the line and the column of its value. The
-tables stand in `tests/openapi_fields.py`. It is no part of `./check`. The first line tells the seed.
-The last line is `N passed, M failed`.
+normalized document, the one in stable form and the operations, and compares each with the program's output; what is in stable
+form has to stay as it is. Then it plants one fault, of which it knows the cause and the location, and compares the message. The
+same is done with `openapi_order`: its output has to be the same but for the order of members, with the entries of each map, the
+extensions and what is in these in the order of the text; and a fault has to be reported at the line and the column of its value.
+The tables are in `tests/openapi_fields.py`.
+
+The first line is the seed. Of all documents that fail the smallest is shown, without the members and items that it fails
+without: the maker makes it again without each in turn, so that it knows what is wanted of the rest. The last line is
+`N passed, M failed`.
 """
 import argparse
 import collections
@@ -33,6 +36,8 @@ LEAST, MOST = -(2**63), 2**64 - 1
 
 # A tree as it is given, as it is cleaned, and as it is settled.
 Made = collections.namedtuple("Made", "given cleaned settled")
+# What a round compares: the program, its command and its input, how its output is compared, and what the maker had made.
+Check = collections.namedtuple("Check", "what program command given compare made")
 # A fault: how it is planted in the object that was given, and what is said of it.
 Planted = collections.namedtuple("Planted", "place value said")
 ABSENT = object()
@@ -75,10 +80,12 @@ def kept(name, value, sort):
 
 
 class Maker:
-    """Makes trees, and keeps the faults that could be planted in what it made."""
+    """Makes trees, and keeps the faults that could be planted in what it made. What it makes at a dropped place it leaves out,
+    where that may be missing; of a list it leaves out the items behind it too."""
 
-    def __init__(self, dice):
+    def __init__(self, dice, dropped=()):
         self.dice = dice
+        self.dropped = dropped
         self.faults = []
         self.room = dice.choice([40, 150, 400])
 
@@ -100,9 +107,24 @@ class Maker:
         pick = self.dice.randrange(8 if depth and self.room > 0 else 5)
         if pick < 5:
             return [None, self.dice.random() < 0.5, self.number(LEAST, MOST), self.text(), self.text()][pick]
-        if pick == 5:
-            return [self.tree((*place, i), depth - 1) for i in range(self.dice.randrange(3))]
-        return {name: self.tree((*place, name), depth - 1) for name in self.names(self.dice.randrange(3))}
+        steps = range(self.dice.randrange(3)) if pick == 5 else self.names(self.dice.randrange(3))
+        made = {step: self.tree((*place, step), depth - 1) for step in steps}
+        kept = self.kept(made, place, pick == 5)
+        return [*kept.values()] if pick == 5 else kept
+
+    def drops(self, place):
+        """Whether a place is dropped. If so, no fault can be planted there."""
+        if place in self.dropped:
+            self.faults = [it for it in self.faults if it.place[:len(place)] != place]
+        return place in self.dropped
+
+    def kept(self, made, place, is_list):
+        """Returns the entries of a map or a list, without those that are dropped."""
+        if not is_list:
+            return {step: it for step, it in made.items() if not self.drops((*place, step))}
+        end = next((step for step in made if (*place, step) in self.dropped), len(made))
+        self.faults = [it for it in self.faults if it.place[:len(place)] != place or len(it.place) == len(place) or it.place[len(place)] < end]
+        return {step: made[step] for step in range(end)}
 
     def names(self, number, first=""):
         return list(dict.fromkeys(first + self.text() for _ in range(number)))
@@ -125,12 +147,12 @@ class Maker:
         if kind[0] == "&":
             if self.dice.random() < 0.25 or self.room <= 0:
                 self.wrong(place, "object")
-                others = {"type": 7, "x-a": None} if self.dice.random() < 0.3 else {}
+                others = self.kept({"type": 7, "x-a": None} if self.dice.random() < 0.3 else {}, place, False)
                 reference = {"$ref": self.text()}
                 return Made({**reference, **others}, reference, reference)
             made = self.make(kind[1:], place)
             if self.dice.random() < 0.1 and kind != "&Callback":
-                made.given["$ref"] = self.dice.choice([5, None, {}, ["#/a"]])
+                self.add(made, place, "$ref", self.dice.choice([5, None, {}, ["#/a"]]))
             return made
         if kind == "any":
             return same(self.tree(place))
@@ -164,10 +186,10 @@ class Maker:
 
     def several(self, kind, place, steps):
         """A list or a map of a kind."""
-        made = [(step, self.make(kind, (*place, step))) for step in steps]
+        made = self.kept({step: self.make(kind, (*place, step)) for step in steps}, place, isinstance(steps, range))
         if isinstance(steps, range):
-            return Made(*([it[way] for _, it in made] for way in range(3)))
-        return Made(*({step: it[way] for step, it in made} for way in range(3)))
+            return Made(*([it[way] for it in made.values()] for way in range(3)))
+        return Made(*({step: it[way] for step, it in made.items()} for way in range(3)))
 
     def object(self, kind, place):
         if kind == "Schema":
@@ -197,25 +219,36 @@ class Maker:
         while self.dice.random() < 0.15:
             name = "x-" + self.text()
             if name not in made.given:
-                self.put(made, name, same(self.tree((*place, name))))
+                value = same(self.tree((*place, name)))
+                if not self.drops((*place, name)):
+                    self.put(made, name, value)
         for name in unknown:
             if self.dice.random() < 0.03:
-                made.given[name] = self.tree((*place, name))
+                self.add(made, place, name, self.tree((*place, name)))
 
     @staticmethod
     def put(made, name, value):
         for way in range(3):
             made[way][name] = value[way]
 
+    def add(self, made, place, name, tree):
+        """Puts a member that is not read."""
+        if not self.drops((*place, name)):
+            made.given[name] = tree
+
     def class_of(self, kind, names, made, place):
         for name in names:
-            self.put(made, name, self.make(kind, (*place, name)))
+            value = self.make(kind, (*place, name))
+            if not self.drops((*place, name)):
+                self.put(made, name, value)
 
     def codes(self, made, place):
         """Members by status codes: `2xx` is the code `2XX`, and the later one of the two in name order counts."""
         names = self.dice.sample(["100", "200", "404", "999", "2XX", "2xX", "2xx", "5Xx", "0XX"], self.dice.randrange(4))
         for name in sorted(names):
             value = self.make("&Response", (*place, name))
+            if self.drops((*place, name)):
+                continue
             made.given[name] = value.given
             made.cleaned[name.upper()], made.settled[name.upper()] = value.cleaned, value.settled
 
@@ -247,14 +280,21 @@ class Maker:
             if mode in "EFS":
                 self.wrong(here, {"[": "list", "{": "object", "f": "flag"}.get(kind[0] if mode != "S" else "", "text"), None)
             elif self.dice.random() < 0.1:
-                made.given[name] = None
-            if mode in "NS":
-                made.cleaned[name] = made.settled[name] = None if mode == "N" else kind.split("|")[0]
+                self.add(made, place, name, None)
+            self.leave_out(name, mode, kind, made)
             return
         value = self.make(kind, here)
+        if mode != "R" and self.drops(here):
+            self.leave_out(name, mode, kind, made)
+            return
         made.given[name] = value.given
         if not (mode in "EF" and not value.given or mode == "O" and value.given is None):
             made.cleaned[name], made.settled[name] = value.cleaned, value.settled
+
+    @staticmethod
+    def leave_out(name, mode, kind, made):
+        if mode in "NS":
+            made.cleaned[name] = made.settled[name] = None if mode == "N" else kind.split("|")[0]
 
     def either(self, names, kinds, made, place):
         """One of two members. Members come in name order; the later one is not looked at."""
@@ -262,7 +302,7 @@ class Maker:
         other = names[1 - i]
         self.put(made, names[i], self.make(kinds[i], (*place, names[i])))
         if names[i] < other and self.dice.random() < 0.2:
-            made.given[other] = self.tree((*place, other))
+            self.add(made, place, other, self.tree((*place, other)))
         else:
             self.fault((*place, names[i]), ABSENT, f"missing field `{names[0]}` or `{names[1]}`", place)
 
@@ -308,7 +348,7 @@ class Maker:
         if self.dice.random() < 0.15:
             # (an empty list is there, so the schema is one of any members; it is not written, and then it may be another)
             made.setdefault(self.dice.choice(["required", "enum", "oneOf", "allOf", "anyOf"]), same([]))
-        return made
+        return {name: it for name, it in made.items() if name == "type" or not self.drops((*place, name))}
 
     def entry(self, sort):
         values = {"string": self.text(), "boolean": self.dice.random() < 0.5, "number": self.number(LEAST, MOST),
@@ -414,67 +454,105 @@ def point_of(text, planted):
     return f"{line + 1}:{depth + len(lead) + 1}"
 
 
+def is_exactly(*wanted):
+    return lambda ran: ((ran.returncode, ran.stdout, ran.stderr), wanted)
+
+
+def is_in_order(kind, wanted):
+    def compare(ran):
+        came = json.loads(ran.stdout) if ran.returncode == 0 else None
+        both = (ran.returncode, came, ran.stderr), (0, wanted, b"")
+        return both if both[0] != both[1] else (disorder(kind, wanted, came), None)
+    return compare
+
+
+def checks(seed, programs, dropped=()):
+    """Yields all that a round compares."""
+    clean, order = programs
+    for kind, commands in [("OpenAPI", ["document", "settle", "operations"]), ("Schema", ["schema"])]:
+        dice = random.Random(f"{seed} {kind}")
+        maker = Maker(dice, dropped)
+        made = maker.make(kind, ())
+        given = text_of(made.given, dice)
+        wanted = dict(document=text_of(made.cleaned), settle=text_of(made.settled), schema=text_of(made.cleaned))
+        if kind == "OpenAPI":
+            wanted["operations"] = operations(made.given)
+            yield Check("settled once more", clean, "settle", wanted["settle"], is_exactly(0, wanted["settle"], b""), made.given)
+        for command in commands:
+            yield Check("a document", clean, command, given, is_exactly(0, wanted[command], b""), made.given)
+        # (a line for each value)
+        lines = json.dumps(made.given, indent=1, ensure_ascii=False).encode()
+        yield Check("in order", order, commands[0], lines, is_in_order(kind, made.cleaned), made.given)
+        if kind == "OpenAPI":
+            yield Check("settled in order", order, "settle", lines, is_in_order(kind, made.settled), made.given)
+        for planted in dice.sample(maker.faults, min(3, len(maker.faults))):
+            broken = with_fault(made.given, planted)
+            wanted = is_exactly(1, b"", planted.said.encode() + b"\n")
+            yield Check("a fault", clean, dice.choice(commands), text_of(broken, dice), wanted, made.given)
+            lines = json.dumps(broken, indent=1, ensure_ascii=False).encode()
+            wanted = is_exactly(1, b"", f"<stdin>:{point_of(lines, planted)}: {planted.said}\n".encode())
+            yield Check("a fault in order", order, commands[0], lines, wanted, made.given)
+
+
+def difference(check):
+    """Returns what came and what was wanted, if these differ."""
+    ran = subprocess.run([check.program, check.command], input=check.given, capture_output=True, timeout=60)
+    came, wanted = check.compare(ran)
+    return None if came == wanted else (came, wanted)
+
+
+def places_of(tree):
+    """Returns the places of all members and items of a tree, those that hold most first, and the last items of a list before the
+    others."""
+    found, left = [], [((), tree)]
+    while left:
+        place, it = left.pop(0)
+        steps = [*it] if isinstance(it, dict) else range(len(it) - 1, -1, -1) if isinstance(it, list) else []
+        left += [((*place, step), it[step]) for step in steps]
+        found += [(*place, step) for step in steps]
+    return found
+
+
+def smallest(check, seed, programs):
+    """Returns the check of the smallest document that fails as this one did: without each member or item in turn, if it still
+    fails without it."""
+    dropped, left = set(), places_of(check.made)
+    while left:
+        place = left.pop(0)
+        less = (it for it in checks(seed, programs, dropped | {place}) if (it.what, it.command) == (check.what, check.command))
+        found = next((it for it in less if len(it.given) < len(check.given) and difference(it)), None)
+        if found:
+            check, dropped = found, dropped | {place}
+            left = [it for it in left if it[:len(place)] != place]
+    return check
+
+
 def main():
     parser = argparse.ArgumentParser()
     parser.add_argument("--seed", type=int, default=random.randrange(10**6))
     parser.add_argument("--count", type=int, default=1000)
     parser.add_argument("programs", nargs="*", metavar="PROGRAM")
     asked = parser.parse_args()
-    clean, order = [*asked.programs, *BUILT[len(asked.programs):]]
-    for program in (clean, order):
+    programs = [os.path.realpath(it) for it in [*asked.programs, *BUILT[len(asked.programs):]]]
+    for program in programs:
         if not os.access(program, os.X_OK):
             print(f"FAILED: {program} is not built\n0 passed, 1 failed")
             return 1
     print(f"seed {asked.seed}, {asked.count} rounds", flush=True)
-    passed = failed = 0
-
-    def compare(what, command, given, *wanted):
-        ran = subprocess.run([os.path.realpath(clean), command], input=given, capture_output=True, timeout=60)
-        told(what, command, given, (ran.returncode, ran.stdout, ran.stderr), wanted)
-
-    def told(what, command, given, came, wanted):
-        nonlocal passed, failed
-        if came == wanted:
-            passed += 1
-            return
-        failed += 1
-        print(f"FAILED: {what}: {command} of {given!r}\n  came: {came}\n  wanted: {wanted}", flush=True)
-
-    def in_order(what, command, kind, given, wanted):
-        """Asks for a tree in order, whose text has a line for each value."""
-        ran = subprocess.run([os.path.realpath(order), command], input=given, capture_output=True, timeout=60)
-        came = json.loads(ran.stdout) if ran.returncode == 0 else None
-        told(what, command, given, (ran.returncode, came, ran.stderr), (0, wanted, b""))
-        if came == wanted:
-            told(what, command, given, disorder(kind, wanted, came), None)
-
-    def refused_in_order(what, command, given, planted):
-        ran = subprocess.run([os.path.realpath(order), command], input=given, capture_output=True, timeout=60)
-        said = f"<stdin>:{point_of(given, planted)}: {planted.said}\n"
-        told(what, command, given, (ran.returncode, ran.stdout, ran.stderr.decode()), (1, b"", said))
-
+    passed, failed = 0, []
     for turn in range(asked.count):
-        dice = random.Random(f"{asked.seed} {turn}")
-        for kind, commands in [("OpenAPI", ["document", "settle", "operations"]), ("Schema", ["schema"])]:
-            maker = Maker(dice)
-            made = maker.make(kind, ())
-            given = text_of(made.given, dice)
-            wanted = dict(document=text_of(made.cleaned), settle=text_of(made.settled), schema=text_of(made.cleaned))
-            if kind == "OpenAPI":
-                wanted["operations"] = operations(made.given)
-                compare(f"round {turn}, settled once more", "settle", wanted["settle"], 0, wanted["settle"], b"")
-            for command in commands:
-                compare(f"round {turn}", command, given, 0, wanted[command], b"")
-            lines = json.dumps(made.given, indent=1, ensure_ascii=False).encode()
-            in_order(f"round {turn}, in order", commands[0], kind, lines, made.cleaned)
-            if kind == "OpenAPI":
-                in_order(f"round {turn}, settled in order", "settle", kind, lines, made.settled)
-            for planted in dice.sample(maker.faults, min(3, len(maker.faults))):
-                broken = text_of(with_fault(made.given, planted), dice)
-                compare(f"round {turn}, a fault", dice.choice(commands), broken, 1, b"", planted.said.encode() + b"\n")
-                lines = json.dumps(with_fault(made.given, planted), indent=1, ensure_ascii=False).encode()
-                refused_in_order(f"round {turn}, a fault in order", commands[0], lines, planted)
-    print(f"{passed} passed, {failed} failed")
+        for check in checks(f"{asked.seed} {turn}", programs):
+            if difference(check):
+                failed.append((check, turn))
+            else:
+                passed += 1
+    if failed:
+        check, turn = min(failed, key=lambda it: len(it[0].given))
+        check = smallest(check, f"{asked.seed} {turn}", programs)
+        came, wanted = difference(check)
+        name = os.path.basename(check.program)
+        print(f"FAILED: round {turn}, {check.what}: {name} {check.command} of\n{check.given.decode()}\n  came: {came}\n  wanted: {wanted}", flush=True)
+    print(f"{passed} passed, {len(failed)} failed")
     return 1 if failed else 0
 
 

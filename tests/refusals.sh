@@ -7,7 +7,7 @@
 # usage: tests/refusals.sh [COMMAND FILE ..]      (`openapi_clean`; with none: both programs, on the examples of the
 #                                                  repository, and `openapi_clean` on small inputs of each kind)
 #
-# The programs are those that `./check` made.
+# The programs are those that `bin/prove.py` built.
 set -eu
 top=$(cd "$(dirname "${BASH_SOURCE[0]}")/.." && pwd)
 clean=$top/crates/openapi_clean/out/openapi_clean order=$top/crates/openapi_order/out/openapi_order

@@ -1,10 +1,11 @@
 #!/usr/bin/env python3
 """Asks that the built programs need less than a megabyte of stack for the deepest JSON, which has 127 levels, in each command.
 
-usage: tests/stack.py [PROGRAM [MOST]]      (with none: both programs, as `./check` made them)
+usage: tests/stack.py [PROGRAM [MOST]]      (by default both programs, as `bin/prove.py` built them)
 
-MOST is the most that it may need, in kB, if not 1000: a build without proof is compiled otherwise, and needs more. For each shape the least stack is sought, in steps of 16 kB, under which the program ends with status 0. The last line is
-`N passed, M failed`, in which each command on a shape counts once; the line before it tells the most that any of them needs.
+MOST is the most that it may need, in kB, 1000 by default: a build without proof is compiled otherwise, and needs more. For each
+shape it finds the least stack, in steps of 16 kB, with which the program ends with status 0. The last line is
+`N passed, M failed`, in which each command on a shape counts once; the line before it is the most that any of them needs.
 """
 import json
 import os

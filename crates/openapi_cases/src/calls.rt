@@ -6,7 +6,7 @@ use crate::told::{Told, told_by_growth};
 use crate::{nodes, typed};
 use openapi_test_support::trees::tree;
 use openapiv3::{Node, OpenAPI, Operation, OrderedMap, ReferenceOr, Responses, Schema, Tag};
-use std::alloc::Global;
+use std::alloc::{AllocError, Global};
 use std::test::Fail;
 
 /// What comes of a call that is made on no sample.
@@ -15,6 +15,9 @@ pub fn alone(rt: &HostRuntime, call: &str) -> Result<Told, Fail> {
         "ref_" => reference(rt.alloc()),
         "boxed_item" => boxed_item(rt.alloc(), tree(rt, Sample::Document.text())?),
         "insert" => insert(rt.alloc()),
+        "entry" => entry(rt.alloc()),
+        "extend" => extend(rt.alloc()),
+        "collect" => collect(rt.alloc()),
         _ => Err(Fail::new("no such call")),
     }
 }
@@ -33,6 +36,7 @@ pub fn on_sample(rt: &HostRuntime, call: &str, sample: Sample) -> Result<Told, F
         "json_from_node_in_order" => nodes::json_from_node_in_order(rt, sample.text()),
         "pretty_from_node_in_order" => nodes::pretty_from_node_in_order(rt, sample.text()),
         "position_of" => nodes::position_of(rt, sample.text()),
+        "position_below" => nodes::position_below(rt, sample),
         "from_owned_node" => match sample {
             Sample::Schema => typed::from_owned_node::<Schema>(rt, sample),
             Sample::Document => typed::from_owned_node::<OpenAPI>(rt, sample),
@@ -76,29 +80,102 @@ fn boxed_item(alloc: Global, item: Node) -> Result<Told, Fail> {
     Ok(told_by_growth(answer, &wanted))
 }
 
-/// A map with the first of these names, each beside its length.
-fn map_of(alloc: Global, names: &[&str]) -> Result<OrderedMap<usize>, Fail> {
+/// Names of which a map holds all but the last without an index, and the last one with it.
+const NAMES: [&str; 17] = [
+    "a",
+    "b",
+    "c",
+    "d",
+    "e",
+    "f",
+    "g",
+    "h",
+    "i",
+    "j",
+    "k",
+    "l",
+    "m",
+    "n",
+    "o",
+    "p",
+    "seventeenth",
+];
+
+/// Returns the names, each beside its length.
+fn pairs(alloc: Global) -> Result<Vec<(String, usize)>, Fail> {
+    let mut pairs = Vec::new(alloc);
+    for name in NAMES {
+        pairs.push((String::from_str(alloc, name)?, name.len()))?;
+    }
+    Ok(pairs)
+}
+
+/// Returns a map with the first of the names, each beside its length.
+fn map_of(alloc: Global, count: usize) -> Result<OrderedMap<usize>, Fail> {
     let mut map = OrderedMap::new(alloc);
-    for name in names {
+    for name in NAMES.iter().take(count) {
         map.insert(String::from_str(alloc, name)?, name.len())?;
     }
     Ok(map)
 }
 
-/// Puts the seventeenth name in a map, which then makes an index of its names.
+/// Returns the outcome of a call that puts the last name in a map, or leaves the map as it was.
+fn told_by_map<T: PartialEq + Drop>(
+    alloc: Global,
+    answer: Result<T, AllocError>,
+    wanted: &T,
+    map: &OrderedMap<usize>,
+) -> Result<Told, Fail> {
+    let count = if answer.is_ok() { 17 } else { 16 };
+    let now = map_of(alloc, count)?;
+    let told = told_by_growth(answer, wanted).if_kept(map, &now);
+    Ok(told.if_kept(&map.len(), &now.len()))
+}
+
+/// Inserts the seventeenth name, for which the map makes an index of its names.
 fn insert(alloc: Global) -> Result<Told, Fail> {
-    let names = [
-        "a", "b", "c", "d", "e", "f", "g", "h", "i", "j", "k", "l", "m", "n", "o", "p",
-    ];
-    let mut map = map_of(alloc, &names)?;
-    let before = map.clone()?;
-    let mut wanted = map_of(alloc, &names)?;
-    wanted.insert(String::from_str(alloc, "seventeenth")?, 17)?;
+    let mut map = map_of(alloc, 16)?;
     let name = String::from_str(alloc, "seventeenth")?;
     mark(alloc, Moment::CallBegins)?;
-    let answer = map.insert(name, 17);
+    let answer = map.insert(name, 11);
     mark(alloc, Moment::CallEnds)?;
-    let now = if answer.is_ok() { &wanted } else { &before };
-    let told = told_by_growth(answer, &None).if_kept(&map, now);
-    Ok(told.if_kept(&map.len(), &now.len()))
+    told_by_map(alloc, answer, &None, &map)
+}
+
+/// Inserts the seventeenth name by its entry.
+fn entry(alloc: Global) -> Result<Told, Fail> {
+    let mut map = map_of(alloc, 16)?;
+    let name = String::from_str(alloc, "seventeenth")?;
+    mark(alloc, Moment::CallBegins)?;
+    let answer = entered(&mut map, name, 11);
+    mark(alloc, Moment::CallEnds)?;
+    told_by_map(alloc, answer, &11, &map)
+}
+
+/// Returns the value at a name, after this one is put there where the map lacked the name.
+fn entered(map: &mut OrderedMap<usize>, name: String, value: usize) -> Result<usize, AllocError> {
+    let there = map.entry(name).or_insert(value)?;
+    Ok(*there)
+}
+
+/// Extends a map of the first name by all names. Where memory runs out, the first ones are in the map.
+fn extend(alloc: Global) -> Result<Told, Fail> {
+    let pairs = pairs(alloc)?;
+    let mut map = map_of(alloc, 1)?;
+    mark(alloc, Moment::CallBegins)?;
+    let answer = map.extend(pairs);
+    mark(alloc, Moment::CallEnds)?;
+    let count = if answer.is_ok() { 17 } else { map.len().max(1) };
+    let now = map_of(alloc, count)?;
+    Ok(told_by_growth(answer, &()).if_kept(&map, &now))
+}
+
+/// Collects all names into a map.
+fn collect(alloc: Global) -> Result<Told, Fail> {
+    let pairs = pairs(alloc)?;
+    let wanted = map_of(alloc, 17)?;
+    mark(alloc, Moment::CallBegins)?;
+    let answer = pairs.into_iter().collect::<OrderedMap<usize>>(alloc);
+    mark(alloc, Moment::CallEnds)?;
+    Ok(told_by_growth(answer, &wanted))
 }

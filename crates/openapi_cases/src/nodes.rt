@@ -1,11 +1,12 @@
 //! The calls on nodes, values of `serde_json` and JSON text for `tests/memory.sh`.
 
 use crate::marks::{Moment, mark};
+use crate::samples::Sample;
 use crate::told::{Told, told_by, told_by_growth, told_by_value};
 use openapi_test_support::trees::tree;
-use openapiv3::{JsonFault, Node, Point, Position, Steps};
+use openapiv3::{JsonFault, Node, PlaceStep, Point, Position, Steps};
 use serde_json::Value;
-use std::alloc::AllocError;
+use std::alloc::{AllocError, Global};
 use std::test::Fail;
 
 /// Makes a node of a value.
@@ -59,7 +60,7 @@ pub fn node_from_json(rt: &HostRuntime, text: &str) -> Result<Told, Fail> {
 }
 
 /// What came of a call that refused JSON text.
-fn told_by_json_fault(fault: &JsonFault) -> Told {
+pub fn told_by_json_fault(fault: &JsonFault) -> Told {
     match fault {
         JsonFault::Memory => Told::OutOfMemory,
         JsonFault::NotJson | JsonFault::NotWhole(_) => Told::Differs("the text is refused"),
@@ -131,19 +132,55 @@ fn told_by_text(
 /// Looks for the position of a text's root.
 pub fn position_of(rt: &HostRuntime, text: &str) -> Result<Told, Fail> {
     let alloc = rt.alloc();
-    let first = Point {
-        offset: 0,
-        line: 1,
-        column: 1,
-    };
     let wanted = Some(Position {
-        value: first,
+        value: point_at(0),
         name: None,
     });
     mark(alloc, Moment::CallBegins)?;
     let answer = openapiv3::position_of(alloc, text.as_bytes(), &[]);
     mark(alloc, Moment::CallEnds)?;
     Ok(told_by_growth(answer, &wanted))
+}
+
+/// Looks for the position of a member's value below a text's root.
+pub fn position_below(rt: &HostRuntime, sample: Sample) -> Result<Told, Fail> {
+    let alloc = rt.alloc();
+    let (names, member) = sample.inner();
+    let place = place_of(alloc, names)?;
+    let wanted = Some(position_in(sample.text(), member)?);
+    mark(alloc, Moment::CallBegins)?;
+    let answer = openapiv3::position_of(alloc, sample.text().as_bytes(), place.as_slice());
+    mark(alloc, Moment::CallEnds)?;
+    Ok(told_by_growth(answer, &wanted))
+}
+
+/// Returns the place that these names lead to.
+fn place_of(alloc: Global, names: &[&str]) -> Result<Vec<PlaceStep>, Fail> {
+    let mut place = Vec::new(alloc);
+    for name in names {
+        place.push(PlaceStep::Name(String::from_str(alloc, name)?))?;
+    }
+    Ok(place)
+}
+
+/// Returns the position of a member in a text of one line, which has the member's own text once.
+fn position_in(text: &str, member: &str) -> Result<Position, Fail> {
+    let (before, _) = text.split_once(member).ok_or("no such member")?;
+    let (name, _) = member.split_once(':').ok_or("no member")?;
+    let offset = before.len();
+    Ok(Position {
+        value: point_at(offset.saturating_add(name.len()).saturating_add(1)),
+        name: Some(point_at(offset)),
+    })
+}
+
+/// Returns the point at an offset of a text of one line, in ASCII.
+fn point_at(offset: usize) -> Point {
+    Point {
+        offset,
+        line: 1,
+        column: offset.saturating_add(1),
+    }
 }
 
 /// Copies a node, with its looks counted.

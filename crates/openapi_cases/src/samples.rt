@@ -74,6 +74,35 @@ impl Sample {
         }
     }
 
+    /// Returns what is written of what is read of the tree with members in the order of their names, in the same way. Of two
+    /// spellings of a code the later one counts, and by name it is the one in small letters.
+    pub fn cleaned_by_name(self) -> Result<&'static str, &'static str> {
+        match self {
+            Sample::Responses => { Ok(r#"{"2XX":{"description":"a"},"404":{"description":"b"}}"#) }
+            Sample::Schema | Sample::Refused | Sample::Document | Sample::Operation | Sample::Tag =>
+                self.cleaned(),
+        }
+    }
+
+    /// Returns the names of the members that lead to a value below the root, and the text of the last of these members, which
+    /// the tree has once.
+    pub fn inner(self) -> (&'static [&'static str], &'static str) {
+        match self {
+            Sample::Schema => (&["required"], r#""required":[]"#),
+            Sample::Responses => (&["404", "description"], r#""description":"b""#),
+            Sample::Refused => (
+                &["200", "content", "application/json", "schema", "type"],
+                r#""type":"string""#,
+            ),
+            Sample::Document => (
+                &["components", "schemas", "Dog", "description"],
+                r#""description":"A representation of a dog""#,
+            ),
+            Sample::Operation => (&["responses", "418"], r#""418":{"$ref":"demo"}"#),
+            Sample::Tag => (&["x-b", "a"], r#""a":"q""#),
+        }
+    }
+
     /// What the tree settles to, in the same way.
     pub fn settled(self) -> Result<&'static str, &'static str> {
         match self {

@@ -87,10 +87,12 @@ pub fn pretty(rt: &HostRuntime, text: &str) -> Result<String, Fail> {
     }
 }
 
-/// Where the value at a place stands in a text, in which `↵` stands for a line feed.
+/// Returns where the value at a place begins in a text, in which `↵` is a line feed, `␍` a carriage return and `⇥` a tab.
 pub fn position(rt: &HostRuntime, request: &str) -> Result<String, Fail> {
     let (place, text) = request.split_once(' ').unwrap_or((request, ""));
     let text = text.replace(rt.alloc(), "↵", "\n")?;
+    let text = text.as_str().replace(rt.alloc(), "␍", "\r")?;
+    let text = text.as_str().replace(rt.alloc(), "⇥", "\t")?;
     let place = place_of(rt, place)?;
     match position_of(rt.alloc(), text.as_str().as_bytes(), place.as_slice())? {
         Some(position) => {

@@ -1,10 +1,11 @@
 //! The calls of the types of OpenAPI for `tests/memory.sh`.
 
 use crate::marks::{Moment, mark};
+use crate::nodes::told_by_json_fault;
 use crate::samples::Sample;
 use crate::told::{Told, told_by, told_by_fault, told_by_value};
 use openapi_test_support::trees::{fault_text, tree};
-use openapiv3::{Fault, FromNode, IntoNode, Node, Settle, Steps, ToNode};
+use openapiv3::{Fault, FromNode, IntoNode, Node, ReadError, Settle, Steps, ToNode};
 use std::test::Fail;
 
 /// What comes of a call that is made on a sample, which is read as a `T`.
@@ -17,6 +18,7 @@ pub fn on_sample<T: ToNode + Clone + PartialEq + Drop>(
         "from_node" => from_node::<T>(rt, sample),
         "to_node" => to_node::<T>(rt, sample),
         "settle" => settle::<T>(rt, sample),
+        "from_json" => from_json::<T>(rt, sample),
         _ => Err(Fail::new("no such call")),
     }
 }
@@ -36,6 +38,20 @@ fn from_node<T: ToNode + Drop>(rt: &HostRuntime, sample: Sample) -> Result<Told,
     };
     let told = told_by_tree(rt, written, sample.cleaned())?;
     Ok(told.if_kept(&node, &before))
+}
+
+/// Reads JSON text. What was read is told by what is written of it.
+fn from_json<T: ToNode + Drop>(rt: &HostRuntime, sample: Sample) -> Result<Told, Fail> {
+    let alloc = rt.alloc();
+    let mut steps = Steps::new(rt);
+    mark(alloc, Moment::CallBegins)?;
+    let answer = openapiv3::from_json::<T>(alloc, sample.text().as_bytes(), &mut steps);
+    mark(alloc, Moment::CallEnds)?;
+    match answer {
+        Ok(value) => told_by_tree(rt, value.to_node(alloc), sample.cleaned_by_name()),
+        Err(ReadError::Refused(fault)) => told_by_tree(rt, Err(fault), sample.cleaned_by_name()),
+        Err(ReadError::Json(fault)) => Ok(told_by_json_fault(&fault)),
+    }
 }
 
 /// Settles a tree.

@@ -1,11 +1,14 @@
--- How many tokens of a value stand before the one at a place in it, and what stands there in a text.
+-- How many tokens of a value come before the one at a place in it, and what stands there in a text.
 use Rattle.std.proofs.Common.{◌≡◌, ℕ, zero, suc, ◌+◌, ◌-◌, ◌<◌, ◌≤◌, List, [], ◌∷◌, ◌++◌, Bool, true, false, cond, Option, Some, None}
-use Rattle.std.proofs.Common.{IfSome, IsFalse, IsSomeAnd, IsTrue, is_some, MatchOption, option_and_then, drop, take, get_or, length, drop-drop}
-use Rattle.std.proofs.Common.{append_assoc, append-nil, length-append, length-drop, take_all, refl, sym, ap, subst, ◌∙◌, arith, Vec, true≢false}
-use Rattle.std.proofs.lemmas.List.{drop_more, take_more}
+use Rattle.std.proofs.Common.{IfSome, IsFalse, IsSomeAnd, IsTrue, is_some, MatchOption, option_and_then, option_map, drop, take, get_or}
+use Rattle.std.proofs.Common.{length, drop-drop, append_assoc, append-nil, length-append, length-drop, length-take, take_all, refl, sym, ap, subst, ◌∙◌}
+use Rattle.std.proofs.Common.{arith, Vec, true≢false}
+use Rattle.std.specs.Prelude.{slice_get}
 use Rattle.std.specs.Borrow.{Bor}
 use Rattle.std.specs.Str.{bytes_eq, IsUtf8}
-use Rattle.json.specs.Find.{get_member}
+use Rattle.std.proofs.lemmas.List.{drop_more}
+use Rattle.std.proofs.lemmas.Slice.Eq.{bytes_eq-Decides}
+use Rattle.json.specs.Find.{get_item, get_member, later_or}
 use Rattle.json.specs.Json.{Json, null, boolean, number, string, array, object, Items, no_items, item, Members, no_members, member}
 use Rattle.json.specs.Json.{if_last, value}
 use Rattle.json.specs.Lex.{lex, tokens, class, fresh}
@@ -15,17 +18,17 @@ use Rattle.json.specs.Tree.{json_tokens, items_tokens, members_tokens}
 use Rattle.json.specs.Value.{value_view, items_view, members_view}
 use Rattle.json.specs.declared.value.Value.{Value, Array, Object}
 use Rattle.json.proofs.Found.{not_found, Some_inj}
-use Rattle.json.proofs.Trees.{get_item_within, get_member-push, view-Array, view-Object}
+use Rattle.json.proofs.Trees.{get_item_within, view-Array, view-Object}
 use Rattle.serde_json.specs.Read.{max_depth}
 use Rattle.openapi_node.specs.Place.{Place, Step, named, indexed}
 use Rattle.openapi_json.specs.Ordered.{parsed}
-use Rattle.openapi_json.specs.Positions.{BeginsAt, flat, IsNamed, item_tokens, json_at, last_name, LeadsTo, member_tokens, StandsAt}
-use Rattle.openapi_json.specs.Positions.{StepsTo}
-use Rattle.openapi_json.specs.Scanned.{AreGood, begins, next_mode}
+use Rattle.openapi_json.specs.Positions.{before, before_item, before_member, BeginsAt, child, flat, IsBehind, IsToken, item_tokens, json_at}
+use Rattle.openapi_json.specs.Positions.{last_name, member_tokens, StandsAt, StepsTo, tokens_before}
+use Rattle.openapi_json.specs.Scanned.{AreGood, begins, next_mode, starts}
 use Rattle.openapi_json.specs.declared.position.Point.{Point}
 use Rattle.openapi_json.specs.declared.position.Position.{Position}
 use Rattle.openapi_json.proofs.Parsed.{value_reads}
-use Rattle.openapi_json.proofs.Scanned.{AreOf, behind, byte_step, nothing_left}
+use Rattle.openapi_json.proofs.Scanned.{AreOf, behind, byte_step, as_many_starts, good_behind, length_behind, nothing_left, start_is, start_within}
 
 -- ---- the tokens of a text that is read
 -- they are those of its value
@@ -62,15 +65,6 @@ mutual
   good_members (member k j ms) =
       (λ e. cc, good_append (json_tokens j) (members_tokens ms) (good_tokens j) (good_members ms))
 
-good_behind : (b : Bool) (ts : List Token) → AreGood ts → AreGood (behind b ts)
-good_behind true [] g = tt
-good_behind true (t ∷ ts) g = g.1
-good_behind false ts g = g
-
-length_behind : (b : Bool) (ts : List Token) → length ts ≤ length (behind b ts) + 1
-length_behind true ts = omega (arith, length-drop 1 ts)
-length_behind false ts = omega arith
-
 -- there are no more of them than bytes
 few_tokens : (m : lexing.Mode) (xs : List ℕ) (ts : List Token) → AreGood ts → AreOf (lex m xs) ts → length ts ≤ length xs
 few_tokens m [] ts g a = omega (arith, ap length (nothing_left m ts g a))
@@ -93,19 +87,6 @@ passed : (xs ys : List Token) (n : ℕ) → drop (length xs + n) (xs ++ ys) ≡ 
 passed [] ys n = let e : 0 + n ≡ n = omega arith in ap (λ k. drop k ys) e
 passed (x ∷ xs) ys n =
     let e : suc (length xs) + n ≡ suc (length xs + n) = omega arith in ap (λ k. drop k (x ∷ (xs ++ ys))) e ∙ passed xs ys n
-
-module _ {X : Type 0} (f : X → List Token) (end : List Token) where
-  part_there : (xs : List X) (i : ℕ) (d : X) → i < length xs
-      → drop (length (flat f (take i xs))) (flat f xs ++ end) ≡ f (get_or xs i d) ++ (flat f (drop (i + 1) xs) ++ end)
-  part_there [] i d h = absurd (omega arith)
-  part_there (x ∷ xs) zero d h = append_assoc (f x) (flat f xs) end
-  part_there (x ∷ xs) (suc i) d h =
-      let e : suc (i + 1) ≡ suc i + 1 = omega arith in
-      ap (λ n. drop n ((f x ++ flat f xs) ++ end)) (length-append (f x) (flat f (take i xs)))
-      ∙ ap (drop (length (f x) + length (flat f (take i xs)))) (append_assoc (f x) (flat f xs) end)
-      ∙ passed (f x) (flat f xs ++ end) (length (flat f (take i xs)))
-      ∙ part_there xs i d (omega arith)
-      ∙ ap (λ n. f (get_or xs i d) ++ (flat f (drop n (x ∷ xs)) ++ end)) e
 
 pub items_flat : {A : Type 0} (vs : List (Value A)) → items_tokens (items_view vs) ≡ flat item_tokens vs ++ Token.end_array ∷ []
 items_flat [] = refl
@@ -155,50 +136,148 @@ take_counts f [] (suc i) = omega arith
 take_counts f (x ∷ xs) (suc i) =
     omega (arith, length-append (f x) (flat f (take i xs)), length-append (f x) (flat f xs), take_counts f xs i)
 
--- ---- a step
+-- ---- a step, by the code
+pub item_number : {A : Type 0} (vs : List (Value A)) (i : ℕ) → i < length vs
+    → length (flat item_tokens (take i vs)) ≡ before_item i (items_view vs)
+item_number [] i h = absurd (omega arith)
+item_number (v ∷ vs) zero h = refl
+item_number (v ∷ vs) (suc i) h =
+    length-append (item_tokens v) (flat item_tokens (take i vs))
+    ∙ ap (λ n. length (item_tokens v) + n) (item_number vs i (omega arith))
+
 pub item_steps : {A : Type 0} (vs : List (Value A)) (i : ℕ) (d : Value A) → i < length vs
     → StepsTo (indexed i) (array (items_view vs)) (1 + length (flat item_tokens (take i vs))) (value_view (get_or vs i d))
 item_steps vs i d h =
-    let n = length (flat item_tokens (take i vs)) in
-    let e : 1 + n ≡ suc n = omega arith in
-    record {
-      found = sym (get_item_within vs i d h);
-      rest = flat item_tokens (drop (i + 1) vs) ++ Token.end_array ∷ [];
-      there = ap (λ k. drop k (json_tokens (array (items_view vs)))) e ∙ ap (drop n) (items_flat vs)
-          ∙ part_there item_tokens (Token.end_array ∷ []) vs i d h;
-      name = tt;
-    }
+    record { found = sym (get_item_within vs i d h); number = ap (λ n. 1 + n) (item_number vs i h) }
 
-pub member_steps : {A : Type 0} (ms : List (Bor (List ℕ) × Value A)) (i : ℕ) (d : Bor (List ℕ) × Value A) (name : List ℕ)
-    → i < length ms → (get_or ms i d).0.now ≡ name → get_member name (members_view ms) ≡ Some (value_view (get_or ms i d).1)
-    → StepsTo (named name) (object (members_view ms)) (2 + length (flat member_tokens (take i ms))) (value_view (get_or ms i d).1)
-member_steps ms i d name h same found =
-    let n = length (flat member_tokens (take i ms)) in
-    let rest = flat member_tokens (drop (i + 1) ms) ++ Token.end_object ∷ [] in
-    let all = members_tokens (members_view ms) in
-    let e : 2 + n ≡ suc (n + 1) = omega arith in
-    let f : 2 + n - 1 ≡ suc n = omega arith in
-    let begins : drop n all ≡ Token.key name ∷ (json_tokens (value_view (get_or ms i d).1) ++ rest) =
-    ap (drop n) (members_flat ms) ∙ part_there member_tokens (Token.end_object ∷ []) ms i d h
-    ∙ (λ k. Token.key (same k) ∷ (json_tokens (value_view (get_or ms i d).1) ++ rest)) in
-    record {
-      found = found;
-      rest = rest;
-      there = ap (λ k. drop k (json_tokens (object (members_view ms)))) e ∙ sym (drop-drop 1 n all) ∙ ap (drop 1) begins;
-      name = (omega arith, ap (λ k. drop k (json_tokens (object (members_view ms)))) f ∙ begins);
-    }
+-- the member at i has the name, and none behind it
+module _ {A : Type 0} (name : List ℕ) (d : Bor (List ℕ) × Value A) where
+  pub member_steps : (ms : List (Bor (List ℕ) × Value A)) (i : ℕ) → i < length ms → bytes_eq (get_or ms i d).0.now name ≡ true
+      → get_member name (members_view (drop (i + 1) ms)) ≡ None
+      → StepsTo (named name) (object (members_view ms)) (2 + length (flat member_tokens (take i ms)))
+      (value_view (get_or ms i d).1)
+  member_steps [] i h same last = absurd (omega arith)
+  member_steps (m ∷ ms) zero h same last =
+      let rest = length (json_tokens (value_view m.1)) + before_member name (members_view ms) in
+      record {
+        found = ap (λ o. later_or o (cond (bytes_eq m.0.now name) (Some (value_view m.1)) None)) last
+            ∙ ap (λ (b : Bool). cond b (Some (value_view m.1)) None) same;
+        number = ap (λ (o : Option Json). 1 + (1 + cond (is_some o) rest 0)) (sym last);
+      }
+  member_steps (m ∷ ms) (suc i) h same last =
+      let e : suc i + 1 ≡ suc (i + 1) = omega arith in
+      let more = member_steps ms i (omega arith) same (ap (λ n. get_member name (members_view (drop n (m ∷ ms)))) (sym e) ∙ last) in
+      let first = length (json_tokens (value_view m.1)) in
+      let rest = first + before_member name (members_view ms) in
+      let counts : 1 + (1 + rest) ≡ before (named name) (object (members_view (m ∷ ms))) =
+      ap (λ (o : Option Json). 1 + (1 + cond (is_some o) rest 0)) (sym more.found) in
+      record {
+        found = ap (λ o. later_or o (cond (bytes_eq m.0.now name) (Some (value_view m.1)) None)) more.found;
+        number = omega (
+          arith,
+          counts,
+          more.number,
+          length-append (json_tokens (value_view m.1)) (flat member_tokens (take i ms)),
+        );
+      }
 
--- the members from the end, one by one: that one has the name, or it is among those before it
-pub last_of : {A : Type 0} (ms : List (Bor (List ℕ) × Value A)) (left : ℕ) (m : Bor (List ℕ) × Value A) (name : List ℕ)
-    → 0 < left → left ≤ length ms → m ≡ get_or ms (left - 1) m
-    → get_member name (members_view ms) ≡ get_member name (members_view (take left ms))
-    → get_member name (members_view ms)
-    ≡ cond (bytes_eq m.0.now name) (Some (value_view m.1)) (get_member name (members_view (take (left - 1) ms)))
-last_of ms left m name some within is last =
-    let next : left ≡ left - 1 + 1 = omega (arith, some) in
-    let front = ap (λ k. take k ms) next ∙ take_more ms (left - 1) m (omega (arith, some, within))
-    ∙ ap (λ n. take (left - 1) ms ++ n ∷ []) (sym is) in
-    last ∙ ap (λ ns. get_member name (members_view ns)) front ∙ get_member-push name (take (left - 1) ms) m
+-- the members from the end, one by one: where that one has another name, none from it on has the name
+pub none_from : {A : Type 0} (ms : List (Bor (List ℕ) × Value A)) (left : ℕ) (m : Bor (List ℕ) × Value A) (name : List ℕ)
+    → 0 < left → left ≤ length ms → m ≡ get_or ms (left - 1) m → bytes_eq m.0.now name ≡ false
+    → get_member name (members_view (drop left ms)) ≡ None → get_member name (members_view (drop (left - 1) ms)) ≡ None
+none_from ms left m name some within is other none =
+    let next : left - 1 + 1 ≡ left = omega (arith, some) in
+    ap (λ ns. get_member name (members_view ns)) (drop_more ms (left - 1) m (omega (arith, some, within)))
+    ∙ ap (λ n. get_member name (members_view (n ∷ drop (left - 1 + 1) ms))) (sym is)
+    ∙ ap (λ k. get_member name (members_view (m ∷ drop k ms))) next
+    ∙ ap (λ o. later_or o (cond (bytes_eq m.0.now name) (Some (value_view m.1)) None)) none
+    ∙ ap (λ (b : Bool). cond b (Some (value_view m.1)) None) other
+
+-- ---- a step, by the grammar
+-- where a place ends with a name, that is the token before the n-th of a value, from which on they are these
+abbrev pub IsNamed : Place → Json → ℕ → List Token → Type 0
+IsNamed p j n ts = IfSome (last_name p) (λ k. (1 ≤ n) × (drop (n - 1) (json_tokens j) ≡ Token.key k ∷ ts))
+
+-- so many tokens of j come before those of k, to which a step leads
+record StepsOver (s : Step) (j k : Json) : Type 0 where
+  rest : List Token
+  there : drop (before s j) (json_tokens j) ≡ json_tokens k ++ rest
+  name : IsNamed (s ∷ []) j (before s j) (json_tokens k ++ rest)
+
+item_there : (i : ℕ) (js : Items) (k : Json) → get_item i js ≡ Some k
+    → (rest : List Token) × (drop (before_item i js) (items_tokens js) ≡ json_tokens k ++ rest)
+item_there i no_items k e = not_found k e
+item_there zero (item j js) k e = (items_tokens js, ap (λ x. json_tokens x ++ items_tokens js) (Some_inj j k e))
+item_there (suc i) (item j js) k e =
+    let more = item_there i js k e in
+    (more.0, passed (json_tokens j) (items_tokens js) (before_item i js) ∙ more.1)
+
+-- the last member of a name, behind n tokens of the members
+record LastOf (name : List ℕ) (ms : Members) (k : Json) : Type 0 where
+  n : ℕ
+  rest : List Token
+  number : before_member name ms ≡ 1 + n
+  there : drop n (members_tokens ms) ≡ Token.key name ∷ (json_tokens k ++ rest)
+
+chosen : (b : Bool) (j k : Json) → cond b (Some j) None ≡ Some k → (b ≡ true) × (j ≡ k)
+chosen true j k e = (refl, Some_inj j k e)
+chosen false j k e = not_found k e
+
+last_there : (name : List ℕ) (ms : Members) (k : Json) → get_member name ms ≡ Some k → LastOf name ms k
+last_there name no_members k e = not_found k e
+last_there name (member l j ms) k e = by (get_member name ms) refl e (last_there name ms k)
+  where
+    rest : ℕ
+    rest = length (json_tokens j) + before_member name ms
+
+    by : (o : Option Json) → get_member name ms ≡ o → later_or o (cond (bytes_eq l name) (Some j) None) ≡ Some k
+        → (get_member name ms ≡ Some k → LastOf name ms k) → LastOf name (member l j ms) k
+    by None is f later =
+        let it = chosen (bytes_eq l name) j k f in
+        let same = (bytes_eq-Decides l name).0 it.0 in
+        record {
+          n = 0;
+          rest = members_tokens ms;
+          number = ap (λ (o : Option Json). 1 + cond (is_some o) rest 0) is;
+          there = λ i. Token.key (same i) ∷ (json_tokens (it.1 i) ++ members_tokens ms);
+        }
+    by (Some w) is f later =
+        let more = later (is ∙ f) in
+        let counts : before_member name (member l j ms) ≡ 1 + rest = ap (λ (o : Option Json). 1 + cond (is_some o) rest 0) is in
+        record {
+          n = suc (length (json_tokens j) + more.n);
+          rest = more.rest;
+          number = omega (arith, counts, more.number);
+          there = passed (json_tokens j) (members_tokens ms) more.n ∙ more.there;
+        }
+
+steps_over : (s : Step) (j k : Json) → child s j ≡ Some k → StepsOver s j k
+steps_over (named l) null k e = not_found k e
+steps_over (named l) (boolean b) k e = not_found k e
+steps_over (named l) (number t) k e = not_found k e
+steps_over (named l) (string t) k e = not_found k e
+steps_over (named l) (array js) k e = not_found k e
+steps_over (named l) (object ms) k e =
+    let it = last_there l ms k e in
+    let number : before (named l) (object ms) ≡ suc (suc it.n) = omega (arith, it.number) in
+    let name : before (named l) (object ms) - 1 ≡ suc it.n = omega (arith, number) in
+    let next : suc it.n ≡ it.n + 1 = omega arith in
+    let ts = json_tokens (object ms) in
+    record {
+      rest = it.rest;
+      there = ap (λ n. drop n ts) number ∙ ap (λ n. drop n (members_tokens ms)) next
+          ∙ sym (drop-drop 1 it.n (members_tokens ms)) ∙ ap (drop 1) it.there;
+      name = (omega (arith, number), ap (λ n. drop n ts) name ∙ it.there);
+    }
+steps_over (indexed i) null k e = not_found k e
+steps_over (indexed i) (boolean b) k e = not_found k e
+steps_over (indexed i) (number t) k e = not_found k e
+steps_over (indexed i) (string t) k e = not_found k e
+steps_over (indexed i) (array js) k e =
+    let it = item_there i js k e in
+    let number : before (indexed i) (array js) ≡ suc (before_item i js) = omega arith in
+    record { rest = it.0; there = ap (λ n. drop n (json_tokens (array js))) number ∙ it.1; name = tt }
+steps_over (indexed i) (object ms) k e = not_found k e
 
 -- ---- a place
 begins_some : (j : Json) → 0 < length (json_tokens j)
@@ -209,8 +288,16 @@ begins_some (string s) = omega arith
 begins_some (array js) = omega arith
 begins_some (object ms) = omega arith
 
+-- a place leads to a value behind n tokens of j
+pub record LeadsTo (p : Place) (j : Json) (n : ℕ) : Type 0 where
+  pub value : Json
+  pub found : json_at p j ≡ Some value
+  pub rest : List Token
+  pub there : drop n (json_tokens j) ≡ json_tokens value ++ rest
+  pub name : IsNamed p j n (json_tokens value ++ rest)
+
 -- where the tokens of a value stand among others there is room for them
-pub has_room : (ts : List Token) (n : ℕ) (j : Json) (rest : List Token) → drop n ts ≡ json_tokens j ++ rest
+has_room : (ts : List Token) (n : ℕ) (j : Json) (rest : List Token) → drop n ts ≡ json_tokens j ++ rest
     → n + length (json_tokens j) ≤ length ts
 has_room ts n j rest e =
     omega (arith, length-drop n ts, ap length e, length-append (json_tokens j) rest, begins_some j)
@@ -231,11 +318,14 @@ if_some : {A : Type 0} {P Q : A → Type 0} (o : Option A) → ((a : A) → P a 
 if_some None f p = tt
 if_some (Some a) f p = f a p
 
-module _ (s : Step) (j k : Json) (n m : ℕ) (a : StepsTo s j n k) where
-  moved : (l : ℕ) (ws : List Token) → drop l (json_tokens k) ≡ ws → 0 < length ws → drop (n + l) (json_tokens j) ≡ ws ++ a.rest
-  moved l ws e h = sym (drop-drop l n (json_tokens j)) ∙ ap (drop l) a.there ∙ more_before l (json_tokens k) a.rest ws e h
+module _ (s : Step) (j k : Json) (m : ℕ) (found : child s j ≡ Some k) (a : StepsOver s j k) where
+  abbrev skipped : ℕ
+  skipped = before s j
 
-  named_there : (p : Place) (b : LeadsTo p k m) → IsNamed (s ∷ p) j (n + m) (json_tokens b.value ++ (b.rest ++ a.rest))
+  moved : (l : ℕ) (ws : List Token) → drop l (json_tokens k) ≡ ws → 0 < length ws → drop (skipped + l) (json_tokens j) ≡ ws ++ a.rest
+  moved l ws e h = sym (drop-drop l skipped (json_tokens j)) ∙ ap (drop l) a.there ∙ more_before l (json_tokens k) a.rest ws e h
+
+  named_there : (p : Place) (b : LeadsTo p k m) → IsNamed (s ∷ p) j (skipped + m) (json_tokens b.value ++ (b.rest ++ a.rest))
   named_there [] b =
       let same : json_tokens k ≡ json_tokens b.value = ap json_tokens (Some_inj k b.value b.found) in
       let first : m ≡ 0 =
@@ -248,7 +338,7 @@ module _ (s : Step) (j k : Json) (n m : ℕ) (a : StepsTo s j n k) where
         begins_some b.value,
       ) in
       let is : json_tokens k ≡ json_tokens b.value ++ b.rest = subst (λ l. drop l (json_tokens k) ≡ json_tokens b.value ++ b.rest) first b.there in
-      subst (IsNamed (s ∷ []) j (n + m)) (ap (λ l. l ++ a.rest) is ∙ append_assoc (json_tokens b.value) b.rest a.rest)
+      subst (IsNamed (s ∷ []) j (skipped + m)) (ap (λ l. l ++ a.rest) is ∙ append_assoc (json_tokens b.value) b.rest a.rest)
       (subst (λ l. IsNamed (s ∷ []) j l (json_tokens k ++ a.rest)) (omega (arith, first)) a.name)
   named_there (t ∷ q) b =
       if_some (last_name (t ∷ q))
@@ -261,11 +351,11 @@ module _ (s : Step) (j k : Json) (n m : ℕ) (a : StepsTo s j n k) where
       b.name
 
   -- a step, and a place behind it
-  pub leads : (p : Place) → LeadsTo p k m → LeadsTo (s ∷ p) j (n + m)
-  leads p b =
+  behind_step : (p : Place) → LeadsTo p k m → LeadsTo (s ∷ p) j (skipped + m)
+  behind_step p b =
       record {
         value = b.value;
-        found = ap (option_and_then (json_at p)) a.found ∙ b.found;
+        found = ap (option_and_then (json_at p)) found ∙ b.found;
         rest = b.rest ++ a.rest;
         there = moved m (json_tokens b.value ++ b.rest) b.there
             (omega (arith, length-append (json_tokens b.value) b.rest, begins_some b.value))
@@ -274,61 +364,158 @@ module _ (s : Step) (j k : Json) (n m : ℕ) (a : StepsTo s j n k) where
       }
 
 -- the empty place leads to the value itself
-pub leads_nowhere : (j : Json) → LeadsTo [] j 0
+leads_nowhere : (j : Json) → LeadsTo [] j 0
 leads_nowhere j =
     record { value = j; found = refl; rest = []; there = sym (append-nil (json_tokens j)); name = tt }
 
+summed : (n m : ℕ) (o : Option ℕ) → option_map (λ l. n + l) o ≡ Some m → (l : ℕ) × (o ≡ Some l) × (n + l ≡ m)
+summed n m None e = not_found m e
+summed n m (Some l) e = (l, refl, Some_inj (n + l) m e)
+
+-- what the first step of a place leads to, and the number at the rest of the place in that
+record Stepped (s : Step) (p : Place) (j : Json) (m : ℕ) : Type 0 where
+  value : Json
+  number : ℕ
+  found : child s j ≡ Some value
+  counted : tokens_before p value ≡ Some number
+  sum : before s j + number ≡ m
+
+stepped : (s : Step) (p : Place) (j : Json) (m : ℕ) → tokens_before (s ∷ p) j ≡ Some m → Stepped s p j m
+stepped s p j m e = by (child s j) refl e
+  where
+    by : (o : Option Json) → child s j ≡ o
+        → option_and_then (λ k. option_map (λ n. before s j + n) (tokens_before p k)) o ≡ Some m → Stepped s p j m
+    by None is f = not_found m f
+    by (Some k) is f =
+        let it = summed (before s j) m (tokens_before p k) f in
+        record { value = k; number = it.0; found = is; counted = it.1; sum = it.2 }
+
+-- the number of the tokens before the value at a place is that by which it is found among the tokens
+pub leads : (p : Place) (j : Json) (n : ℕ) → tokens_before p j ≡ Some n → LeadsTo p j n
+leads [] j n e = subst (LeadsTo [] j) (Some_inj 0 n e) (leads_nowhere j)
+leads (s ∷ p) j n e =
+    let it = stepped s p j n e in
+    subst (LeadsTo (s ∷ p) j) it.sum
+    (behind_step s j it.value it.number it.found (steps_over s j it.value it.found) p (leads p it.value it.number it.counted))
+
+-- there is room for the tokens of the value to which a step leads, and for those before the one at a place in that
+pub step_room : (s : Step) (j k : Json) (n : ℕ) → StepsTo s j n k → n + length (json_tokens k) ≤ length (json_tokens j)
+step_room s j k n a =
+    let it = steps_over s j k a.found in
+    omega (arith, a.number, has_room (json_tokens j) (before s j) k it.rest it.there)
+
+pub place_room : (p : Place) (j : Json) (n : ℕ) → tokens_before p j ≡ Some n → n < length (json_tokens j)
+place_room p j n e =
+    let it = leads p j n e in
+    omega (arith, has_room (json_tokens j) n it.value it.rest it.there, begins_some it.value)
+
+-- a step, and the number at the place behind it
+pub after_step : (s : Step) (p : Place) (j : Json) (n : ℕ) (k : Json) → StepsTo s j n k
+    → tokens_before (s ∷ p) j ≡ option_map (λ m. n + m) (tokens_before p k)
+after_step s p j n k a =
+    ap (option_and_then (λ w. option_map (λ m. before s j + m) (tokens_before p w))) a.found
+    ∙ ap (λ l. option_map (λ m. l + m) (tokens_before p k)) (sym a.number)
+
+-- where there is no number there is no value
+uncounted : (n : ℕ) (o : Option ℕ) → option_map (λ l. n + l) o ≡ None → o ≡ None
+uncounted n None e = refl
+uncounted n (Some l) e = not_found (n + l) (sym e)
+
+pub leads_to_none : (p : Place) (j : Json) → tokens_before p j ≡ None → json_at p j ≡ None
+leads_to_none [] j e = not_found 0 (sym e)
+leads_to_none (s ∷ p) j e = by (child s j) e (leads_to_none p)
+  where
+    by : (o : Option Json) → option_and_then (λ k. option_map (λ n. before s j + n) (tokens_before p k)) o ≡ None
+        → ((k : Json) → tokens_before p k ≡ None → json_at p k ≡ None) → option_and_then (json_at p) o ≡ None
+    by None f more = refl
+    by (Some k) f more = more k (uncounted (before s j) (tokens_before p k) f)
+
 -- ---- a text
+-- the point behind the bytes before a token
+pub token_at : (text : List ℕ) (n o : ℕ) (q : Point) → slice_get (starts text) n ≡ Some o → IsBehind (take o text) q
+    → IsToken text n q
+token_at text n o q is behind =
+    let same : o ≡ q.offset = omega (arith, behind.offset, length-take o text, start_within text n o is) in
+    record { offset = is ∙ ap Some same; point = subst (λ k. IsBehind (take k text) q) same behind }
+
 is_there : {P : Point → Type 0} (o : Option Point) → IsSomeAnd o P → (q : Point) × (o ≡ Some q) × P q
 is_there None h = absurd h
 is_there (Some q) h = (q, refl, h)
 
-module _ (text : List ℕ) (p : Place) (j : Json) (n : ℕ) (reads : parsed text ≡ Some j) (b : LeadsTo p j n) where
+module _ (text : List ℕ) (p : Place) (j : Json) (n : ℕ) (reads : parsed text ≡ Some j) (counted : tokens_before p j ≡ Some n) where
+  it : LeadsTo p j n
+  it = leads p j n counted
+
+  good : AreGood (tokens text)
+  good = subst AreGood (sym (text_reads text j reads)) (good_tokens j)
+
   -- the tokens from the value on
-  pub from_value : drop n (tokens text) ≡ json_tokens b.value ++ b.rest
-  from_value = ap (drop n) (text_reads text j reads) ∙ b.there
+  from_value : drop n (tokens text) ≡ json_tokens it.value ++ it.rest
+  from_value = ap (drop n) (text_reads text j reads) ∙ it.there
 
-  -- the value has a token
-  pub is_within : n < length (tokens text)
-  is_within = omega (arith, has_room (tokens text) n b.value b.rest from_value, begins_some b.value)
+  -- the value has an offset
+  pub is_within : n < length (starts text)
+  is_within =
+      omega (
+        arith,
+        as_many_starts text good,
+        ap length (text_reads text j reads),
+        place_room p j n counted,
+      )
 
-  -- its name has one too
+  -- where there is a name, a token comes before the value
   pub has_name : IsTrue (is_some (last_name p)) → 1 ≤ n
-  has_name is = by (last_name p) is b.name
+  has_name is = by (last_name p) is it.name
     where
       by : (o : Option (List ℕ)) → IsTrue (is_some o)
-          → IfSome o (λ k. (1 ≤ n) × (drop (n - 1) (json_tokens j) ≡ Token.key k ∷ (json_tokens b.value ++ b.rest))) → 1 ≤ n
+          → IfSome o (λ k. (1 ≤ n) × (drop (n - 1) (json_tokens j) ≡ Token.key k ∷ (json_tokens it.value ++ it.rest))) → 1 ≤ n
       by None is h = absurd (true≢false (sym is))
       by (Some k) is h = h.0
 
-  pub stands : (it : Position) → IsUtf8 text → BeginsAt text it.value (drop n (tokens text))
-      → (IsFalse (is_some (last_name p)) → it.name ≡ None)
-      → (IsTrue (is_some (last_name p)) → IsSomeAnd it.name (λ q. BeginsAt text q (drop (n - 1) (tokens text))))
-      → StandsAt text p it
-  stands it utf8 first without with_name =
+  -- the tokens of the text from a token on
+  from_token : (m : ℕ) (q : Point) (ts : List Token) → IsToken text m q → drop m (tokens text) ≡ ts → BeginsAt text q ts
+  from_token m q ts a is =
+      record {
+        within = start_within text m q.offset a.offset;
+        point = a.point;
+        tokens = start_is text m q.offset good a.offset ∙ is;
+      }
+
+  pub stands : (at : Position) → IsUtf8 text → IsToken text n at.value → (IsFalse (is_some (last_name p)) → at.name ≡ None)
+      → (IsTrue (is_some (last_name p)) → IsSomeAnd at.name (IsToken text (n - 1))) → StandsAt text p at
+  stands at utf8 first without with_name =
       record {
         utf8 = utf8;
-        value = b.value;
-        there = ap (option_and_then (json_at p)) reads ∙ b.found;
-        rest = b.rest;
-        begins = subst (BeginsAt text it.value) from_value first;
-        name = by (last_name p) without with_name b.name;
+        value = it.value;
+        there = ap (option_and_then (json_at p)) reads ∙ it.found;
+        number = n;
+        counted = ap (option_and_then (tokens_before p)) reads ∙ counted;
+        each = as_many_starts text good;
+        first = first;
+        rest = it.rest;
+        passed = from_value;
+        begins = from_token n at.value (json_tokens it.value ++ it.rest) first from_value;
+        name = by (last_name p) without with_name it.name;
       }
     where
-      by : (o : Option (List ℕ)) → (IsFalse (is_some o) → it.name ≡ None)
-          → (IsTrue (is_some o) → IsSomeAnd it.name (λ q. BeginsAt text q (drop (n - 1) (tokens text))))
-          → IfSome o (λ k. (1 ≤ n) × (drop (n - 1) (json_tokens j) ≡ Token.key k ∷ (json_tokens b.value ++ b.rest)))
-          → MatchOption o (it.name ≡ None) (λ k. (q : Point) × (it.name ≡ Some q)
-          × BeginsAt text q (Token.key k ∷ (json_tokens b.value ++ b.rest)))
+      by : (o : Option (List ℕ)) → (IsFalse (is_some o) → at.name ≡ None)
+          → (IsTrue (is_some o) → IsSomeAnd at.name (IsToken text (n - 1)))
+          → IfSome o (λ k. (1 ≤ n) × (drop (n - 1) (json_tokens j) ≡ Token.key k ∷ (json_tokens it.value ++ it.rest)))
+          → MatchOption o (at.name ≡ None) (λ k. (q : Point) × (at.name ≡ Some q) × IsToken text (n - 1) q
+          × BeginsAt text q (Token.key k ∷ (json_tokens it.value ++ it.rest)))
       by None f g h = f refl
       by (Some k) f g h =
-          let q = is_there it.name (g refl) in
-          (q.0, q.1, subst (BeginsAt text q.0) (ap (drop (n - 1)) (text_reads text j reads) ∙ h.1) q.2)
+          let q = is_there at.name (g refl) in (
+            q.0,
+            q.1,
+            q.2,
+            from_token (n - 1) q.0 (Token.key k ∷ (json_tokens it.value ++ it.rest)) q.2
+                (ap (drop (n - 1)) (text_reads text j reads) ∙ h.1),
+          )
 
   pub all_stand : (m : Bool) (o : Option Position) → m ≡ is_some (last_name p) → IsUtf8 text
-      → IfSome o (λ it. BeginsAt text it.value (drop n (tokens text))) → IfSome o (λ it. IsFalse m → it.name ≡ None)
-      → IfSome o (λ it. IsTrue m → IsSomeAnd it.name (λ q. BeginsAt text q (drop (n - 1) (tokens text))))
-      → IfSome o (StandsAt text p)
+      → IfSome o (λ q. IsToken text n q.value) → IfSome o (λ q. IsFalse m → q.name ≡ None)
+      → IfSome o (λ q. IsTrue m → IsSomeAnd q.name (IsToken text (n - 1))) → IfSome o (StandsAt text p)
   all_stand m None is utf8 first without with_name = tt
-  all_stand m (Some it) is utf8 first without with_name =
-      stands it utf8 first (λ no. without (is ∙ no)) (λ yes. with_name (is ∙ yes))
+  all_stand m (Some q) is utf8 first without with_name =
+      stands q utf8 first (λ no. without (is ∙ no)) (λ yes. with_name (is ∙ yes))

@@ -1,15 +1,17 @@
 -- What is left of the tokens of a text from a byte on.
-use Rattle.std.proofs.Common.{◌≡◌, ℕ, zero, suc, ◌+◌, ◌<◌, List, [], ◌∷◌, Bool, true, false, drop, get_or, length}
-use Rattle.std.proofs.Common.{refl, sym, ap, subst, ◌∙◌, true≢false}
+use Rattle.std.proofs.Common.{◌≡◌, ℕ, zero, suc, ◌+◌, ◌<◌, ◌≤◌, List, [], ◌∷◌, Bool, true, false, cond, Some, drop}
+use Rattle.std.proofs.Common.{drop-drop, get_or, length, length-drop, refl, sym, ap, subst, ◌∙◌, arith, true≢false}
+use Rattle.std.specs.Prelude.{slice_get}
 use Rattle.std.proofs.lemmas.List.{drop_more}
 use Rattle.json.specs.Lex.{Class, quote, backslash, operator, space, other, Lexeme, token, comma, colon, operator_lexeme}
 use Rattle.json.specs.Lex.{string_token, lex_byte, lex, Place, fresh, after_value, after_comma, after_key, begins_colon}
-use Rattle.json.specs.Lex.{may_begin, may_close, if_allowed, place_token, punctuate, class}
+use Rattle.json.specs.Lex.{may_begin, may_close, if_allowed, place_token, punctuate, class, tokens}
 use Rattle.json.specs.Lex as lexing
 use Rattle.json.specs.Text.{content, plain}
 use Rattle.json.specs.Token.{Token, begin_object, end_object, begin_array, end_array, key, string, number, boolean, null, bad}
 use Rattle.json.specs.Word.{word}
-use Rattle.openapi_json.specs.Scanned.{AreGood, begins, is_token, next_mode}
+use Rattle.json.proofs.Found.{not_found, Some_inj}
+use Rattle.openapi_json.specs.Scanned.{AreGood, begins, is_token, next_mode, starts, starts_from}
 
 -- the byte x of a class before xs, whose lexeme stands before these
 abbrev emits : lexing.Mode → Class → ℕ → List ℕ → List Lexeme → List Lexeme
@@ -127,6 +129,12 @@ colon_step after_value ls ts good is = absurd ((subst AreGood is good).0 refl)
 colon_step after_comma ls ts good is = absurd ((subst AreGood is good).0 refl)
 colon_step after_key ls ts good is = (fresh, is)
 
+token_some : (t : Token) (ls : List Lexeme) (ts : List Token) → AreGood ts → AreOf (token t ∷ ls) ts → 1 ≤ length ts
+token_some t ls ts good a =
+    let is = a.1 ∙ punctuated a.0 t ls in
+    let p = placed a.0 t (begins_colon ls) (λ next. punctuate next ls) (subst AreGood is good) in
+    omega (arith, ap length (is ∙ p.is))
+
 lexeme_step : (l : Lexeme) (ls : List Lexeme) (ts : List Token) → AreGood ts → AreOf (l ∷ ls) ts
     → AreOf ls (behind (is_token l) ts)
 lexeme_step (token t) ls ts good a = token_step t ls ts good a
@@ -138,6 +146,12 @@ lexeme_first : (l : Lexeme) (ls : List Lexeme) (ts : List Token) → is_token l 
 lexeme_first (token t) ls ts is good a = token_first t ls ts good a
 lexeme_first comma ls ts is good a = absurd (true≢false (sym is))
 lexeme_first colon ls ts is good a = absurd (true≢false (sym is))
+
+lexeme_some : (l : Lexeme) (ls : List Lexeme) (ts : List Token) → is_token l ≡ true → AreGood ts → AreOf (l ∷ ls) ts
+    → 1 ≤ length ts
+lexeme_some (token t) ls ts is good a = token_some t ls ts good a
+lexeme_some comma ls ts is good a = absurd (true≢false (sym is))
+lexeme_some colon ls ts is good a = absurd (true≢false (sym is))
 
 -- ---- one byte
 emit_step : (m : lexing.Mode) (c : Class) (x : ℕ) (xs : List ℕ) (ls : List Lexeme) (ts : List Token) → AreGood ts
@@ -171,46 +185,48 @@ emit_first lexing.in_word other x xs rest ts is good a = absurd (true≢false (s
 emit_first lexing.in_string c x xs rest ts is good a = absurd (true≢false (sym is))
 emit_first lexing.in_escape c x xs rest ts is good a = absurd (true≢false (sym is))
 
+emit_some : (m : lexing.Mode) (c : Class) (x : ℕ) (xs : List ℕ) (ls : List Lexeme) (ts : List Token) → begins m c x ≡ true
+    → AreGood ts → AreOf (emits m c x xs ls) ts → 1 ≤ length ts
+emit_some lexing.between quote x xs ls ts is good a = token_some _ _ ts good a
+emit_some lexing.between backslash x xs ls ts is good a = token_some _ _ ts good a
+emit_some lexing.between operator x xs ls ts is good a = lexeme_some (operator_lexeme x) _ ts is good a
+emit_some lexing.between space x xs ls ts is good a = absurd (true≢false (sym is))
+emit_some lexing.between other x xs ls ts is good a = token_some _ _ ts good a
+emit_some lexing.in_word quote x xs ls ts is good a = absurd (true≢false (sym is))
+emit_some lexing.in_word backslash x xs ls ts is good a = absurd (true≢false (sym is))
+emit_some lexing.in_word operator x xs ls ts is good a = lexeme_some (operator_lexeme x) _ ts is good a
+emit_some lexing.in_word space x xs ls ts is good a = absurd (true≢false (sym is))
+emit_some lexing.in_word other x xs ls ts is good a = absurd (true≢false (sym is))
+emit_some lexing.in_string c x xs ls ts is good a = absurd (true≢false (sym is))
+emit_some lexing.in_escape c x xs ls ts is good a = absurd (true≢false (sym is))
+
 -- behind a byte the tokens are those of the rest, in the mode behind it
 pub byte_step : (m : lexing.Mode) (x : ℕ) (xs : List ℕ) (ts : List Token) → AreGood ts → AreOf (lex m (x ∷ xs)) ts
     → AreOf (lex (next_mode m (class x)) xs) (behind (begins m (class x) x) ts)
 byte_step m x xs ts good a =
     emit_step m (class x) x xs (lex (next_mode m (class x)) xs) ts good (a.0, a.1 ∙ ap (punctuate a.0) (lexed m x xs))
 
--- and where one begins at it, they are those of the text from it on
-pub byte_first : (m : lexing.Mode) (x : ℕ) (xs : List ℕ) (ts : List Token) → begins m (class x) x ≡ true → AreGood ts
+-- and where one begins at it, there is one
+byte_some : (m : lexing.Mode) (x : ℕ) (xs : List ℕ) (ts : List Token) → begins m (class x) x ≡ true → AreGood ts
+    → AreOf (lex m (x ∷ xs)) ts → 1 ≤ length ts
+byte_some m x xs ts is good a =
+    emit_some m (class x) x xs (lex (next_mode m (class x)) xs) ts is good (a.0, a.1 ∙ ap (punctuate a.0) (lexed m x xs))
+
+-- they are those of the text from it on then
+byte_first : (m : lexing.Mode) (x : ℕ) (xs : List ℕ) (ts : List Token) → begins m (class x) x ≡ true → AreGood ts
     → AreOf (lex m (x ∷ xs)) ts → ts ≡ punctuate fresh (lex lexing.between (x ∷ xs))
 byte_first m x xs ts is good a =
     emit_first m (class x) x xs (λ next. lex next xs) ts is good (a.0, a.1 ∙ ap (punctuate a.0) (lexed m x xs))
     ∙ ap (punctuate fresh) (sym (lexed lexing.between x xs))
 
-pub good_drop : (n : ℕ) (ts : List Token) → AreGood ts → AreGood (drop n ts)
-good_drop zero ts g = g
-good_drop (suc n) [] g = tt
-good_drop (suc n) (t ∷ ts) g = good_drop n ts g.1
+pub good_behind : (b : Bool) (ts : List Token) → AreGood ts → AreGood (behind b ts)
+good_behind true [] g = tt
+good_behind true (t ∷ ts) g = g.1
+good_behind false ts g = g
 
--- a text from a byte on
-pub from_byte : (text : List ℕ) (i : ℕ) → i < length text → drop i text ≡ get_or text i 0 ∷ drop (i + 1) text
-from_byte text i h = drop_more text i 0 h
-
--- the next step of a scan, at the byte x of which it is known whether a token begins
-pub scan_step : (m : lexing.Mode) (text : List ℕ) (i passed : ℕ) (ts : List Token) (b : Bool) → i < length text → AreGood ts
-    → AreOf (lex m (drop i text)) (drop passed ts) → begins m (class (get_or text i 0)) (get_or text i 0) ≡ b
-    → AreOf (lex (next_mode m (class (get_or text i 0))) (drop (i + 1) text)) (behind b (drop passed ts))
-scan_step m text i passed ts b h good a is =
-    let x = get_or text i 0 in
-    subst (λ c. AreOf (lex (next_mode m (class x)) (drop (i + 1) text)) (behind c (drop passed ts))) is
-    (byte_step m x (drop (i + 1) text) (drop passed ts) (good_drop passed ts good)
-    (subst (λ l. AreOf (lex m l) (drop passed ts)) (from_byte text i h) a))
-
-pub scan_first : (m : lexing.Mode) (text : List ℕ) (i passed : ℕ) (ts : List Token) → i < length text → AreGood ts
-    → AreOf (lex m (drop i text)) (drop passed ts) → begins m (class (get_or text i 0)) (get_or text i 0) ≡ true
-    → punctuate fresh (lex lexing.between (drop i text)) ≡ drop passed ts
-scan_first m text i passed ts h good a is =
-    let x = get_or text i 0 in
-    ap (λ l. punctuate fresh (lex lexing.between l)) (from_byte text i h)
-    ∙ sym (byte_first m x (drop (i + 1) text) (drop passed ts) is (good_drop passed ts good)
-    (subst (λ l. AreOf (lex m l) (drop passed ts)) (from_byte text i h) a))
+pub length_behind : (b : Bool) (ts : List Token) → length ts ≤ length (behind b ts) + 1
+length_behind true ts = omega (arith, length-drop 1 ts)
+length_behind false ts = omega arith
 
 -- at the end no tokens are left
 pub nothing_left : (m : lexing.Mode) (ts : List Token) → AreGood ts → AreOf (lex m []) ts → ts ≡ []
@@ -220,7 +236,136 @@ nothing_left m ts good (after_value, is) = is
 nothing_left m ts good (after_comma, is) = absurd ((subst AreGood is good).0 refl)
 nothing_left m ts good (after_key, is) = absurd ((subst AreGood is good).0 refl)
 
--- the same by the mode and the number of tokens that are known behind a byte
-pub moved_on : (m n : lexing.Mode) (rest : List ℕ) (ts us : List Token) → n ≡ m → AreOf (lex m rest) ts → ts ≡ us
-    → AreOf (lex n rest) us
-moved_on m n rest ts us mode a same = subst (λ x. AreOf (lex x rest) us) (sym mode) (subst (AreOf (lex m rest)) same a)
+-- ---- the offsets of the tokens
+-- an offset k bytes further on: from there on the tokens are these
+record Starts (i : ℕ) (xs : List ℕ) (o : ℕ) (ts : List Token) : Type 0 where
+  k : ℕ
+  is : o ≡ i + k
+  there : tokens (drop k xs) ≡ ts
+
+starts_at : (m : lexing.Mode) (i : ℕ) (xs : List ℕ) (ts : List Token) (n o : ℕ) → AreGood ts → AreOf (lex m xs) ts
+    → slice_get (starts_from m i xs) n ≡ Some o → Starts i xs o (drop n ts)
+starts_at m i [] ts n o good a e = not_found o e
+starts_at m i (x ∷ xs) ts n o good a e =
+    by (begins m (class x) x) refl n e (byte_step m x xs ts good a) (starts_at (next_mode m (class x)) (i + 1) xs)
+  where
+    later : List ℕ
+    later = starts_from (next_mode m (class x)) (i + 1) xs
+
+    further : (us : List Token) → Starts (i + 1) xs o us → Starts i (x ∷ xs) o us
+    further us it =
+        record { k = suc it.k; is = omega (arith, it.is); there = it.there }
+
+    by : (b : Bool) → begins m (class x) x ≡ b → (l : ℕ) → slice_get (cond b (i ∷ later) later) l ≡ Some o
+        → AreOf (lex (next_mode m (class x)) xs) (behind (begins m (class x) x) ts)
+        → ((us : List Token) (k w : ℕ) → AreGood us → AreOf (lex (next_mode m (class x)) xs) us → slice_get later k ≡ Some w
+        → Starts (i + 1) xs w (drop k us)) → Starts i (x ∷ xs) o (drop l ts)
+    by true is zero f next more =
+        record {
+          k = 0;
+          is = omega (arith, Some_inj i o f);
+          there = sym (byte_first m x xs ts is good a);
+        }
+    by true is (suc l) f next more =
+        let e : 1 + l ≡ suc l = omega arith in
+        further (drop (suc l) ts)
+        (subst (Starts (i + 1) xs o) (drop-drop l 1 ts ∙ ap (λ d. drop d ts) e)
+        (more (drop 1 ts) l o (good_behind true ts good)
+        (subst (λ c. AreOf (lex (next_mode m (class x)) xs) (behind c ts)) is next) f))
+    by false is l f next more =
+        further (drop l ts)
+        (more ts l o good (subst (λ c. AreOf (lex (next_mode m (class x)) xs) (behind c ts)) is next) f)
+
+starts_below : (m : lexing.Mode) (i : ℕ) (xs : List ℕ) (n o : ℕ) → slice_get (starts_from m i xs) n ≡ Some o
+    → o < i + length xs
+starts_below m i [] n o e = not_found o e
+starts_below m i (x ∷ xs) n o e = by (begins m (class x) x) n e (starts_below (next_mode m (class x)) (i + 1) xs)
+  where
+    later : List ℕ
+    later = starts_from (next_mode m (class x)) (i + 1) xs
+
+    by : (b : Bool) (l : ℕ) → slice_get (cond b (i ∷ later) later) l ≡ Some o
+        → ((k w : ℕ) → slice_get later k ≡ Some w → w < i + 1 + length xs) → o < i + length (x ∷ xs)
+    by true zero f more = omega (arith, Some_inj i o f)
+    by true (suc l) f more = omega (arith, more l o f)
+    by false l f more = omega (arith, more l o f)
+
+-- each offset is that of a byte
+pub start_within : (text : List ℕ) (n o : ℕ) → slice_get (starts text) n ≡ Some o → o < length text
+start_within text n o e = omega (arith, starts_below lexing.between 0 text n o e)
+
+-- from the n-th offset of a text without faults on its tokens are those from the n-th on
+pub start_is : (text : List ℕ) (n o : ℕ) → AreGood (tokens text) → slice_get (starts text) n ≡ Some o
+    → tokens (drop o text) ≡ drop n (tokens text)
+start_is text n o good e =
+    let it = starts_at lexing.between 0 text (tokens text) n o good (fresh, refl) e in
+    let same : o ≡ it.k = omega (arith, it.is) in
+    ap (λ k. tokens (drop k text)) same ∙ it.there
+
+starts_count : (m : lexing.Mode) (i : ℕ) (xs : List ℕ) (ts : List Token) → AreGood ts → AreOf (lex m xs) ts
+    → length (starts_from m i xs) ≡ length ts
+starts_count m i [] ts good a = sym (ap length (nothing_left m ts good a))
+starts_count m i (x ∷ xs) ts good a =
+    by (begins m (class x) x) refl (byte_step m x xs ts good a) (starts_count (next_mode m (class x)) (i + 1) xs)
+  where
+    later : List ℕ
+    later = starts_from (next_mode m (class x)) (i + 1) xs
+
+    by : (b : Bool) → begins m (class x) x ≡ b → AreOf (lex (next_mode m (class x)) xs) (behind (begins m (class x) x) ts)
+        → ((us : List Token) → AreGood us → AreOf (lex (next_mode m (class x)) xs) us → length later ≡ length us)
+        → length (cond b (i ∷ later) later) ≡ length ts
+    by true is next more =
+        omega (
+          arith,
+          more (drop 1 ts) (good_behind true ts good)
+              (subst (λ c. AreOf (lex (next_mode m (class x)) xs) (behind c ts)) is next),
+          length-drop 1 ts,
+          byte_some m x xs ts is good a,
+        )
+    by false is next more = more ts good (subst (λ c. AreOf (lex (next_mode m (class x)) xs) (behind c ts)) is next)
+
+-- there is an offset for each token
+pub as_many_starts : (text : List ℕ) → AreGood (tokens text) → length (starts text) ≡ length (tokens text)
+as_many_starts text good = starts_count lexing.between 0 text (tokens text) good (fresh, refl)
+
+-- ---- the scan
+-- a text from a byte on
+from_byte : (text : List ℕ) (i : ℕ) → i < length text → drop i text ≡ get_or text i 0 ∷ drop (i + 1) text
+from_byte text i h = drop_more text i 0 h
+
+-- the offsets from a byte on, where a token begins at it or not
+from_here : (m : lexing.Mode) (text : List ℕ) (i x : ℕ) (b : Bool) → i < length text → x ≡ get_or text i 0
+    → begins m (class x) x ≡ b
+    → starts_from m i (drop i text)
+    ≡ cond b (i ∷ starts_from (next_mode m (class x)) (i + 1) (drop (i + 1) text))
+    (starts_from (next_mode m (class x)) (i + 1) (drop (i + 1) text))
+from_here m text i x b h byte is =
+    let later = starts_from (next_mode m (class x)) (i + 1) (drop (i + 1) text) in
+    ap (starts_from m i) (from_byte text i h ∙ ap (λ y. y ∷ drop (i + 1) text) (sym byte))
+    ∙ ap (λ (c : Bool). cond c (i ∷ later) later) is
+
+module _ (m : lexing.Mode) (text : List ℕ) (i : ℕ) (h : i < length text) where
+  -- the token that is looked for begins at the byte
+  pub start_here : (n : ℕ) → begins m (class (get_or text i 0)) (get_or text i 0) ≡ true → n ≡ 0
+      → slice_get (starts_from m i (drop i text)) n ≡ Some i
+  start_here n is none =
+      ap (slice_get (starts_from m i (drop i text))) none
+      ∙ ap (λ os. slice_get os 0) (from_here m text i (get_or text i 0) true h refl is)
+
+  -- another one does, or none
+  pub start_passed : (next : lexing.Mode) (n k : ℕ) → next ≡ next_mode m (class (get_or text i 0))
+      → begins m (class (get_or text i 0)) (get_or text i 0) ≡ true → n ≡ k + 1
+      → slice_get (starts_from next (i + 1) (drop (i + 1) text)) k ≡ slice_get (starts_from m i (drop i text)) n
+  start_passed next n k mode is more =
+      let e : n ≡ suc k = omega (arith, more) in
+      ap (λ l. slice_get (starts_from l (i + 1) (drop (i + 1) text)) k) mode
+      ∙ sym (ap (slice_get (starts_from m i (drop i text))) e
+      ∙ ap (λ os. slice_get os (suc k)) (from_here m text i (get_or text i 0) true h refl is))
+
+  pub none_begins : (next : lexing.Mode) (n k : ℕ) → next ≡ next_mode m (class (get_or text i 0))
+      → begins m (class (get_or text i 0)) (get_or text i 0) ≡ false → n ≡ k
+      → slice_get (starts_from next (i + 1) (drop (i + 1) text)) k ≡ slice_get (starts_from m i (drop i text)) n
+  none_begins next n k mode is same =
+      ap (λ l. slice_get (starts_from l (i + 1) (drop (i + 1) text)) k) mode
+      ∙ sym (ap (slice_get (starts_from m i (drop i text))) same
+      ∙ ap (λ os. slice_get os k) (from_here m text i (get_or text i 0) false h refl is))

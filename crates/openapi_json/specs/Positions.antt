@@ -1,9 +1,11 @@
 -- Where the value at a place stands in a JSON text.
-use Rattle.std.specs.Prelude.{◌≡◌, ℕ, ◌+◌, ◌-◌, ◌<◌, ◌≤◌, nat_le, nat_lt, ◌==◌, ◌&&◌, Bool, cond, List, [], ◌∷◌, ◌++◌, drop, take, length, Option, Some, None, option_and_then, IfSome, MatchOption}
+use Rattle.std.specs.Prelude.{◌≡◌, ℕ, zero, suc, ◌+◌, ◌-◌, ◌<◌, nat_le, nat_lt, ◌==◌, ◌&&◌, Bool, cond, List, [], ◌∷◌, ◌++◌}
+use Rattle.std.specs.Prelude.{drop, take, length, slice_get, Option, Some, None, is_some, option_map, option_and_then, MatchOption}
 use Rattle.std.specs.Str.{IsUtf8}
 use Rattle.std.specs.Borrow.{Bor}
-use Rattle.json.specs.Find.{get, at}
-use Rattle.json.specs.Json.{Json}
+use Rattle.json.specs.Find.{get, get_member, at}
+use Rattle.json.specs.Json as json
+use Rattle.json.specs.Json.{Json, Items, no_items, item, Members, no_members, member}
 use Rattle.json.specs.Lex.{tokens}
 use Rattle.json.specs.Token.{Token, key}
 use Rattle.json.specs.Tree.{json_tokens}
@@ -11,6 +13,7 @@ use Rattle.json.specs.Value.{value_view}
 use Rattle.json.specs.declared.value.Value.{Value}
 use Rattle.openapi_node.specs.Place.{Place, Step, named, indexed}
 use Rattle.openapi_json.specs.Ordered.{parsed}
+use Rattle.openapi_json.specs.Scanned.{starts}
 use Rattle.openapi_json.specs.declared.position.Point.{Point}
 use Rattle.openapi_json.specs.declared.position.Position.{Position}
 
@@ -27,6 +30,43 @@ json_at (s ∷ p) j = option_and_then (json_at p) (child s j)
 -- the value that a text has at a place
 abbrev pub value_at : List ℕ → Place → Option Json
 value_at text p = option_and_then (json_at p) (parsed text)
+
+-- ---- how many tokens of a value come before one inside it
+
+-- How many tokens of members come before the value of the last member of a name. The name of the first member is one of them.
+-- Where the name comes in a later member, the tokens of the first member's value and those among the later ones come before too.
+abbrev pub before_member : List ℕ → Members → ℕ
+before_member name no_members = 0
+before_member name (member k j ms) =
+    1 + cond (is_some (get_member name ms)) (length (json_tokens j) + before_member name ms) 0
+
+-- how many tokens of items come before the n-th of them
+abbrev pub before_item : ℕ → Items → ℕ
+before_item n no_items = 0
+before_item zero (item j js) = 0
+before_item (suc n) (item j js) = length (json_tokens j) + before_item n js
+
+-- how many tokens of a value come before that to which a step leads: the bracket that opens, and those inside
+abbrev pub before : Step → Json → ℕ
+before s json.null = 0
+before s (json.boolean b) = 0
+before s (json.number t) = 0
+before s (json.string t) = 0
+before (named k) (json.array js) = 0
+before (indexed i) (json.array js) = 1 + before_item i js
+before (named k) (json.object ms) = 1 + before_member k ms
+before (indexed i) (json.object ms) = 0
+
+-- how many tokens of a value come before the one at a place in it, if there is one
+abbrev pub tokens_before : Place → Json → Option ℕ
+tokens_before [] j = Some 0
+tokens_before (s ∷ p) j = option_and_then (λ k. option_map (λ n. before s j + n) (tokens_before p k)) (child s j)
+
+-- the number of the token with which the value at a place of a text begins; the first token has the number 0
+abbrev pub number_in : List ℕ → Place → Option ℕ
+number_in text p = option_and_then (tokens_before p) (parsed text)
+
+-- ---- names, lines and columns
 
 -- the name of a step
 abbrev pub name_of : Step → Option (List ℕ)
@@ -63,24 +103,36 @@ pub record IsBehind (bytes : List ℕ) (p : Point) : Type 0 where
   pub offset : p.offset ≡ length bytes
   pub spot : (p.line, p.column) ≡ spot_behind bytes
 
+-- the token of this number begins at a point of a text
+pub record IsToken (text : List ℕ) (n : ℕ) (p : Point) : Type 0 where
+  pub offset : slice_get (starts text) n ≡ Some p.offset
+  pub point : IsBehind (take p.offset text) p
+
 -- from a point on the tokens of a text are these
 pub record BeginsAt (text : List ℕ) (p : Point) (ts : List Token) : Type 0 where
   pub within : p.offset < length text
   pub point : IsBehind (take p.offset text) p
   pub tokens : tokens (drop p.offset text) ≡ ts
 
--- The text has a value at a place, and from this position on its tokens are those of the value, and more; where the
--- place ends with a name, the name stands just before them.
+-- The text has a value at a place, and this is the position of it and of no other: the point of its first token, found by the
+-- number of the tokens before it. Where the place ends with a name, the position has the point of the token before that one too,
+-- which is the name. Each token of the text has an offset. From the point on the tokens of the text are those of the value, and
+-- more; from the point of the name on they are the name, and these.
 pub record StandsAt (text : List ℕ) (p : Place) (it : Position) : Type 0 where
   pub utf8 : IsUtf8 text
   pub value : Json
   pub there : value_at text p ≡ Some value
+  pub number : ℕ
+  pub counted : number_in text p ≡ Some number
+  pub each : length (starts text) ≡ length (tokens text)
+  pub first : IsToken text number it.value
   pub rest : List Token
+  pub passed : drop number (tokens text) ≡ json_tokens value ++ rest
   pub begins : BeginsAt text it.value (json_tokens value ++ rest)
   pub name : MatchOption (last_name p) (it.name ≡ None) (λ k. (q : Point) × (it.name ≡ Some q)
-      × BeginsAt text q (key k ∷ (json_tokens value ++ rest)))
+      × IsToken text (number - 1) q × BeginsAt text q (key k ∷ (json_tokens value ++ rest)))
 
--- ---- for private clauses: how many tokens of a value stand before one inside it
+-- ---- for private clauses
 
 -- the tokens of each, one behind the other
 abbrev pub flat : {X : Type 0} → (X → List Token) → List X → List Token
@@ -95,21 +147,7 @@ item_tokens v = json_tokens (value_view v)
 abbrev pub member_tokens : {A : Type 0} → Bor (List ℕ) × Value A → List Token
 member_tokens m = key m.0.now ∷ json_tokens (value_view m.1)
 
--- where a place ends with a name, that is the token before the n-th of a value, from which on they are these
-abbrev pub IsNamed : Place → Json → ℕ → List Token → Type 0
-IsNamed p j n ts = IfSome (last_name p) (λ k. (1 ≤ n) × (drop (n - 1) (json_tokens j) ≡ key k ∷ ts))
-
--- a step leads from j to k, and n tokens of j stand before those of k
+-- a step leads from j to k, and n tokens of j come before those of k
 pub record StepsTo (s : Step) (j : Json) (n : ℕ) (k : Json) : Type 0 where
   pub found : child s j ≡ Some k
-  pub rest : List Token
-  pub there : drop n (json_tokens j) ≡ json_tokens k ++ rest
-  pub name : IsNamed (s ∷ []) j n (json_tokens k ++ rest)
-
--- the same of a place
-pub record LeadsTo (p : Place) (j : Json) (n : ℕ) : Type 0 where
-  pub value : Json
-  pub found : json_at p j ≡ Some value
-  pub rest : List Token
-  pub there : drop n (json_tokens j) ≡ json_tokens value ++ rest
-  pub name : IsNamed p j n (json_tokens value ++ rest)
+  pub number : n ≡ before s j

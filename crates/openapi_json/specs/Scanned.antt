@@ -1,7 +1,7 @@
 -- Where the tokens of a JSON text begin, byte by byte, beside what the grammar of `json` makes of its bytes.
-use Rattle.std.specs.Prelude.{◌≡◌, ℕ, List, Bool, true, false}
+use Rattle.std.specs.Prelude.{◌≡◌, ℕ, ◌+◌, List, [], ◌∷◌, Bool, true, false, cond}
 use Rattle.std.specs.List.{AllByRecursion}
-use Rattle.json.specs.Lex.{Class, quote, backslash, operator, space, other, Lexeme, token, comma, colon, operator_lexeme}
+use Rattle.json.specs.Lex.{Class, quote, backslash, operator, space, other, class, Lexeme, token, comma, colon, operator_lexeme}
 use Rattle.json.specs.Lex as lexing
 use Rattle.json.specs.Token.{Token, bad}
 use Rattle.openapi_json.specs.declared.scan.Mode.{Mode}
@@ -52,6 +52,17 @@ begins lexing.in_word space x = false
 begins lexing.in_word other x = false
 begins lexing.in_string c x = false
 begins lexing.in_escape c x = false
+
+-- the offsets at which tokens begin, in a mode from a byte of an offset on
+abbrev pub starts_from : lexing.Mode → ℕ → List ℕ → List ℕ
+starts_from m i [] = []
+starts_from m i (x ∷ xs) =
+    let later = starts_from (next_mode m (class x)) (i + 1) xs in
+    cond (begins m (class x) x) (i ∷ later) later
+
+-- the offsets at which the tokens of a text begin, one after the other
+abbrev pub starts : List ℕ → List ℕ
+starts text = starts_from lexing.between 0 text
 
 -- none of the tokens is a fault
 abbrev pub AreGood : List Token → Type 0

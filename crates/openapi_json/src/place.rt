@@ -5,7 +5,7 @@ ghost use Rattle.json.specs.Tree.{json_tokens};
 ghost use Rattle.json.specs.Value.{value_view, items_view, members_view};
 ghost use Rattle.openapi_node.specs.Fault.{step_of};
 ghost use Rattle.openapi_node.specs.Place.{indexed, named};
-ghost use Rattle.openapi_json.specs.Positions.{child, flat, item_tokens, json_at, LeadsTo, member_tokens, StepsTo};
+ghost use Rattle.openapi_json.specs.Positions.{child, flat, item_tokens, member_tokens, StepsTo, tokens_before};
 
 use json::Value;
 use openapi_node::PlaceStep;
@@ -19,11 +19,10 @@ struct Inside<'v, 'a> {
     number: usize,
 }
 
-/// How many tokens of a value stand before the one at a place in it.
+/// Returns how many tokens of a value come before the one at a place in it.
 pub(crate) fn number_at(value: &Value<'_>, place: &[PlaceStep]) -> Option<usize>
     requires { length (json_tokens (value_view value.now)) < 2 ^ 64 }
-    ensures some { IfSome result (LeadsTo (map step_of place.now) (value_view value.now)) }
-    ensures none { result ≡ None → json_at (map step_of place.now) (value_view value.now) ≡ None }
+    ensures { result ≡ tokens_before (map step_of place.now) (value_view value.now) }
 {
     let [step, more @ ..] = place else {
         return Some(0);
@@ -33,7 +32,7 @@ pub(crate) fn number_at(value: &Value<'_>, place: &[PlaceStep]) -> Option<usize>
     Some(inside.number + number)
 }
 
-/// The value to which a step leads.
+/// Returns the value to which a step leads.
 fn step_into<'v, 'a>(value: &'v Value<'a>, step: &PlaceStep) -> Option<Inside<'v, 'a>>
     requires { length (json_tokens (value_view value.now)) < 2 ^ 64 }
     ensures some { IfSome result (λ it.
@@ -50,7 +49,7 @@ fn step_into<'v, 'a>(value: &'v Value<'a>, step: &PlaceStep) -> Option<Inside<'v
     }
 }
 
-/// The value of the last member of a name.
+/// Returns the value of the last member of a name.
 fn member<'v, 'a>(members: &'v [(&'a str, Value<'a>)], name: &str) -> Option<Inside<'v, 'a>>
     requires { length (flat member_tokens members.now) + 2 < 2 ^ 64 }
     ensures some { IfSome result (λ it.
@@ -71,7 +70,7 @@ fn member<'v, 'a>(members: &'v [(&'a str, Value<'a>)], name: &str) -> Option<Ins
     None
 }
 
-/// The value at an index.
+/// Returns the value at an index.
 fn item<'v, 'a>(values: &'v [Value<'a>], index: usize) -> Option<Inside<'v, 'a>>
     requires { length (flat item_tokens values.now) + 2 < 2 ^ 64 }
     ensures some { IfSome result (λ it.

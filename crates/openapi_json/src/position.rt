@@ -1,11 +1,10 @@
 //! Where the value at a place begins in a JSON text.
-ghost use Rattle.std.specs.Prelude.{◌≡◌, ◌≤◌, ◌-◌, drop, is_some, length, map, None, Ok, IfOk};
+ghost use Rattle.std.specs.Prelude.{◌≡◌, ◌≤◌, ◌-◌, is_some, length, map, None, Ok, IfOk};
 ghost use Rattle.std.specs.Prelude.{IfSome, IsFalse, IsSomeAnd, IsTrue};
 ghost use Rattle.std.specs.Str.{IsUtf8};
-ghost use Rattle.json.specs.Lex.{tokens};
 ghost use Rattle.openapi_node.specs.Fault.{step_of};
-ghost use Rattle.openapi_json.specs.Positions.{BeginsAt, IsBehind, last_name, StandsAt, value_at};
-ghost use Rattle.openapi_json.specs.Scanned.{AreGood};
+ghost use Rattle.openapi_json.specs.Positions.{IsBehind, IsToken, last_name, StandsAt, value_at};
+ghost use Rattle.openapi_json.specs.Scanned.{starts};
 
 use crate::in_order::read_value;
 use crate::place::number_at;
@@ -35,10 +34,14 @@ pub struct Position {
     pub name: Option<Point>,
 }
 
-/// Where the value at a place of a JSON text stands: for a name that comes again, the value that counts, which is the last.
-/// `None` says that the bytes are no JSON text, or that the text has no value at the place. Numbers need not be whole.
+/// Returns where the value at a place of a JSON text begins, and where its name does if it is the value of a member.
 ///
-/// Err says that memory ran out.
+/// Where a name comes again in an object, its last value counts, so an equal value elsewhere is never taken for it. The result is
+/// `None` if the bytes are no JSON text in UTF-8, or if the text has no value at the place. Numbers need not be whole.
+///
+/// # Errors
+///
+/// Returns [`AllocError`] if memory runs out.
 pub fn position_of(
     alloc: Global,
     bytes: &[u8],
@@ -62,7 +65,7 @@ pub fn position_of(
     Ok(position_at(bytes, number, ends_with_name(place)))
 }
 
-/// Whether the last step of a place is a name.
+/// Returns whether the last step of a place is a name.
 fn ends_with_name(place: &[PlaceStep]) -> bool
     ensures { result ≡ is_some (last_name (map step_of place.now)) }
 {
@@ -73,15 +76,13 @@ fn ends_with_name(place: &[PlaceStep]) -> bool
     }
 }
 
-/// The position of the value that begins with a token, where that of a member has its name before it.
+/// Returns the position of the value that begins with a token. The name of a member is the token before its value.
 fn position_at(bytes: &[u8], number: usize, is_member: bool) -> Option<Position>
-    requires good { AreGood (tokens bytes.now) }
-    requires named { IsTrue is_member → 1 ≤ number }
-    ensures value { IfSome result (λ p. BeginsAt bytes.now p.value (drop number (tokens bytes.now))) }
+    requires { IsTrue is_member → 1 ≤ number }
+    ensures value { IfSome result (λ p. IsToken bytes.now number p.value) }
     ensures unnamed { IfSome result (λ p. IsFalse is_member → p.name ≡ None) }
-    ensures named { IfSome result (λ p. IsTrue is_member
-        → IsSomeAnd p.name (λ q. BeginsAt bytes.now q (drop (number - 1) (tokens bytes.now)))) }
-    ensures none { result ≡ None → length (tokens bytes.now) ≤ number }
+    ensures named { IfSome result (λ p. IsTrue is_member → IsSomeAnd p.name (IsToken bytes.now (number - 1))) }
+    ensures none { result ≡ None → length (starts bytes.now) ≤ number }
 {
     let value = point_of(bytes, number)?;
     let name = if is_member {
@@ -92,17 +93,16 @@ fn position_at(bytes: &[u8], number: usize, is_member: bool) -> Option<Position>
     Some(Position { value, name })
 }
 
-/// The point at which a token of a text begins.
+/// Returns the point at which a token of a text begins. The first token has the number 0.
 fn point_of(bytes: &[u8], number: usize) -> Option<Point>
-    requires { AreGood (tokens bytes.now) }
-    ensures some { IfSome result (λ p. BeginsAt bytes.now p (drop number (tokens bytes.now))) }
-    ensures none { result ≡ None → length (tokens bytes.now) ≤ number }
+    ensures some { IfSome result (IsToken bytes.now number) }
+    ensures none { result ≡ None → length (starts bytes.now) ≤ number }
 {
     let offset = offset_of(bytes, number)?;
     Some(point_behind(&bytes[..offset]))
 }
 
-/// The point behind some bytes.
+/// Returns the point behind some bytes.
 fn point_behind(bytes: &[u8]) -> Point
     ensures { IsBehind bytes.now result }
 {

@@ -1,7 +1,7 @@
 //! Where the tokens of a JSON text begin.
-ghost use Rattle.std.specs.Prelude.{◌≡◌, ◌<◌, ◌≤◌, drop, length, IfSome, None};
-ghost use Rattle.json.specs.Lex.{class, tokens};
-ghost use Rattle.openapi_json.specs.Scanned.{AreGood, begins, mode_of, next_mode};
+ghost use Rattle.std.specs.Prelude.{◌≡◌, slice_get};
+ghost use Rattle.json.specs.Lex.{class};
+ghost use Rattle.openapi_json.specs.Scanned.{begins, mode_of, next_mode, starts};
 
 /// What stands around a byte of JSON text.
 #[derive(Clone, Copy, Drop)]
@@ -51,12 +51,9 @@ fn mode_after(mode: Mode, byte: u8) -> Mode
     }
 }
 
-/// The offset at which a token of a text begins, the first of which has the number 0.
+/// Returns the offset at which a token of a text begins. The first token has the number 0.
 pub(crate) fn offset_of(text: &[u8], number: usize) -> Option<usize>
-    requires { AreGood (tokens text.now) }
-    ensures some { IfSome result (λ o. tokens (drop o text.now) ≡ drop number (tokens text.now)) }
-    ensures within { IfSome result (λ o. o < length text.now) }
-    ensures none { result ≡ None → length (tokens text.now) ≤ number }
+    ensures { result ≡ slice_get (starts text.now) number }
 {
     let mut mode = Mode::Between;
     let mut passed = 0;

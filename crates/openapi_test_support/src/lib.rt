@@ -1,11 +1,13 @@
-//! What tests and cases share: trees from JSON text, with their members in order. Beside it stand tests of maps, nodes and
-//! values: printed texts, worked examples, and each call once with ample memory.
+//! What tests and cases share: trees from JSON text, with their members in order. Beside it stand tests of maps, nodes,
+//! values and masks of schemas: printed texts, worked examples, and each call once with ample memory.
 #![tactic(auto)]
 
 #[cfg(test)]
 mod looks;
 #[cfg(test)]
 mod maps;
+#[cfg(test)]
+mod masks;
 #[cfg(test)]
 mod nodes;
 #[cfg(test)]

@@ -12,7 +12,7 @@ use std::alloc::Global;
 use std::test::Fail;
 
 /// That a value that was built is written as a JSON text, member order included, or is refused with a text.
-fn check_built<T: ToNode + Drop>(
+pub(crate) fn check_built<T: ToNode + Drop>(
     rt: &HostRuntime,
     built: Result<T, Fail>,
     wanted: Result<&str, &str>,
@@ -36,7 +36,7 @@ fn check_taken<T: IntoNode>(
 }
 
 /// A null extension of this name.
-fn extension(rt: &HostRuntime, name: &str) -> Result<OrderedMap<Node>, Fail> {
+pub(crate) fn extension(rt: &HostRuntime, name: &str) -> Result<OrderedMap<Node>, Fail> {
     map_with(rt, name, Node::null())
 }
 
@@ -53,6 +53,7 @@ fn tag_with(rt: &HostRuntime, name: &str) -> Result<Tag, Fail> {
 fn names_of_extensions_begin_with_their_prefix(rt: HostRuntime) -> Result<(), Fail> {
     let rows = [
         ("", Err("name not writable at #/")),
+        ("x", Err("name not writable at #/x")),
         ("-x", Err("name not writable at #/-x")),
         ("X-a", Err("name not writable at #/X-a")),
         ("/a", Err("name not writable at #/~1a")),
@@ -68,7 +69,7 @@ fn names_of_extensions_begin_with_their_prefix(rt: HostRuntime) -> Result<(), Fa
 }
 
 /// A schema of no sort in particular with these extensions.
-fn schema_of(alloc: Global, extensions: OrderedMap<Node>) -> Schema {
+pub(crate) fn schema_of(alloc: Global, extensions: OrderedMap<Node>) -> Schema {
     let mut schema_data = SchemaData::new(alloc);
     schema_data.extensions = extensions;
     Schema {
@@ -102,7 +103,7 @@ fn components_of(alloc: Global, schemas: OrderedMap<ReferenceOr<Schema>>) -> Com
 }
 
 /// A document with these components.
-fn document_of(alloc: Global, components: Components) -> OpenAPI {
+pub(crate) fn document_of(alloc: Global, components: Components) -> OpenAPI {
     let mut document = OpenAPI::new(alloc);
     document.components = Some(components);
     document
@@ -150,13 +151,31 @@ fn unknown_formats_that_are_known_are_read_as_known(rt: HostRuntime) -> Result<(
     Ok(())
 }
 
+/// Returns a map of status codes with one entry.
+pub(crate) fn coded<V: Drop>(
+    rt: &HostRuntime,
+    code: StatusCode,
+    value: V,
+) -> Result<IndexMap<StatusCode, V>, Fail> {
+    let mut map = IndexMap::new(rt.alloc());
+    map.insert(code, value)?;
+    Ok(map)
+}
+
+/// Returns responses with these codes.
+pub(crate) fn responses_of(
+    alloc: Global,
+    coded: IndexMap<StatusCode, ReferenceOr<Response>>,
+) -> Responses {
+    let mut responses = Responses::new(alloc);
+    responses.responses = coded;
+    responses
+}
+
 /// Empty responses but for a new response at this code.
 fn responses_with(rt: &HostRuntime, code: StatusCode) -> Result<Responses, Fail> {
-    let mut coded = IndexMap::new(rt.alloc());
-    coded.insert(code, ReferenceOr::Item(Response::new(rt.alloc())))?;
-    let mut responses = Responses::new(rt.alloc());
-    responses.responses = coded;
-    Ok(responses)
+    let coded = coded(rt, code, ReferenceOr::Item(Response::new(rt.alloc())))?;
+    Ok(responses_of(rt.alloc(), coded))
 }
 
 // A code is written where it is read again.
@@ -219,6 +238,35 @@ fn path_items_have_names_of_their_own(rt: HostRuntime) -> Result<(), Fail> {
     ];
     for (name, wanted) in rows {
         check_built(&rt, paths_with(&rt, name), wanted)?;
+    }
+    Ok(())
+}
+
+/// Returns a document with these paths.
+pub(crate) fn document_of_paths(alloc: Global, paths: Paths) -> OpenAPI {
+    let mut document = OpenAPI::new(alloc);
+    document.paths = paths;
+    document
+}
+
+/// Returns a document with an empty path item of this name.
+fn document_with_path(rt: &HostRuntime, name: &str) -> Result<OpenAPI, Fail> {
+    Ok(document_of_paths(rt.alloc(), paths_with(rt, name)?))
+}
+
+#[test]
+fn paths_of_a_document_begin_with_a_slash(rt: HostRuntime) -> Result<(), Fail> {
+    let rows = [
+        ("a", Err("name not writable at #/paths/a")),
+        ("", Err("name not writable at #/paths/")),
+        (
+            "/a",
+            Ok(r#"{"openapi":"","info":{"title":"","version":""},"paths":{"/a":{}}}"#),
+        ),
+    ];
+    for (name, wanted) in rows {
+        check_built(&rt, document_with_path(&rt, name), wanted)?;
+        check_taken(&rt, document_with_path(&rt, name), wanted)?;
     }
     Ok(())
 }

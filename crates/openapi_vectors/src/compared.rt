@@ -1,10 +1,11 @@
 //! Which values are equal.
 
 use crate::read::read_value;
+use openapi_test_support::trees::{check_written, tree};
 use openapiv3::{
     AdditionalProperties, AnySchema, BooleanType, Callback, FromNode, IntegerType, Node,
     NumberType, ObjectType, Paths, ReferenceOr, Responses, Schema, SchemaData, Steps, StringType,
-    Tag,
+    Tag, ToNode, node_from_json,
 };
 use serde_json::Value;
 use std::test::Fail;
@@ -95,6 +96,25 @@ fn equality_ignores_the_order_of_properties(rt: HostRuntime) -> Result<(), Fail>
     let text = r#"{"type":"object","properties":{"z":{},"a":{},"b":{}}}"#;
     assert!(rt; is_read_sorted::<ReferenceOr<Schema>>(&rt, text)?);
     Ok(())
+}
+
+/// Checks that what is read of a tree is written as a JSON text, member order included.
+fn check_order<T: ToNode + Drop>(rt: &HostRuntime, node: &Node, wanted: &str) -> Result<(), Fail> {
+    let mut steps = Steps::new(rt);
+    let value = T::from_node(rt.alloc(), node, &mut steps)?;
+    check_written(rt, value.to_node(rt.alloc()), Ok(wanted))
+}
+
+// Equality does not see the order: properties keep that of the tree, which is the one of their names where the tree comes
+// of a `Value` or of text by name.
+#[test]
+fn properties_keep_the_order_of_the_tree(rt: HostRuntime) -> Result<(), Fail> {
+    let text = r#"{"type":"object","properties":{"z":{},"a":{},"b":{}}}"#;
+    check_order::<ReferenceOr<Schema>>(&rt, &tree(&rt, text)?, text)?;
+    let by_name = r#"{"type":"object","properties":{"a":{},"b":{},"z":{}}}"#;
+    check_order::<ReferenceOr<Schema>>(&rt, &sorted(&rt, text)?, by_name)?;
+    let node = node_from_json(rt.alloc(), text.as_bytes())?;
+    check_order::<ReferenceOr<Schema>>(&rt, &node, by_name)
 }
 
 /// That a new value equals what is read of an object without members.

@@ -1,7 +1,7 @@
 //! What the iterators over path items and paths give.
 
 use openapi_test_support::trees::{check_same, tree};
-use openapiv3::{FromNode, Node, Operation, PathItem, Paths, ReferenceOr, Steps};
+use openapiv3::{FromNode, Node, Operation, OrderedMap, PathItem, Paths, ReferenceOr, Steps};
 use std::alloc::{AllocError, Global};
 use std::test::Fail;
 
@@ -68,6 +68,31 @@ fn present_operations_are_given_in_order(rt: HostRuntime) -> Result<(), Fail> {
         )?;
     }
     Ok(())
+}
+
+/// Returns a path item with three operations.
+fn with_three(alloc: Global) -> PathItem {
+    PathItem {
+        summary: None,
+        description: None,
+        get: Some(Operation::new(alloc)),
+        put: None,
+        post: Some(Operation::new(alloc)),
+        delete: Some(Operation::new(alloc)),
+        options: None,
+        head: None,
+        patch: None,
+        trace: None,
+        servers: Vec::new(alloc),
+        parameters: Vec::new(alloc),
+        extensions: OrderedMap::new(alloc),
+    }
+}
+
+#[test]
+fn operations_that_were_built_are_given_in_order(rt: HostRuntime) -> Result<(), Fail> {
+    check_lent(&rt, &with_three(rt.alloc()), "get post delete ")?;
+    check_given(&rt, with_three(rt.alloc()), "get post delete ")
 }
 
 /// A path item with one operation.

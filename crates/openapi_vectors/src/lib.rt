@@ -8,6 +8,8 @@ mod built;
 #[cfg(test)]
 mod compared;
 #[cfg(test)]
+mod extended;
+#[cfg(test)]
 mod iterators;
 #[cfg(test)]
 mod listed;
@@ -23,6 +25,8 @@ mod read;
 mod readme;
 #[cfg(test)]
 mod readme_tests;
+#[cfg(test)]
+mod refused;
 #[cfg(test)]
 mod values;
 #[cfg(test)]

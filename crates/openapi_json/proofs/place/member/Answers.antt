@@ -1,12 +1,11 @@
-use Rattle.std.proofs.Common.{◌≡◌, ◌+◌, ◌-◌, Bool, true, cond, Some, get_or, take, sym, ap, subst, ◌∙◌, arith}
-use Rattle.std.proofs.lemmas.Slice.Eq.{bytes_eq-Decides}
+use Rattle.std.proofs.Common.{◌≡◌, ◌+◌, ◌-◌, drop, get_or, sym, ap, subst, ◌∙◌, arith}
 use Rattle.std.specs.Str.{bytes_eq}
 use Rattle.json.specs.Find.{get_member}
 use Rattle.json.specs.Json.{object}
 use Rattle.json.specs.Value.{value_view, members_view}
 use Rattle.openapi_node.specs.Place.{named}
 use Rattle.openapi_json.specs.Positions.{member_tokens, StepsTo}
-use Rattle.openapi_json.proofs.Positions.{last_of, member_steps, take_counts}
+use Rattle.openapi_json.proofs.Positions.{member_steps, none_from, take_counts}
 use Rattle.openapi_json.proofs.place.member.Goals as goal
 
 pub count_members-requires : goal.count_members-requires
@@ -25,24 +24,19 @@ returns-then-eq-clause-some c =
     let m = c.index-members-left.result in
     let name = c.args.name.now in
     let is = c.index-members-left.is in
-    let pick = λ (b : Bool). cond b (Some (value_view m.1)) (get_member name (members_view (take i ms))) in
-    let same : bytes_eq m.0.now name ≡ true = sym c.eq.ensures ∙ c.if-eq.true in
-    let found : get_member name (members_view ms) ≡ Some (value_view m.1) =
-    last_of ms l.left m name c.loop-left-test.true l.invariant.within is l.invariant.last ∙ ap pick same in
+    let next : l.left ≡ i + 1 = omega (arith, c.loop-left-test.true) in
     subst (λ w. StepsTo (named name) (object (members_view ms)) (2 + c.count_members.result) (value_view w.1)) (sym is)
     (subst (λ n. StepsTo (named name) (object (members_view ms)) (2 + n) (value_view (get_or ms i m).1))
     (sym c.count_members.ensures)
-    (member_steps ms i m name (omega (arith, c.loop-left-test.true, l.invariant.within))
-    (ap (λ w. w.0.now) (sym is) ∙ (bytes_eq-Decides m.0.now name).0 same) (found ∙ ap (λ w. Some (value_view w.1)) is)))
+    (member_steps name m ms i (omega (arith, c.loop-left-test.true, l.invariant.within))
+    (ap (λ w. bytes_eq w.0.now name) (sym is) ∙ sym c.eq.ensures ∙ c.if-eq.true)
+    (ap (λ n. get_member name (members_view (drop n ms))) (sym next) ∙ l.invariant.none_behind)))
 
 pub loop-left-preserved : goal.loop-left-preserved
 loop-left-preserved c =
     let l = c.loop-left in
-    let m = c.index-members-left.result in
-    let rest = get_member c.args.name.now (members_view (take (l.left - 1) c.args.members.now)) in
     record {
-      last = last_of c.args.members.now l.left m c.args.name.now c.loop-left-test.true l.invariant.within
-          c.index-members-left.is l.invariant.last
-          ∙ ap (λ (b : Bool). cond b (Some (value_view m.1)) rest) (sym c.eq.ensures ∙ c.if-eq.false);
+      none_behind = none_from c.args.members.now l.left c.index-members-left.result c.args.name.now c.loop-left-test.true
+          l.invariant.within c.index-members-left.is (sym c.eq.ensures ∙ c.if-eq.false) l.invariant.none_behind;
       within = omega (arith, l.invariant.within);
     }

@@ -1,4 +1,4 @@
-use Rattle.std.proofs.Common.{◌≡◌, ◌≤◌, length, take}
+use Rattle.std.proofs.Common.{◌≡◌, ◌≤◌, None, drop, length}
 use Rattle.json.specs.Find.{get_member}
 use Rattle.json.specs.Value.{members_view}
 use Rattle.openapi_json.proofs.place.member.Given as goal
@@ -6,7 +6,7 @@ use Rattle.openapi_json.proofs.place.member.Given as goal
 abbrev pub invariant-loop-left : goal.invariant-loop-left
 invariant-loop-left l =
     record {
-      last : get_member l.name (members_view l.members) ≡ get_member l.name (members_view (take l.left l.members));
+      none_behind : get_member l.name (members_view (drop l.left l.members)) ≡ None;
       within : l.left ≤ length l.members;
     }
 

@@ -1,8 +1,9 @@
-use Rattle.std.proofs.Common.{◌≡◌, None, sym, ap, subst, ◌∙◌, arith}
+use Rattle.std.proofs.Common.{◌≡◌, None, map, option_and_then, sym, ap, ◌∙◌, arith}
 use Rattle.json.specs.Value.{value_view}
+use Rattle.openapi_node.specs.Fault.{step_of}
 use Rattle.openapi_json.specs.Ordered.{parsed}
-use Rattle.openapi_json.specs.Scanned.{AreGood}
-use Rattle.openapi_json.proofs.Positions.{all_stand, good_tokens, is_within, text_reads, value_fits}
+use Rattle.openapi_json.specs.Positions.{json_at, tokens_before}
+use Rattle.openapi_json.proofs.Positions.{all_stand, has_name, is_within, leads_to_none, value_fits}
 use Rattle.openapi_json.proofs.position.position_of.Goals as goal
 
 pub number_at-requires : goal.number_at-requires
@@ -11,11 +12,19 @@ number_at-requires c =
     let reads = ap parsed (sym c.in-Ok.ensures.cases.0) ∙ c.in-Ok-read_value.ensures.ok in
     omega (arith, value_fits c.args.bytes.now j reads)
 
-pub position_at-requires-clause-good : goal.position_at-requires-clause-good
-position_at-requires-clause-good c =
+pub position_at-requires : goal.position_at-requires
+position_at-requires c =
     let j = value_view c.in-Ok-read_value.value in
     let reads = ap parsed (sym c.in-Ok.ensures.cases.0) ∙ c.in-Ok-read_value.ensures.ok in
-    subst AreGood (sym (text_reads c.args.bytes.now j reads)) (good_tokens j)
+    λ is. has_name c.args.bytes.now _ j c.in-Some.number reads (sym c.in-Some.ensures) (sym c.ends_with_name.ensures ∙ is)
+
+pub returns-in_default-number_at-clause-none : goal.returns-in_default-number_at-clause-none
+returns-in_default-number_at-clause-none c is utf8 =
+    let j = value_view c.in-Ok-read_value.value in
+    let reads = ap parsed (sym c.in-Ok.ensures.cases.0) ∙ c.in-Ok-read_value.ensures.ok in
+    let at = map step_of c.args.place.now in
+    let none : tokens_before at j ≡ None = sym c.number_at.ensures ∙ c.in_default-number_at.is in
+    ap (option_and_then (json_at at)) reads ∙ leads_to_none at j none
 
 pub returns-clause-some : goal.returns-clause-some
 returns-clause-some c =
@@ -23,7 +32,7 @@ returns-clause-some c =
     let text = c.in-Ok.ensures.cases in
     let reads = ap parsed (sym text.0) ∙ c.in-Ok-read_value.ensures.ok in
     let at = c.position_at.ensures in
-    all_stand c.args.bytes.now _ j c.in-Some.number reads c.in-Some.ensures.some c.ends_with_name.result c.position_at.result
+    all_stand c.args.bytes.now _ j c.in-Some.number reads (sym c.in-Some.ensures) c.ends_with_name.result c.position_at.result
     c.ends_with_name.ensures text.1 at.value at.unnamed at.named
 
 pub returns-clause-none : goal.returns-clause-none
@@ -34,5 +43,5 @@ returns-clause-none c is utf8 =
     absurd (omega (
       arith,
       c.position_at.ensures.none none,
-      is_within c.args.bytes.now _ j c.in-Some.number reads c.in-Some.ensures.some,
+      is_within c.args.bytes.now _ j c.in-Some.number reads (sym c.in-Some.ensures),
     ))

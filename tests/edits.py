@@ -6,8 +6,8 @@ usage: tests/edits.py [--jobs N] [--together N] [CRATE ..]
            as there are jobs, and at most so many together in one check (12 if left out; of a large crate fewer are quicker, and
            take less memory)
        tests/edits.py --draw N [CRATE ..]
-           tries N mutations, whether or not they have a verdict, and keeps none. They are drawn by the hash of the commit, from
-           two of these crates, or of the five lowest, whose proofs take minutes where none are kept
+           tries N mutations that were refused, and keeps no verdict. They are drawn by the hash of the commit, from two of these
+           crates, or of the five lowest, whose proofs take minutes where none are kept
        tests/edits.py --compare
            tries nothing: prints for each crate which of its mutations have no verdict of a refusal on the text as it stands
 
@@ -28,8 +28,9 @@ its name, a hash of what the verdict rests on, and the reason, in one of these w
 - `limit`: the prover met a limit of its own, or its search did at each goal.
 - `shape`: the mutation adds a function or a loop, so the refusal may tell of what the contract of that function leaves out, or
   of an invariant that the loop has not.
-The last three are no refusals: the mutation is rewritten, or gets a twin. A verdict without a reason was kept before reasons were:
-`--compare` counts it, and the mutation is tried again when its crate is.
+The last three are no refusals: the mutation is rewritten, or gets a twin. A verdict without a reason was kept before reasons were,
+and decides nothing either: the mutation is tried again when its crate is. `--compare` fails for `proof` and `shape`, and for a
+mutation that has no verdict on the text; it counts those that are undecided (`limit`, no reason) apart.
 
 Mutations are expensive, so each is tried when what its verdict rests on has changed. The second line of `edits/verdicts` is that
 of `rt version`. The verdicts hold for each release of the kit that has the same logic, which that line names too.
@@ -75,6 +76,8 @@ HEAD = "# The kit, and for each mutation the hash of what its verdict rests on, 
 REFUSED = ("goal", "lemma", "twin")
 # Why a mutation is tried again whose verdict was kept before reasons were.
 NO_REASON = "no reason"
+# Why a verdict is neither a refusal nor a failure yet.
+UNDECIDED = (NO_REASON, "limit")
 # The crates that `--draw` draws from where none is named: the lowest, so that few proofs are needed where none are kept.
 LOWEST = ("openapi_json", "openapi_map", "openapi_node", "openapi_tables", "openapi_values")
 # A line of a source that no proof sees: a comment, or a hint on inlining.
@@ -361,20 +364,21 @@ def due_of(crate, found):
 
 
 def compare():
-    """Prints for each crate with mutations which of them were not refused on its text as it stands. A verdict on that text that
-    was kept before reasons were is none of them."""
-    found, edits, without, failed = verdicts(version())[1], [], 0, 0
+    """Prints for each crate with mutations which of them were not refused on its text as it stands. Those are told apart of which a
+    verdict on that text decides nothing yet."""
+    found, edits, open_ones, failed = verdicts(version())[1], [], [], 0
     for crate in crates_with_edits():
         own, left = due_of(crate, found)
-        due = {name: why for name, why in left.items() if why != NO_REASON}
-        edits, without, failed = edits + own, without + len(left) - len(due), failed + len(due)
+        due = {name: why for name, why in left.items() if why not in UNDECIDED}
+        edits, open_ones, failed = edits + own, open_ones + [it for it in left.values() if it in UNDECIDED], failed + len(due)
         if due:
             print(f"mutations of {crate}: FAILED: {len(due)} of {len(own)} are due; run tests/edits.py {crate}")
             for why, names in itertools.groupby(sorted(due, key=due.get), due.get):
                 print(f"    {why}: {' '.join(it.partition('/')[2] for it in names)}")
         else:
-            print(f"mutations of {crate}: {len(own)} were refused, on the text that stands")
-    print(f"no reason is kept for {without} of {len(edits)} verdicts; tests/edits.py tries these again")
+            print(f"mutations of {crate}: {len(own) - len(left)} were refused at a clause, {len(left)} are undecided")
+    for why in UNDECIDED:
+        print(f"{open_ones.count(why)} of {len(edits)} are undecided: {why}")
     print(f"{len(edits) - failed} passed, {failed} failed")
     return 1 if failed else 0
 
@@ -647,15 +651,17 @@ def try_all(trials, jobs):
     return 1 if failed else 0
 
 
-def drawn(many, names):
-    """Returns for two of these crates those of so many mutations that are theirs, drawn by the hash of the commit."""
+def drawn(many, names, found):
+    """Returns for two of these crates those of so many mutations that are theirs, drawn by the hash of the commit from those that
+    were refused."""
     ran = subprocess.run(["git", "rev-parse", "HEAD"], cwd=TOP, capture_output=True, text=True, check=True)
     lot = lambda name: hash_of_texts([ran.stdout.strip(), name])
-    two = sorted(names, key=lot)[:2]
-    found = sorted((it for crate in two for it in edits_of(crate)), key=lambda it: lot(it.name))[:many]
-    for it in found:
+    refused = {crate: [it for it in edits_of(crate) if it.name not in due_of(crate, found)[1]] for crate in names}
+    two = sorted(filter(refused.get, names), key=lot)[:2]
+    chosen = sorted((it for crate in two for it in refused[crate]), key=lambda it: lot(it.name))[:many]
+    for it in chosen:
         print(f"drawn: {it.name}", flush=True)
-    return {crate: [it for it in found if it.name.startswith(f"{crate}/")] for crate in two}
+    return {crate: [it for it in chosen if it.name.startswith(f"{crate}/")] for crate in two}
 
 
 def main():
@@ -669,7 +675,7 @@ def main():
     if given.compare:
         return compare()
     if given.draw:
-        lots = drawn(given.draw, given.crates or LOWEST)
+        lots = drawn(given.draw, given.crates or LOWEST, verdicts(now)[1])
         return try_all([Trial(it, given.together, now, lot) for it, lot in lots.items() if lot], given.jobs)
     found = verdicts(now)[1]
     trials = [Trial(it, given.together, now) for it in given.crates or crates_with_edits() if given.crates or due_of(it, found)[1]]

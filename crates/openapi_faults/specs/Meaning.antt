@@ -1,5 +1,5 @@
 -- What the kinds, the rows and the tables of the code mean.
-use Rattle.std.specs.Prelude.{◌≡◌, ℕ, true, [], ◌∷◌, codes}
+use Rattle.std.specs.Prelude.{◌≡◌, ℕ, true, List, [], ◌∷◌, codes}
 use Rattle.openapi_tables.specs.Kind as kind
 use Rattle.openapi_tables.specs.Kind.{ref_to, list_of, map_of, null_or, one_of, format}
 use Rattle.openapi_tables.specs.Tables.{parameter, security_scheme, schema_type, schema_ref, security_requirement}
@@ -7,6 +7,12 @@ use Rattle.openapi_tables.specs.Tables.{path_styles, query_styles, cookie_styles
 use Rattle.openapi_tables.specs.Tables.{string_formats, number_formats, integer_formats}
 use Rattle.openapi_faults.specs.declared.kind.Kind.{Kind}
 use Rattle.openapi_faults.specs.declared.kind.Kind.TheVariants as k
+use Rattle.openapi_tables.specs.Faults.{words}
+use Rattle.openapi_faults.specs.declared.kind.Inside.{Inside}
+use Rattle.openapi_faults.specs.declared.kind.Inside.TheVariants as i
+use Rattle.openapi_faults.specs.declared.tag.Case.{Case}
+use Rattle.openapi_faults.specs.declared.tag.Tag.{Tag}
+use Rattle.openapi_faults.specs.declared.tag.Tag.TheVariants as g
 use Rattle.openapi_faults.specs.declared.kind.Limits.{Limits}
 use Rattle.openapi_faults.specs.declared.kind.Limits.TheVariants as l
 use Rattle.openapi_faults.specs.declared.row.Class.{Class}
@@ -76,6 +82,31 @@ limits_of l.Unlimited = kind.unlimited
 limits_of l.Sizes = kind.sizes
 limits_of l.Signed = kind.signed
 
+-- a text of a tag, with the table that it stands for
+abbrev pub case_of : Case → kind.Case
+case_of c = record { word = c.0.now; table = table_of c.1 }
+
+-- the name of a tag
+abbrev pub tag_name : Tag → List ℕ
+tag_name g.Parameter = codes "in"
+tag_name g.SecurityScheme = codes "type"
+tag_name g.SchemaType = codes "type"
+
+-- the cases of a kind with a tag
+abbrev pub cases_in : kind.Kind → List kind.Case
+cases_in (kind.tagged n cs) = cs
+cases_in _ = []
+
+-- the kind of the objects that have a tag
+abbrev pub tagged_of : Tag → kind.Kind
+tagged_of g.Parameter = parameter
+tagged_of g.SecurityScheme = security_scheme
+tagged_of g.SchemaType = schema_type
+
+-- the texts of a tag, each with the table that it stands for
+abbrev pub cases_of : Tag → List kind.Case
+cases_of g = cases_in (tagged_of g)
+
 -- the kind of a value
 abbrev pub kind_of : Kind → kind.Kind
 kind_of k.Text = kind.any_text
@@ -90,6 +121,9 @@ kind_of k.HeaderStyle = one_of header_styles
 kind_of k.StringFormat = format string_formats true
 kind_of k.NumberFormat = format number_formats true
 kind_of k.IntegerFormat = format integer_formats true
+kind_of k.ParameterTag = one_of (words (cases_of g.Parameter))
+kind_of k.SecuritySchemeTag = one_of (words (cases_of g.SecurityScheme))
+kind_of k.SchemaTypeTag = one_of (words (cases_of g.SchemaType))
 kind_of k.TextOrNull = null_or kind.any_text
 kind_of k.FlagOrNull = null_or kind.any_flag
 kind_of (k.NumberOrNull w) = null_or (kind.number (limits_of w))
@@ -141,3 +175,27 @@ row_of (r.Styled n s k) = kind.row n.now (kind.styled s.now) (kind_of k)
 row_of (r.Format n k) = kind.row n.now kind.formatted (kind_of k)
 row_of (r.Either a j b k) = kind.either a.now (kind_of j) b.now (kind_of k)
 row_of (r.Names c k) = kind.class (class_of c) (kind_of k)
+
+-- a kind of which nothing is asked inside
+abbrev pub is_leaf : kind.Kind → Type 0
+is_leaf (list_of k) = ⊥
+is_leaf (map_of k) = ⊥
+is_leaf (kind.by i) = ⊥
+is_leaf (kind.tagged n cs) = ⊥
+is_leaf (ref_to k) = ⊥
+is_leaf kind.flag_or_schema = ⊥
+is_leaf kind.a_schema = ⊥
+is_leaf kind.a_schema_kind = ⊥
+is_leaf _ = Unit {0}
+
+-- what is asked inside a value of a kind
+abbrev pub inside_of : kind.Kind → Inside → Type 0
+inside_of k i.Nothing = is_leaf k
+inside_of k (i.Items j) = k ≡ list_of (kind_of j)
+inside_of k (i.Members j) = k ≡ map_of (kind_of j)
+inside_of k (i.Rows n) = k ≡ kind.by (table_of n)
+inside_of k (i.Tagged g) = k ≡ tagged_of g
+inside_of k (i.Item j) = k ≡ ref_to (kind_of j)
+inside_of k i.Schema = k ≡ kind.flag_or_schema
+inside_of k i.SchemaRows = k ≡ kind.a_schema
+inside_of k i.TypeRows = k ≡ kind.a_schema_kind

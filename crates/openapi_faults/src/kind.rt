@@ -1,5 +1,9 @@
 //! What a value of a document may be.
+ghost use Rattle.std.specs.Prelude.{◌≡◌};
+ghost use Rattle.openapi_faults.specs.Meaning.{inside_of, kind_of};
+
 use crate::table::TableName;
+use crate::tag::Tag;
 
 /// The whole numbers that a number may be.
 #[derive(Clone, Copy, Debug, PartialEq)]
@@ -39,6 +43,12 @@ pub enum Kind {
     NumberFormat,
     /// The format of an integer, or `null`.
     IntegerFormat,
+    /// The location of a parameter, which is its tag: `query`, `header`, `path` or `cookie`.
+    ParameterTag,
+    /// The type of a security scheme, which is its tag: `apiKey`, `http`, `oauth2` or `openIdConnect`.
+    SecuritySchemeTag,
+    /// The type of a schema, which is its tag: `string`, `number`, `integer`, `object`, `array` or `boolean`.
+    SchemaTypeTag,
     /// A string or `null`.
     TextOrNull,
     /// `true`, `false` or `null`.
@@ -103,4 +113,66 @@ pub enum Kind {
     SchemaType,
     /// A status code, or a range of them.
     StatusCode,
+}
+
+/// What is asked of the values inside one of a kind.
+#[derive(Clone, Copy)]
+pub(crate) enum Inside {
+    /// Nothing.
+    Nothing,
+    /// This kind of each item of an array.
+    Items(Kind),
+    /// This kind of each member of an object.
+    Members(Kind),
+    /// What the rows of this table ask.
+    Rows(TableName),
+    /// What the rows of the table ask that the tag of the object names.
+    Tagged(Tag),
+    /// This kind of the value itself, unless it is a reference.
+    Item(Kind),
+    /// A schema or a reference of the value itself, where it is an object.
+    Schema,
+    /// What all schemas may have, and the names that tell their types apart.
+    SchemaRows,
+    /// The names alone that tell the types of schemas apart.
+    TypeRows,
+}
+
+impl Kind {
+    /// Returns what is asked inside a value of the kind.
+    pub(crate) fn inside(self) -> Inside
+        ensures { inside_of (kind_of self) result }
+    {
+        match self {
+            Kind::Texts => Inside::Items(Kind::Text),
+            Kind::Values => Inside::Items(Kind::Any),
+            Kind::TextsOrNulls => Inside::Items(Kind::TextOrNull),
+            Kind::FlagsOrNulls => Inside::Items(Kind::FlagOrNull),
+            Kind::NumbersOrNulls(limits) => Inside::Items(Kind::NumberOrNull(limits)),
+            Kind::SecurityRequirements => Inside::Items(Kind::SecurityRequirement),
+            Kind::Objects(table) => Inside::Items(Kind::Object(table)),
+            Kind::ParametersOrRefs => Inside::Items(Kind::ParameterOrRef),
+            Kind::SchemasOrRefs => Inside::Items(Kind::SchemaOrRef),
+            Kind::TextMap => Inside::Members(Kind::Text),
+            Kind::ValueMap => Inside::Members(Kind::Any),
+            Kind::SecurityRequirement => Inside::Members(Kind::Texts),
+            Kind::ObjectMap(table) => Inside::Members(Kind::Object(table)),
+            Kind::ObjectOrRefMap(table) => Inside::Members(Kind::ObjectOrRef(table)),
+            Kind::ParameterOrRefMap => Inside::Members(Kind::ParameterOrRef),
+            Kind::SecuritySchemeOrRefMap => Inside::Members(Kind::SecuritySchemeOrRef),
+            Kind::SchemaOrRefMap => Inside::Members(Kind::SchemaOrRef),
+            Kind::Object(table) => Inside::Rows(table),
+            Kind::Parameter => Inside::Tagged(Tag::Parameter),
+            Kind::SecurityScheme => Inside::Tagged(Tag::SecurityScheme),
+            Kind::SchemaType => Inside::Tagged(Tag::SchemaType),
+            Kind::ObjectOrRef(table) => Inside::Item(Kind::Object(table)),
+            Kind::ParameterOrRef => Inside::Item(Kind::Parameter),
+            Kind::SecuritySchemeOrRef => Inside::Item(Kind::SecurityScheme),
+            Kind::SchemaOrRef => Inside::Item(Kind::Schema),
+            Kind::FlagOrSchema => Inside::Schema,
+            Kind::Schema => Inside::SchemaRows,
+            Kind::SchemaKind => Inside::TypeRows,
+            _ => Inside::Nothing,
+        }
+    }
 }

@@ -1,4 +1,8 @@
 //! The rows of the tables.
+ghost use Rattle.std.specs.Prelude.{◌≡◌};
+ghost use Rattle.openapi_tables.specs.Members.{made_optional};
+ghost use Rattle.openapi_faults.specs.Meaning.{row_of};
+
 use crate::kind::Kind;
 
 /// A class of names.
@@ -35,4 +39,22 @@ pub enum Row {
     Either(&'static str, Kind, &'static str, Kind),
     /// The members whose names are of a class.
     Names(Class, Kind),
+}
+
+impl Row {
+    /// Returns the row as one whose member may be missing or `null`: so a schema is asked as long as its type is not known.
+    pub(crate) fn made_optional(self) -> Row
+        ensures { row_of result ≡ made_optional (row_of self) }
+    {
+        match self {
+            Row::Required(name, kind)
+            | Row::Optional(name, kind)
+            | Row::Nullable(name, kind)
+            | Row::Listed(name, kind)
+            | Row::Styled(name, _, kind)
+            | Row::Format(name, kind) => Row::Optional(name, kind),
+            Row::Flag(name) => Row::Optional(name, Kind::Flag),
+            Row::Either(..) | Row::Names(..) => self,
+        }
+    }
 }

@@ -1,5 +1,6 @@
 -- Visits one after another, and visits below a step.
-use Rattle.std.proofs.Common.{◌≡◌, List, [], ◌∷◌, ◌++◌, refl, sym, ap, ◌∙◌, subst, append_assoc}
+use Rattle.std.proofs.Common.{◌≡◌, ℕ, ◌-◌, List, [], ◌∷◌, ◌++◌, refl, sym, ap, ◌∙◌, subst, append_assoc, arith, length, length-append, map, take}
+use Rattle.std.proofs.lemmas.List.{length-map, take-append-le, take-map, take_all}
 use Rattle.openapi_node.specs.Place.{Place, Step}
 use Rattle.openapi_tables.specs.Lists.{each, join}
 use Rattle.openapi_tables.specs.Faults.{Asking, below}
@@ -18,8 +19,9 @@ moved_join p (a ∷ as') bs =
 
 pub moved_below : (p : Place) (s : Step) (as' : List Asking) → moved p (below s as') ≡ moved (p ++ (s ∷ [])) as'
 moved_below p s [] = refl
-moved_below p s (a ∷ as') = λ i.
-    record { place = append_assoc p (s ∷ []) a.place (~ i); kind = a.kind; tree = a.tree } ∷ moved_below p s as' i
+moved_below p s (a ∷ as') =
+    ap (λ q. record { place = q; kind = a.kind; tree = a.tree } ∷ moved p (below s as')) (sym (append_assoc p (s ∷ []) a.place))
+    ∙ ap (λ l. record { place = (p ++ (s ∷ [])) ++ a.place; kind = a.kind; tree = a.tree } ∷ l) (moved_below p s as')
 
 module _ {V : Type 0} (R : V → Asking → V → Type 0) where
   -- what was visited first, and what was visited then
@@ -49,3 +51,12 @@ module _ {V : Type 0} (R : V → Asking → V → Type 0) where
             (subst (λ v. Folds R v (moved (place_in down) as') up.visitor) same f.visits)));
         back = back;
       }
+
+-- a list of which the last was taken is what it was before that came
+pub popped : {X Y : Type 0} → (f : X → Y) (n : ℕ) (xs zs : List X) (ps : List Y) (p : Y) → length xs ≡ n
+    → map f xs ≡ ps ++ (p ∷ []) → zs ≡ take (n - 1) xs → map f zs ≡ ps
+popped f n xs zs ps p w e h =
+    let l : length (map f xs) ≡ length (ps ++ (p ∷ [])) = ap length e in
+    let m : n - 1 ≡ length ps = omega (arith, l, w, length-map xs f, length-append ps (p ∷ [])) in
+    ap (map f) h ∙ sym (take-map f (n - 1) xs) ∙ ap (take (n - 1)) e
+    ∙ ap (λ k. take k (ps ++ (p ∷ []))) m ∙ take-append-le (length ps) ps (p ∷ []) (omega arith) ∙ take_all (length ps) ps (omega arith)

@@ -1,6 +1,5 @@
 -- A walk over all that is asked in a tree, in order: what is visited, and what comes of it.
 use Rattle.std.specs.Prelude.{◌≡◌, ℕ, suc, ◌+◌, Bool, true, cond, ◌||◌, List, [], ◌∷◌, ◌++◌, map, Option, Some, None, codes}
-use Rattle.std.specs.Borrow.{Bor}
 use Rattle.openapi_map.specs.Entries.{Entries}
 use Rattle.openapi_node.specs.Place.{Place, Step, named, indexed}
 use Rattle.openapi_node.specs.Tree.{Tree, object, Members, members_of, find, size_of, text_in}
@@ -22,10 +21,6 @@ use Rattle.openapi_faults.specs.declared.walk.Walk.{Walk}
 abbrev pub step_of : declared.Step → Step
 step_of (s.Name n) = named n.now
 step_of (s.Index i) = indexed i
-
--- a text that is borrowed
-abbrev pub text_of : Bor (List ℕ) → List ℕ
-text_of b = b.now
 
 -- what is asked of values at places below a place, as it is seen from where that place begins
 abbrev pub moved : Place → List Asking → List Asking
@@ -100,21 +95,12 @@ asked_optional n k ms = asked_not_null n k (find n ms)
 
 -- rows, where they are open as ones whose members may be missing or null
 abbrev pub rows_as : Bool → List row.Row → List Row
-rows_as b rs = each (λ r. cond b (made_optional (row_of r)) (row_of r)) rs
+rows_as b rs = map (λ r. cond b (made_optional (row_of r)) (row_of r)) rs
 
 -- whether a name is of a class, where one is given
 abbrev pub is_chosen : Option class.Class → List ℕ → Bool
 is_chosen None n = true
 is_chosen (Some c) n = in_class (class_of c) n
-
--- whether a name is one of two
-abbrev pub is_either : List ℕ → List ℕ → List ℕ → Bool
-is_either a b n = same_text a n || same_text b n
-
--- the entries whose names pass a test
-abbrev pub chosen : {X : Type 0} → (List ℕ → Bool) → Entries X → Entries X
-chosen p [] = []
-chosen p (e ∷ es) = cond (p e.0) (e ∷ chosen p es) (chosen p es)
 
 -- ---- how many values are accessed
 

@@ -1,13 +1,15 @@
 //! Members of an object: by a class of names, and the first of two names.
 ghost use Rattle.std.specs.Prelude.{◌≡◌, ◌+◌, ◌≤◌};
-ghost use Rattle.std.specs.Option.{option_map};
+ghost use Rattle.std.specs.Option.{option_copied, option_map};
 ghost use Rattle.std.specs.List.{slice_get};
 ghost use Rattle.std.specs.Map.Iter.{deref_pair};
 ghost use Rattle.openapi_node.specs.View.{shown};
 ghost use Rattle.openapi_tables.specs.Kind.{in_class};
 ghost use Rattle.openapi_tables.specs.Lists.{same_text};
 ghost use Rattle.openapi_faults.specs.Meaning.{class_of, kind_of};
-ghost use Rattle.openapi_faults.specs.Walk.{chosen, is_chosen, is_either, reference_text, text_of};
+ghost use Rattle.openapi_fields.specs.Entries.{chosen};
+ghost use Rattle.openapi_fields.specs.Forms.{is_either};
+ghost use Rattle.openapi_faults.specs.Walk.{is_chosen, reference_text};
 
 use crate::kind::{Inside, Kind};
 use crate::row::Class;
@@ -70,7 +72,7 @@ pub(crate) fn first_of_two<'a>(
 
 /// Returns the text under `$ref` where a reference may replace a value of the kind, and does.
 pub(crate) fn reference_in<'a>(kind: Kind, view: &View<'a>, steps: &mut Steps) -> Option<&'a str>
-    ensures text { option_map text_of result ≡ reference_text (kind_of kind) (shown view.now) }
+    ensures text { option_copied result ≡ reference_text (kind_of kind) (shown view.now) }
     ensures rises { steps.old ≤ steps.new }
     ensures count { steps.new ≤ steps.old + 1 }
 {

@@ -1,6 +1,6 @@
 //! A walk over all that is asked in a JSON value.
 ghost use Rattle.std.specs.Prelude.{◌≡◌, ◌+◌, ◌*◌, ◌≤◌, None, OnOk, map};
-ghost use Rattle.std.specs.Option.{option_map};
+ghost use Rattle.std.specs.Option.{option_copied};
 ghost use Rattle.openapi_node.specs.Tree.{items_of, items_size, members_of, members_size, object, size_of};
 ghost use Rattle.openapi_node.specs.View.{shown};
 ghost use Rattle.openapi_tables.specs.ByRow.{asking, row_weight, rows_weight};
@@ -10,7 +10,7 @@ ghost use Rattle.openapi_faults.specs.Meaning.{kind_of, row_of, tagged_of};
 ghost use Rattle.openapi_faults.specs.Walk.{Visits, accesses, accesses_inside, asked_entries, asked_inside, asked_items};
 ghost use Rattle.openapi_faults.specs.Walk.{asked_below, asked_member, asked_optional, asked_row, asked_rows};
 ghost use Rattle.openapi_faults.specs.Walk.{entries_size, is_chosen, member_size};
-ghost use Rattle.openapi_faults.specs.Walk.{reference_text, rows_as, step_of, text_of};
+ghost use Rattle.openapi_faults.specs.Walk.{reference_text, rows_as, step_of};
 
 use crate::kind::{Inside, Kind};
 use crate::members::{first_of_two, is_among, is_same, reference_in};
@@ -41,7 +41,7 @@ pub trait Visitor {
         view: &View<'_>,
         reference: Option<&str>,
     ) -> Result<(), AllocError>
-        requires { option_map text_of reference ≡ reference_text (kind_of kind) (shown view.now) }
+        requires { option_copied reference ≡ reference_text (kind_of kind) (shown view.now) }
         ensures { OnOk result (Takes self.old (asking (map step_of place.now) (kind_of kind) (shown view.now)) self.new) };
 }
 
@@ -158,7 +158,7 @@ impl<'a, V: Visitor> Walk<'a, V> {
         node: &'a Node,
         steps: &mut Steps,
     ) -> Result<(), AllocError>
-        ensures visits { OnOk result (Visits V.Takes (asked_below (step_of step) (kind_of kind) node.now) self.old self.new) }
+        ensures visits { OnOk result (Visits V.Takes (asked_below (step_of step.entry) (kind_of kind) node.now) self.old self.new) }
         ensures rises { steps.old ≤ steps.new }
         ensures count { steps.new ≤ steps.old + 3 * size_of node.now }
     {

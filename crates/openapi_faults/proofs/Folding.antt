@@ -1,9 +1,12 @@
 -- Visits one after another, and visits below a step.
 use Rattle.std.proofs.Common.{◌≡◌, ℕ, ◌-◌, List, [], ◌∷◌, ◌++◌, refl, sym, ap, ◌∙◌, subst, append_assoc, arith, length, length-append, map, take}
-use Rattle.std.proofs.lemmas.List.{length-map, take-append-le, take-map, take_all}
+use Rattle.std.proofs.lemmas.List.{append-nil, length-map, take-append-le, take-map, take_all}
 use Rattle.openapi_node.specs.Place.{Place, Step}
 use Rattle.openapi_tables.specs.Lists.{each, join}
+use Rattle.openapi_node.specs.Tree.{Tree}
+use Rattle.openapi_tables.specs.ByRow.{asking}
 use Rattle.openapi_tables.specs.Faults.{Asking, below}
+use Rattle.openapi_tables.specs.Kind.{Kind}
 use Rattle.openapi_faults.specs.Walk.{Folds, Visits, moved, place_in}
 use Rattle.openapi_faults.specs.declared.walk.Walk.{Walk}
 
@@ -51,6 +54,20 @@ module _ {V : Type 0} (R : V → Asking → V → Type 0) where
             (subst (λ v. Folds R v (moved (place_in down) as') up.visitor) same f.visits)));
         back = back;
       }
+
+-- one visit at the location of a walk
+pub visits_one : {V : Type 0} (R : V → Asking → V → Type 0) (k : Kind) (t : Tree) (old new : Walk V)
+    → R old.visitor (asking (place_in old) k t) new.visitor → place_in new ≡ place_in old
+    → Visits R (asking [] k t ∷ []) old new
+visits_one R k t old new h back =
+    record {
+      visits = (
+        new.visitor,
+        subst (λ p. R old.visitor (asking p k t) new.visitor) (sym (append-nil (place_in old))) h,
+        refl,
+      );
+      back = back;
+    }
 
 -- a list of which the last was taken is what it was before that came
 pub popped : {X Y : Type 0} → (f : X → Y) (n : ℕ) (xs zs : List X) (ps : List Y) (p : Y) → length xs ≡ n

@@ -1,5 +1,5 @@
 -- What is asked of a tree: its kind, and then what is asked inside, by its kind.
-use Rattle.std.proofs.Common.{◌≡◌, ℕ, suc, Bool, true, false, cond, List, [], ◌∷◌, None, refl, sym, ap, ◌∙◌, map, codes}
+use Rattle.std.proofs.Common.{◌≡◌, ℕ, suc, Bool, true, false, cond, List, [], ◌∷◌, None, Some, ◌≤◌, refl, sym, ap, ◌∙◌, map, codes, arith}
 use Rattle.openapi_map.specs.Entries.{Entries}
 use Rattle.openapi_node.specs.Place.{indexed, named}
 use Rattle.openapi_node.specs.Tree.{Tree, Members, items_of, list, members_of, object}
@@ -15,7 +15,7 @@ use Rattle.openapi_tables.proofs.Taken.{reference_of}
 use Rattle.openapi_tables.proofs.TreeLaws.{of_tree_lem, seen_root, tree_of_root-seen}
 use Rattle.openapi_faults.specs.Meaning.{row_of}
 use Rattle.openapi_faults.specs.Walk.{asked_entries, asked_inside, asked_items, asked_rows, behind_first, is_chosen}
-use Rattle.openapi_faults.specs.Walk.{reference_text, rows_as}
+use Rattle.openapi_faults.specs.Walk.{accesses, accesses_inside, reference_text, rows_as}
 use Rattle.openapi_faults.specs.declared.row.Row as declared
 
 -- the first that is asked is the kind of the tree itself
@@ -96,6 +96,16 @@ pub inside_item : (k : Kind) (t : Tree) → reference_text (ref_to k) t ≡ None
 inside_item k (object ms) h =
     ap (λ r. unless_reference r (asked final_tables k (object ms))) (reference_of (root_asks final_tables) ms ∙ h)
 inside_item k t h = refl
+
+pub inside_reference : (k : Kind) (t : Tree) (s : List ℕ) → reference_text k t ≡ Some s → asked_inside k t ≡ []
+inside_reference (ref_to k) (object ms) s h =
+    ap (λ r. unless_reference r (asked final_tables k (object ms))) (reference_of (root_asks final_tables) ms ∙ h)
+inside_reference k t s h = cc
+
+-- no look for a reference is taken inside
+pub accesses-le : (k : Kind) → accesses_inside k ≤ accesses k
+accesses-le (ref_to k) = omega arith
+accesses-le k = omega arith
 
 pub inside_flag_or_schema : (ms : Members)
     → asked_inside flag_or_schema (object ms) ≡ asked final_tables (ref_to a_schema) (object ms)

@@ -9,7 +9,7 @@ ghost use Rattle.openapi_tables.specs.Lists.{same_text};
 ghost use Rattle.openapi_faults.specs.Meaning.{class_of, kind_of};
 ghost use Rattle.openapi_fields.specs.Entries.{chosen};
 ghost use Rattle.openapi_fields.specs.Forms.{is_either};
-ghost use Rattle.openapi_faults.specs.Walk.{is_chosen, reference_text};
+ghost use Rattle.openapi_faults.specs.Walk.{accesses, accesses_inside, is_chosen, reference_text};
 
 use crate::kind::{Inside, Kind};
 use crate::row::Class;
@@ -74,7 +74,7 @@ pub(crate) fn first_of_two<'a>(
 pub(crate) fn reference_in<'a>(kind: Kind, view: &View<'a>, steps: &mut Steps) -> Option<&'a str>
     ensures text { option_copied result ≡ reference_text (kind_of kind) (shown view.now) }
     ensures rises { steps.old ≤ steps.new }
-    ensures count { steps.new ≤ steps.old + 1 }
+    ensures count { steps.new + accesses_inside (kind_of kind) ≤ steps.old + accesses (kind_of kind) }
 {
     let Inside::Item(_) = kind.inside() else {
         return None;

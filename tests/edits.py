@@ -30,7 +30,7 @@ its name, a hash of what the verdict rests on, and the reason, in one of these w
   of an invariant that the loop has not.
 The last three are no refusals: the mutation is rewritten, or gets a twin. A verdict without a reason was kept before reasons were,
 and decides nothing either: the mutation is tried again when its crate is. `--compare` fails for `proof` and `shape`, and for a
-mutation that has no verdict on the text; it counts those that are undecided (`limit`, no reason) apart.
+mutation that has no verdict on the text; those that are undecided (`limit`, no reason) it counts neither as passed nor as failed.
 
 Mutations are expensive, so each is tried when what its verdict rests on has changed. The second line of `edits/verdicts` is that
 of `rt version`. The verdicts hold for each release of the kit that has the same logic, which that line names too.
@@ -364,8 +364,8 @@ def due_of(crate, found):
 
 
 def compare():
-    """Prints for each crate with mutations which of them were not refused on its text as it stands. Those are told apart of which a
-    verdict on that text decides nothing yet."""
+    """Prints for each crate with mutations which of them were not refused on its text as it is. Those with a verdict on that text
+    that decides nothing yet count neither as passed nor as failed."""
     found, edits, open_ones, failed = verdicts(version())[1], [], [], 0
     for crate in crates_with_edits():
         own, left = due_of(crate, found)
@@ -379,7 +379,7 @@ def compare():
             print(f"mutations of {crate}: {len(own) - len(left)} were refused at a clause, {len(left)} are undecided")
     for why in UNDECIDED:
         print(f"{open_ones.count(why)} of {len(edits)} are undecided: {why}")
-    print(f"{len(edits) - failed} passed, {failed} failed")
+    print(f"{len(edits) - len(open_ones) - failed} passed, {failed} failed")
     return 1 if failed else 0
 
 

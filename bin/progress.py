@@ -21,6 +21,12 @@ VERDICT = re.compile(r"\d+ passed, \d+ failed")
 PASSED = re.compile(r"refused, as it must be|trying its must-fail edits|must-fail edits were tried by|waiting for it$|ran.*, and wrote what")
 
 
+def crate_of(line):
+    """Returns the crate that a line says is proved or kept, or None."""
+    done = DONE.match(line.rstrip())
+    return done and done[2] != "NOT PROVED" and done[1] or None
+
+
 def lines_of(crate):
     """Returns the number of lines of a crate, and one."""
     number = 1

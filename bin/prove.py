@@ -11,6 +11,9 @@ when it is done. The last line is `N passed, M failed`, and the exit status is t
 the copy has no other crates, and `rt ci` without names proves all of it. A kit that keeps proofs keeps them by hashes of what
 they rest on, so each counts for later runs of `rt ci` here, in other clones too. Where CI is `true` in the environment, names
 are refused, as `rt ci` refuses them there: some crates are not enough for a merge.
+
+With such a kit each library that others use is proved by a run of its own first. A run divides the processors among all that
+is ready, also tests that a crate has not, and so proves a chain of libraries with one or two of four.
 """
 import os
 import shutil
@@ -22,22 +25,58 @@ import progress
 import sources
 
 
-def copy(crates, to):
+def copy(crates, to, top=sources.TOP):
     """Copies crates to a folder, as a repository of their own."""
     for name in crates:
-        shutil.copytree(f"{sources.TOP}/crates/{name}", f"{to}/crates/{name}", symlinks=True, ignore=shutil.ignore_patterns("out"))
-    shutil.copy(f"{sources.TOP}/HANDLES", to)
+        shutil.copytree(f"{top}/crates/{name}", f"{to}/crates/{name}", symlinks=True, ignore=shutil.ignore_patterns("out"))
+    shutil.copy(f"{top}/HANDLES", to)
     with open(f"{to}/crates.txt", "w", encoding="utf-8") as it:
         it.writelines(f"{line}\n" for line in crates.values())
     # (rt takes the nearest folder with a .git for the top of the repository)
     os.mkdir(f"{to}/.git")
 
 
-def prove(folder, names):
-    """Runs `rt ci` in a folder, and returns its status."""
-    with subprocess.Popen(["rt", "ci"], cwd=folder, stdout=subprocess.PIPE, stderr=subprocess.STDOUT, text=True, errors="replace") as ran:
-        progress.report((line.replace(folder, sources.TOP) for line in ran.stdout), names)
-    return ran.returncode
+def start(folder):
+    """Starts `rt ci` in a folder."""
+    return subprocess.Popen(["rt", "ci"], cwd=folder, stdout=subprocess.PIPE, stderr=subprocess.STDOUT, text=True, errors="replace")
+
+
+def keeps_proofs():
+    """Returns whether the kit keeps proofs for later runs. Those that do take names of crates, and say so."""
+    ran = subprocess.run(["rt", "ci", "--help"], stdout=subprocess.PIPE, stderr=subprocess.STDOUT, text=True)
+    return "names of crates" in ran.stdout
+
+
+class Proof:
+    """Proves crates, and yields the lines that `rt ci` prints; then its status is that of the last run."""
+
+    def __init__(self, folder, crates):
+        self.folder, self.crates, self.status, self.done = folder, crates, 0, set()
+
+    def libraries(self):
+        """Returns the libraries that others of these crates use, lowest first."""
+        used = {it for line in self.crates.values() for it in line.partition(":")[2].split()}
+        return [it for it in self.crates if it in used]
+
+    def alone(self, name):
+        """Proves a library and those that it uses, which are kept, and yields what is printed of it; of a failure, all."""
+        with tempfile.TemporaryDirectory(prefix="prove-") as room:
+            folder = f"{room}/repository"
+            copy(sources.crates_of([name], self.folder), folder, self.folder)
+            with start(folder) as ran:
+                lines = [line.replace(folder, sources.TOP) for line in ran.stdout]
+        self.status = ran.returncode
+        self.done.add(name)
+        yield from lines if self.status else (it for it in lines if progress.crate_of(it) == name)
+
+    def lines(self):
+        for name in self.libraries() if keeps_proofs() else []:
+            yield from self.alone(name)
+            if self.status:
+                return
+        with start(self.folder) as ran:
+            yield from (line.replace(self.folder, sources.TOP) for line in ran.stdout if progress.crate_of(line) not in self.done)
+        self.status = ran.returncode
 
 
 def main():
@@ -54,7 +93,8 @@ def main():
         if names:
             copy(crates, folder)
         sums = {it: sources.sum_of(it, is_proved=True, top=folder) for it in programs}
-        status = prove(folder, crates)
+        proof = Proof(folder, crates)
+        progress.report(proof.lines(), crates)
         for name in programs:
             made, program = f"{folder}/crates/{name}/out/{name}", sources.program_of(name, is_proved=True)
             if os.path.isfile(made) and sources.sum_of(name, is_proved=True, top=folder) == sums[name]:
@@ -63,7 +103,7 @@ def main():
                     shutil.copy(made, f"{program}.new")
                     os.replace(f"{program}.new", program)
                 sources.note(program, sums[name], began)
-    return status
+    return proof.status
 
 
 if __name__ == "__main__":

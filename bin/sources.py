@@ -31,14 +31,14 @@ def lines_of_crates(top=TOP):
 
 
 def crates_of(names, top=TOP):
-    """Returns these crates and the crates of the repository that they use, each with its line of crates.txt."""
-    lines, found, left = lines_of_crates(top), {}, [*names]
+    """Returns these crates and the crates of the repository that they use, each with its line of crates.txt, in its order."""
+    lines, found, left = lines_of_crates(top), set(), [*names]
     while left:
         name = left.pop()
         if name in lines and name not in found:
-            found[name] = lines[name]
+            found.add(name)
             left += lines[name].partition(":")[2].split()
-    return found
+    return {name: line for name, line in lines.items() if name in found}
 
 
 def is_program(name, top=TOP):

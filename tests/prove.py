@@ -1,8 +1,9 @@
 #!/usr/bin/env python3
 """Checks `bin/prove.py`, and which build `bin/run.sh` runs, in a copy of the repository with an `rt` that proves nothing.
 
-That `rt` is of a kit whose `rt ci` takes no names: with one it prints its usage and fails. Without, it notes the crates that it
-finds, and writes a script in the place of each program. The last line is `N passed, M failed`.
+That `rt` is of a kit whose `rt ci` takes no names, or says that it does: with more words it prints its usage and fails.
+Without, it notes the crates that it finds, and writes a script in the place of each program. The last line is
+`N passed, M failed`.
 """
 import os
 import shutil
@@ -14,9 +15,10 @@ import time
 TOP = os.path.dirname(os.path.dirname(os.path.realpath(__file__)))
 RT = """#!/bin/sh
 if [ "$1" != ci ]; then exec '{rt}' "$@"; fi
-if [ $# -gt 1 ]; then echo 'usage: rt ci'; exit 2; fi
+if [ $# -gt 1 ]; then echo "usage: rt ci $USAGE"; exit 2; fi
 cp crates.txt HANDLES '{room}'
 ls crates > '{room}/crates'
+echo $(ls crates) >> '{room}/runs'
 failed=0
 for name in $(ls crates); do
   if [ "$name" = "$REFUSED" ]; then
@@ -51,7 +53,7 @@ def main():
             print(f"FAILED: {what.strip()}")
 
     def run(*words, **more):
-        env = {**os.environ, "PATH": f"{room}/tools:{os.environ['PATH']}", "OPENAPI_CLEAN_QUIET": "", "REFUSED": "", "CI": "", **more}
+        env = {**os.environ, "PATH": f"{room}/tools:{os.environ['PATH']}", "OPENAPI_CLEAN_QUIET": "", "REFUSED": "", "CI": "", "USAGE": "", **more}
         return subprocess.run(words, cwd=copy, env=env, stdin=subprocess.DEVNULL, stdout=subprocess.PIPE, stderr=subprocess.STDOUT, text=True)
 
     def answers(text, what):
@@ -133,6 +135,19 @@ def main():
         shutil.copy(f"{TOP}/{source}", f"{copy}/{source}")
         answers("an unproved build", "the hash of one program says nothing about another")
 
+        alone, names = ["openapi_map", "openapi_map openapi_node"], "names of crates"
+        os.remove(f"{room}/runs")
+        ran = run("bin/prove.py", "openapi_node", USAGE=names)
+        with open(f"{room}/runs") as it:
+            check("a kit that keeps proofs proves each library by itself first", it.read().splitlines() == alone)
+        check("each crate is printed once", [it.split(" proved")[0] for it in ran.stdout.splitlines()[:-1]] == alone[-1].split())
+        check("what is printed ends with the last run", ran.returncode == 0 and ran.stdout.endswith("\n7 passed, 0 failed\n"))
+        os.remove(f"{room}/runs")
+        ran = run("bin/prove.py", "openapi_node", USAGE=names, REFUSED="openapi_map")
+        with open(f"{room}/runs") as it:
+            check("a library that is not proved ends the run", it.read().splitlines() == alone[:1])
+        check("its errors are printed", ran.returncode == 1 and f"{copy}/crates/openapi_map/src/lib.rt:1:1: error\n" in ran.stdout)
+        check("and its verdict", ran.stdout.endswith("\n7 passed, 1 failed\n"))
         ran = run("bin/prove.py")
         check("all crates are proved at the top of the repository", ran.returncode == 0 and "example_linter proved after" in ran.stdout)
         answers("the proved build answers", "and then the proved program answers")

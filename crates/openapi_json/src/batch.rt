@@ -1,4 +1,4 @@
-//! Where the values at several places of a JSON text begin.
+//! The positions of the values at several locations of a JSON text.
 ghost use Rattle.std.specs.Prelude.{◌≡◌, ◌≤◌, ◌<◌, ◌-◌, All, cond, IfOk, IsTrue, length, map, None, slice_get, Some};
 ghost use Rattle.std.specs.List.{AllZip};
 ghost use Rattle.json.specs.Tree.{json_tokens};
@@ -17,10 +17,11 @@ use json::{Scratch, Value};
 use openapi_node::PlaceStep;
 use std::alloc::{AllocError, Global};
 
-/// Returns where the values at several places of a JSON text begin: for each place, in their order, what [`position_of`] returns.
+/// Returns where the values at several locations of a JSON text begin: one entry for each location, in their order, which is what
+/// [`position_of`] returns for it.
 ///
-/// The text is read once, whatever the number of places. For each place the cost is that of finding each name of the place in its
-/// object.
+/// The text is read once, whatever the number of locations. The cost of each location is that of a lookup: an index is found
+/// immediately, and a name by a search through the members of its object.
 ///
 /// # Errors
 ///
@@ -49,20 +50,20 @@ pub fn positions_of(
     positions_among(alloc, &value, &token, points.as_slice(), places)
 }
 
-/// Returns `None` for each of so many places.
+/// Returns a list of `count` times `None`.
 fn no_positions(alloc: Global, count: usize) -> Result<Vec<Option<Position>>, AllocError>
     ensures length { IfOk result (λ v. length v.items ≡ count) }
     ensures none { IfOk result (λ v. All (λ o. o ≡ None) v.items) }
 {
-    let mut positions = Vec::with_capacity(alloc, count)?;
+    let mut entries = Vec::with_capacity(alloc, count)?;
     for _ in 0..count {
-        positions.push(None)?;
+        entries.push(None)?;
     }
-    Ok(positions)
+    Ok(entries)
 }
 
-/// Returns the positions of the values at several places. The points are those of the tokens of `value`, of which `token` is the
-/// first.
+/// Returns the positions of the values at several locations. `token` is the first token of `value`, and `points` has the points of
+/// all its tokens.
 fn positions_among(
     alloc: Global,
     value: &Value<'_>,
@@ -82,7 +83,7 @@ fn positions_among(
     Ok(positions)
 }
 
-/// Returns the position of the value at a place. The points are those of the tokens of `value`, of which `token` is the first.
+/// Returns the position of the value at one location, by the same first token and points.
 fn position_among(
     value: &Value<'_>,
     token: &FirstToken,

@@ -89,6 +89,7 @@ fn of_members(
 {
     let mut tokens = Vec::with_capacity(alloc, members.len())?;
     for member in members {
+        // The name of a member is a token too.
         *next += 1;
         let token = first_tokens(alloc, &member.1, next)?;
         tokens.push(token)?;
@@ -97,7 +98,7 @@ fn of_members(
     Ok(tokens)
 }
 
-/// Returns the number of the first token of the value at a place in another one.
+/// Returns the number of the first token of the value at a location in another value.
 pub(crate) fn number_below<'v>(
     value: &'v Value<'_>,
     token: &'v FirstToken,

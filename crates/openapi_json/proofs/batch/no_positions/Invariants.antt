@@ -4,6 +4,6 @@ use Rattle.openapi_json.proofs.batch.no_positions.Given as goal
 abbrev pub invariant-loop : goal.invariant-loop
 invariant-loop l =
     record {
-      length : length l.positions.items ≡ l.counter;
-      none : All (λ o. o ≡ None) l.positions.items;
+      length : length l.entries.items ≡ l.counter;
+      none : All (λ o. o ≡ None) l.entries.items;
     }

@@ -7,7 +7,7 @@ use crate::row::Row;
 use crate::sorts::{operations, sort};
 use crate::table::{expected_of, full_object, other_objects};
 use crate::taken::{given, taken};
-use crate::texts::{by_name, in_order, ordered_text, position, pretty};
+use crate::texts::{by_name, in_order, ordered_text, position, positions, pretty};
 use crate::types::of_type;
 use openapi_test_support::trees::tree;
 use openapiv3::{Fault, Node, Settle, Steps, ToNode, json_from_node, node_from_json};
@@ -36,6 +36,7 @@ pub fn answer(rt: &HostRuntime, case: &Case<'_>) -> Result<String, Fail> {
         "order" => in_order(rt, rest),
         "pretty" => pretty(rt, rest),
         "position" => position(rt, rest),
+        "positions" => positions(rt, rest),
         "sort" => sort(rt, &tree(rt, rest)?),
         "operations" => operations(rt, &tree(rt, rest)?),
         "new" => told_if_known(rt, written_empty(rt, rest)),

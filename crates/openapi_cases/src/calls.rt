@@ -37,6 +37,7 @@ pub fn on_sample(rt: &HostRuntime, call: &str, sample: Sample) -> Result<Told, F
         "pretty_from_node_in_order" => nodes::pretty_from_node_in_order(rt, sample.text()),
         "position_of" => nodes::position_of(rt, sample.text()),
         "position_below" => nodes::position_below(rt, sample),
+        "positions_of" => nodes::positions_of(rt, sample),
         "from_owned_node" => match sample {
             Sample::Schema => typed::from_owned_node::<Schema>(rt, sample),
             Sample::Document => typed::from_owned_node::<OpenAPI>(rt, sample),

@@ -154,6 +154,25 @@ pub fn position_below(rt: &HostRuntime, sample: Sample) -> Result<Told, Fail> {
     Ok(told_by_growth(answer, &wanted))
 }
 
+/// Looks for the positions of a text's root, of a member's value below it, and of a value that is not there.
+pub fn positions_of(rt: &HostRuntime, sample: Sample) -> Result<Told, Fail> {
+    let alloc = rt.alloc();
+    let (names, member) = sample.inner();
+    let place = place_of(alloc, names)?;
+    let missing = place_of(alloc, &["no such member"])?;
+    let root = Position {
+        value: point_at(0),
+        name: None,
+    };
+    let below = position_in(sample.text(), member)?;
+    let wanted = [Some(root), Some(below), None].to_vec(alloc)?;
+    let places = [[].as_slice(), place.as_slice(), missing.as_slice()];
+    mark(alloc, Moment::CallBegins)?;
+    let answer = openapiv3::positions_of(alloc, sample.text().as_bytes(), &places);
+    mark(alloc, Moment::CallEnds)?;
+    Ok(told_by_growth(answer, &wanted))
+}
+
 /// Returns the place that these names lead to.
 fn place_of(alloc: Global, names: &[&str]) -> Result<Vec<PlaceStep>, Fail> {
     let mut place = Vec::new(alloc);

@@ -1,8 +1,8 @@
 //! Cases on JSON text: what is read of it, what is written again, and where its values stand.
 
 use openapiv3::{
-    JsonFault, Node, PlaceStep, Point, Steps, json_from_node, json_from_node_in_order,
-    node_from_json, node_from_json_in_order, position_of, pretty_from_node_in_order,
+    JsonFault, Node, PlaceStep, Point, Position, Steps, json_from_node, json_from_node_in_order,
+    node_from_json, node_from_json_in_order, position_of, positions_of, pretty_from_node_in_order,
 };
 use std::test::Fail;
 
@@ -87,14 +87,48 @@ pub fn pretty(rt: &HostRuntime, text: &str) -> Result<String, Fail> {
     }
 }
 
-/// Returns where the value at a place begins in a text, in which `↵` is a line feed, `␍` a carriage return and `⇥` a tab.
+/// Returns where the value at a place begins in a text. [`positions_of`] has to return the same of this place alone.
 pub fn position(rt: &HostRuntime, request: &str) -> Result<String, Fail> {
     let (place, text) = request.split_once(' ').unwrap_or((request, ""));
+    let text = spelled_out(rt, text)?;
+    let place = place_of(rt, place)?;
+    let found = position_of(rt.alloc(), text.as_str().as_bytes(), place.as_slice())?;
+    let all = positions_of(rt.alloc(), text.as_str().as_bytes(), &[place.as_slice()])?;
+    if all.as_slice() != [found].as_slice() {
+        return Ok(String::from_str(rt.alloc(), "in a list of places it is another\n")?);
+    }
+    position_text(rt, found)
+}
+
+/// Returns where the values at several places, with a comma between two of them, begin in a text: a line for each place.
+pub fn positions(rt: &HostRuntime, request: &str) -> Result<String, Fail> {
+    let (pointers, text) = request.split_once(' ').unwrap_or((request, ""));
+    let text = spelled_out(rt, text)?;
+    let mut places = Vec::new(rt.alloc());
+    for pointer in pointers.split(',') {
+        places.push(place_of(rt, pointer)?)?;
+    }
+    let mut lent = Vec::new(rt.alloc());
+    for place in &places {
+        lent.push(place.as_slice())?;
+    }
+    let mut answer = String::new(rt.alloc());
+    for position in positions_of(rt.alloc(), text.as_str().as_bytes(), lent.as_slice())? {
+        answer.push_str(position_text(rt, position)?.as_str())?;
+    }
+    Ok(answer)
+}
+
+/// Returns a text with a line feed for each `↵`, a carriage return for each `␍` and a tab for each `⇥`.
+fn spelled_out(rt: &HostRuntime, text: &str) -> Result<String, Fail> {
     let text = text.replace(rt.alloc(), "↵", "\n")?;
     let text = text.as_str().replace(rt.alloc(), "␍", "\r")?;
-    let text = text.as_str().replace(rt.alloc(), "⇥", "\t")?;
-    let place = place_of(rt, place)?;
-    match position_of(rt.alloc(), text.as_str().as_bytes(), place.as_slice())? {
+    Ok(text.as_str().replace(rt.alloc(), "⇥", "\t")?)
+}
+
+/// Returns the line of a position, or of none.
+fn position_text(rt: &HostRuntime, position: Option<Position>) -> Result<String, Fail> {
+    match position {
         Some(position) => {
             let value = point_text(rt, &position.value)?;
             match position.name {

@@ -1,8 +1,10 @@
 pub mod Left
+pub mod Numbering
 pub mod Numbers
 pub mod Order
 pub mod Ordered
 pub mod Parsed
+pub mod Pointed
 pub mod Positions
 pub mod ReadBack
 pub mod Scanned

@@ -430,6 +430,17 @@ leads_to_none (s ∷ p) j e = by (child s j) e (leads_to_none p)
     by None f more = refl
     by (Some k) f more = more k (uncounted (before s j) (tokens_before p k) f)
 
+-- where a place ends with a name, a token comes before the value
+pub has_name : (p : Place) (j : Json) (n : ℕ) → tokens_before p j ≡ Some n → IsTrue (is_some (last_name p)) → 1 ≤ n
+has_name p j n counted is = by (last_name p) is (leads p j n counted).name
+  where
+    by : (o : Option (List ℕ)) → IsTrue (is_some o)
+        → IfSome o (λ k. (1 ≤ n) × (drop (n - 1) (json_tokens j)
+        ≡ Token.key k ∷ (json_tokens (leads p j n counted).value ++ (leads p j n counted).rest)))
+        → 1 ≤ n
+    by None is h = absurd (true≢false (sym is))
+    by (Some k) is h = h.0
+
 -- ---- a text
 -- the point behind the bytes before a token
 pub token_at : (text : List ℕ) (n o : ℕ) (q : Point) → slice_get (starts text) n ≡ Some o → IsBehind (take o text) q
@@ -462,15 +473,6 @@ module _ (text : List ℕ) (p : Place) (j : Json) (n : ℕ) (reads : parsed text
         ap length (text_reads text j reads),
         place_room p j n counted,
       )
-
-  -- where there is a name, a token comes before the value
-  pub has_name : IsTrue (is_some (last_name p)) → 1 ≤ n
-  has_name is = by (last_name p) is it.name
-    where
-      by : (o : Option (List ℕ)) → IsTrue (is_some o)
-          → IfSome o (λ k. (1 ≤ n) × (drop (n - 1) (json_tokens j) ≡ Token.key k ∷ (json_tokens it.value ++ it.rest))) → 1 ≤ n
-      by None is h = absurd (true≢false (sym is))
-      by (Some k) is h = h.0
 
   -- the tokens of the text from a token on
   from_token : (m : ℕ) (q : Point) (ts : List Token) → IsToken text m q → drop m (tokens text) ≡ ts → BeginsAt text q ts

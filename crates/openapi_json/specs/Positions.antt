@@ -1,7 +1,7 @@
 -- Where the value at a place stands in a JSON text.
 use Rattle.std.specs.Prelude.{◌≡◌, ℕ, zero, suc, ◌+◌, ◌-◌, ◌<◌, nat_le, nat_lt, ◌==◌, ◌&&◌, Bool, cond, List, [], ◌∷◌, ◌++◌}
-use Rattle.std.specs.Prelude.{drop, take, length, slice_get, Option, Some, None, is_some, option_map, option_and_then, MatchOption}
-use Rattle.std.specs.Str.{IsUtf8}
+use Rattle.std.specs.Prelude.{drop, take, length, slice_get, slice_index_or, true, Option, Some, None, IfSome, is_some, option_map, option_and_then, MatchOption}
+use Rattle.std.specs.Str.{bytes_eq, IsUtf8}
 use Rattle.std.specs.Borrow.{Bor}
 use Rattle.json.specs.Find.{get, get_member, at}
 use Rattle.json.specs.Json as json
@@ -9,7 +9,7 @@ use Rattle.json.specs.Json.{Json, Items, no_items, item, Members, no_members, me
 use Rattle.json.specs.Lex.{tokens}
 use Rattle.json.specs.Token.{Token, key}
 use Rattle.json.specs.Tree.{json_tokens}
-use Rattle.json.specs.Value.{value_view}
+use Rattle.json.specs.Value.{members_view, value_view}
 use Rattle.json.specs.declared.value.Value.{Value}
 use Rattle.openapi_node.specs.Place.{Place, Step, named, indexed}
 use Rattle.openapi_json.specs.Ordered.{parsed}
@@ -132,6 +132,12 @@ pub record StandsAt (text : List ℕ) (p : Place) (it : Position) : Type 0 where
   pub name : MatchOption (last_name p) (it.name ≡ None) (λ k. (q : Point) × (it.name ≡ Some q)
       × IsToken text (number - 1) q × BeginsAt text q (key k ∷ (json_tokens value ++ rest)))
 
+-- The position of the value at a place of a text, if it has one there. There is none if the text is no JSON in UTF-8, or has no
+-- value at the place.
+pub record IsPositionAt (text : List ℕ) (p : Place) (o : Option Position) : Type 0 where
+  pub some : IfSome o (StandsAt text p)
+  pub none : o ≡ None → IsUtf8 text → value_at text p ≡ None
+
 -- ---- for private clauses
 
 -- the tokens of each, one behind the other
@@ -151,3 +157,9 @@ member_tokens m = key m.0.now ∷ json_tokens (value_view m.1)
 pub record StepsTo (s : Step) (j : Json) (n : ℕ) (k : Json) : Type 0 where
   pub found : child s j ≡ Some k
   pub number : n ≡ before s j
+
+-- the last member of a name is at i
+pub record IsLastNamed {A : Type 0} (name : List ℕ) (ms : List (Bor (List ℕ) × Value A)) (i : ℕ) : Type 0 where
+  pub within : i < length ms
+  pub named : (d : Bor (List ℕ) × Value A) → bytes_eq (slice_index_or ms i d).0.now name ≡ true
+  pub last : get_member name (members_view (drop (i + 1) ms)) ≡ None

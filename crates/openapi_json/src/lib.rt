@@ -1,11 +1,14 @@
 #![tactic(auto)]
 //! Nodes from JSON text, and JSON text from nodes, with no value of `serde_json` between the two.
+mod batch;
 mod by_value;
 mod fault;
+mod first_tokens;
 mod in_order;
 mod members;
 mod number;
 mod place;
+mod points;
 mod position;
 mod pretty;
 mod read;
@@ -13,6 +16,7 @@ mod scan;
 mod unread;
 mod write;
 
+pub use batch::positions_of;
 pub use by_value::node_from_json;
 pub use fault::JsonFault;
 pub use in_order::node_from_json_in_order;

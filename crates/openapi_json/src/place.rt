@@ -1,11 +1,12 @@
 //! How many tokens of a JSON value stand before the one at a place in it.
 ghost use Rattle.std.specs.Prelude.{◌≡◌, ◌<◌, ◌+◌, ◌^◌, length, map, None, IfSome};
+ghost use Rattle.json.specs.Find.{get_member};
 ghost use Rattle.json.specs.Json.{array, object};
 ghost use Rattle.json.specs.Tree.{json_tokens};
 ghost use Rattle.json.specs.Value.{value_view, items_view, members_view};
 ghost use Rattle.openapi_node.specs.Fault.{step_of};
 ghost use Rattle.openapi_node.specs.Place.{indexed, named};
-ghost use Rattle.openapi_json.specs.Positions.{child, flat, item_tokens, member_tokens, StepsTo, tokens_before};
+ghost use Rattle.openapi_json.specs.Positions.{child, flat, IsLastNamed, item_tokens, member_tokens, StepsTo, tokens_before};
 
 use json::Value;
 use openapi_node::PlaceStep;
@@ -56,15 +57,23 @@ fn member<'v, 'a>(members: &'v [(&'a str, Value<'a>)], name: &str) -> Option<Ins
         StepsTo (named name.now) (object (members_view members.now)) it.number (value_view it.value.now)) }
     ensures none { result ≡ None → child (named name.now) (object (members_view members.now)) ≡ None }
 {
+    let index = last_named(members, name)?;
+    Some(Inside {
+        value: &members[index].1,
+        number: 2 + count_members(&members[..index]),
+    })
+}
+
+/// Returns the index of the last member of a name.
+pub(crate) fn last_named(members: &[(&str, Value<'_>)], name: &str) -> Option<usize>
+    ensures some { IfSome result (IsLastNamed name.now members.now) }
+    ensures none { result ≡ None → get_member name.now (members_view members.now) ≡ None }
+{
     let mut left = members.len();
     while left > 0 {
         left -= 1;
-        let member = &members[left];
-        if member.0 == name {
-            return Some(Inside {
-                value: &member.1,
-                number: 2 + count_members(&members[..left]),
-            });
+        if members[left].0 == name {
+            return Some(left);
         }
     }
     None

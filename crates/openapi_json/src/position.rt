@@ -1,9 +1,8 @@
 //! Where the value at a place begins in a JSON text.
-ghost use Rattle.std.specs.Prelude.{◌≡◌, ◌≤◌, ◌-◌, is_some, length, map, None, Ok, IfOk};
+ghost use Rattle.std.specs.Prelude.{◌≡◌, ◌≤◌, ◌-◌, is_some, length, map, None, IfOk};
 ghost use Rattle.std.specs.Prelude.{IfSome, IsFalse, IsSomeAnd, IsTrue};
-ghost use Rattle.std.specs.Str.{IsUtf8};
 ghost use Rattle.openapi_node.specs.Fault.{step_of};
-ghost use Rattle.openapi_json.specs.Positions.{IsBehind, IsToken, last_name, StandsAt, value_at};
+ghost use Rattle.openapi_json.specs.Positions.{IsBehind, IsPositionAt, IsToken, last_name};
 ghost use Rattle.openapi_json.specs.Scanned.{starts};
 
 use crate::in_order::read_value;
@@ -47,8 +46,7 @@ pub fn position_of(
     bytes: &[u8],
     place: &[PlaceStep],
 ) -> Result<Option<Position>, AllocError>
-    ensures some { IfOk result (λ o. IfSome o (StandsAt bytes.now (map step_of place.now))) }
-    ensures none { result ≡ Ok None → IsUtf8 bytes.now → value_at bytes.now (map step_of place.now) ≡ None }
+    ensures { IfOk result (IsPositionAt bytes.now (map step_of place.now)) }
 {
     let Ok(text) = simdutf8::compat::from_utf8(bytes) else {
         return Ok(None);
@@ -66,7 +64,7 @@ pub fn position_of(
 }
 
 /// Returns whether the last step of a place is a name.
-fn ends_with_name(place: &[PlaceStep]) -> bool
+pub(crate) fn ends_with_name(place: &[PlaceStep]) -> bool
     ensures { result ≡ is_some (last_name (map step_of place.now)) }
 {
     match place {

@@ -17,7 +17,7 @@ pub(crate) enum Mode {
 }
 
 /// Whether a token begins at a byte.
-fn begins_token(mode: Mode, byte: u8) -> bool
+pub(crate) fn begins_token(mode: Mode, byte: u8) -> bool
     ensures { result ≡ begins (mode_of mode) (class byte) byte }
 {
     let operator = matches!(byte, b'{' | b'}' | b'[' | b']');
@@ -29,7 +29,7 @@ fn begins_token(mode: Mode, byte: u8) -> bool
 }
 
 /// The mode behind a byte.
-fn mode_after(mode: Mode, byte: u8) -> Mode
+pub(crate) fn mode_after(mode: Mode, byte: u8) -> Mode
     ensures { mode_of result ≡ next_mode (mode_of mode) (class byte) }
 {
     match mode {

@@ -15,33 +15,29 @@ number_at-requires c =
 pub position_at-requires : goal.position_at-requires
 position_at-requires c =
     let j = value_view c.in-Ok-read_value.value in
-    let reads = ap parsed (sym c.in-Ok.ensures.cases.0) ∙ c.in-Ok-read_value.ensures.ok in
-    λ is. has_name c.args.bytes.now _ j c.in-Some.number reads (sym c.in-Some.ensures) (sym c.ends_with_name.ensures ∙ is)
+    λ is. has_name _ j c.in-Some.number (sym c.in-Some.ensures) (sym c.ends_with_name.ensures ∙ is)
 
-pub returns-in_default-number_at-clause-none : goal.returns-in_default-number_at-clause-none
-returns-in_default-number_at-clause-none c is utf8 =
+pub returns-in_default-number_at : goal.returns-in_default-number_at
+returns-in_default-number_at c =
     let j = value_view c.in-Ok-read_value.value in
     let reads = ap parsed (sym c.in-Ok.ensures.cases.0) ∙ c.in-Ok-read_value.ensures.ok in
     let at = map step_of c.args.place.now in
     let none : tokens_before at j ≡ None = sym c.number_at.ensures ∙ c.in_default-number_at.is in
-    ap (option_and_then (json_at at)) reads ∙ leads_to_none at j none
+    record { some = tt; none = λ is utf8. ap (option_and_then (json_at at)) reads ∙ leads_to_none at j none }
 
-pub returns-clause-some : goal.returns-clause-some
-returns-clause-some c =
+pub returns : goal.returns
+returns c =
     let j = value_view c.in-Ok-read_value.value in
     let text = c.in-Ok.ensures.cases in
     let reads = ap parsed (sym text.0) ∙ c.in-Ok-read_value.ensures.ok in
     let at = c.position_at.ensures in
-    all_stand c.args.bytes.now _ j c.in-Some.number reads (sym c.in-Some.ensures) c.ends_with_name.result c.position_at.result
-    c.ends_with_name.ensures text.1 at.value at.unnamed at.named
-
-pub returns-clause-none : goal.returns-clause-none
-returns-clause-none c is utf8 =
-    let j = value_view c.in-Ok-read_value.value in
-    let reads = ap parsed (sym c.in-Ok.ensures.cases.0) ∙ c.in-Ok-read_value.ensures.ok in
-    let none : c.position_at.result ≡ None = cc in
-    absurd (omega (
-      arith,
-      c.position_at.ensures.none none,
-      is_within c.args.bytes.now _ j c.in-Some.number reads (sym c.in-Some.ensures),
-    ))
+    record {
+      some = all_stand c.args.bytes.now _ j c.in-Some.number reads (sym c.in-Some.ensures) c.ends_with_name.result c.position_at.result
+          c.ends_with_name.ensures text.1 at.value at.unnamed at.named;
+      none = λ is utf8.
+          absurd (omega (
+            arith,
+            at.none is,
+            is_within c.args.bytes.now _ j c.in-Some.number reads (sym c.in-Some.ensures),
+          ));
+    }

@@ -1,7 +1,7 @@
 use Rattle.std.proofs.Common.{◌≡◌, ◌≤◌, None, drop, length}
 use Rattle.json.specs.Find.{get_member}
 use Rattle.json.specs.Value.{members_view}
-use Rattle.openapi_json.proofs.place.member.Given as goal
+use Rattle.openapi_json.proofs.place.last_named.Given as goal
 
 abbrev pub invariant-loop-left : goal.invariant-loop-left
 invariant-loop-left l =

@@ -1,3 +1,6 @@
+pub mod Adding
+pub mod Causes
 pub mod Folding
 pub mod Inside
+pub mod Telling
 pub mod Walking

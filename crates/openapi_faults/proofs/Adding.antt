@@ -1,0 +1,32 @@
+-- What visits append to a list.
+use Rattle.std.proofs.Common.{◌≡◌, List, [], ◌∷◌, ◌++◌, map, refl, sym, ap, ◌∙◌, subst, append_assoc}
+use Rattle.std.proofs.lemmas.List.{append-nil}
+use Rattle.openapi_tables.specs.Faults.{Asking}
+use Rattle.openapi_tables.specs.Lists.{each, flat, join}
+use Rattle.openapi_faults.specs.Adds.{Adds}
+use Rattle.openapi_faults.specs.Walk.{Folds, moved}
+
+-- two lists in a row, in the words of std
+pub join_append : {A : Type 0} → (xs ys : List A) → join xs ys ≡ xs ++ ys
+join_append [] ys = refl
+join_append (x ∷ xs) ys = ap (λ l. x ∷ l) (join_append xs ys)
+
+module _ {X Y : Type 0} (f : X → Y) where
+  pub adds_none : (xs : List X) → Adds f xs xs []
+  adds_none xs = sym (append-nil (map f xs))
+
+  pub adds_then : (xs ys zs : List X) (as' bs : List Y) → Adds f xs ys as' → Adds f ys zs bs → Adds f xs zs (as' ++ bs)
+  adds_then xs ys zs as' bs p q = q ∙ ap (λ l. l ++ bs) p ∙ append_assoc (map f xs) as' bs
+
+-- visits one after another append what each of them does
+pub folds_add : {S X Y : Type 0} → (get : S → List X) (f : X → Y) (g : Asking → List Y) (as' : List Asking) (s u : S)
+    → Folds (λ r a v. Adds f (get r) (get v) (g a)) s as' u → Adds f (get s) (get u) (flat (each g as'))
+folds_add get f g [] s u h = subst (λ v. Adds f (get s) (get v) []) h (adds_none f (get s))
+folds_add get f g (a ∷ as') s u h =
+    subst (λ l. Adds f (get s) (get u) l) (sym (join_append (g a) (flat (each g as'))))
+    (adds_then f (get s) (get h.0) (get u) (g a) (flat (each g as')) h.1 (folds_add get f g as' h.0 u h.2))
+
+-- below the empty location everything is where it is
+pub moved_nil : (as' : List Asking) → moved [] as' ≡ as'
+moved_nil [] = refl
+moved_nil (a ∷ as') = ap (λ l. a ∷ l) (moved_nil as')

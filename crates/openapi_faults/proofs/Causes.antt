@@ -1,82 +1,100 @@
--- What a value breaks by itself, kind by kind.
-use Rattle.std.proofs.Common.{◌≡◌, ℕ, Bool, true, false, List, [], ◌∷◌, Option, Some, None, refl, sym, ap, ◌∙◌, subst}
-use Rattle.openapi_node.specs.Tree.{Tree, null, flag, whole, text, list, object}
-use Rattle.openapi_node.specs.declared.fault.Cause.{Cause}
-use Rattle.openapi_node.specs.declared.fault.Expected.TheVariants as e
-use Rattle.openapi_tables.specs.Faults as faults
-use Rattle.openapi_tables.specs.Faults.{causes}
-use Rattle.openapi_tables.specs.Kind.{Kind, Limits, TableName, any_flag, any_text, a_schema, a_schema_kind, by, flag_or_schema, format}
-use Rattle.openapi_tables.specs.Kind.{list_of, map_of, null_or, number, one_of, ref_to, status_code, tagged}
+-- What an object misses: its tag, and what a row of a table requires.
+use Rattle.std.proofs.Common.{◌≡◌, ℕ, List, [], ◌∷◌, Some, None, slice_get, refl, sym, ap, ◌∙◌, codes}
+use Rattle.std.specs.Borrow.{Bor}
+use Rattle.openapi_map.specs.Entries.{Entries}
+use Rattle.openapi_map.specs.declared.OrderedMap.{OrderedMap}
+use Rattle.openapi_node.specs.Tree.{Tree, Members, find, members_of, object}
+use Rattle.openapi_node.specs.View.{shown}
+use Rattle.openapi_node.specs.declared.node.Node.{Node}
+use Rattle.openapi_node.specs.declared.node.View.{View}
+use Rattle.openapi_node.specs.declared.node.View.TheVariants.{Object}
+use Rattle.openapi_tables.specs.Faults.{causes, misses, missing, missing_either, row_misses, tag_misses}
+use Rattle.openapi_tables.specs.Kind.{Row, any_text, either, required, row, takes}
+use Rattle.openapi_tables.specs.Lists.{each}
+use Rattle.openapi_tables.specs.Members.{own}
 use Rattle.openapi_tables.specs.Tables.{final_tables}
-use Rattle.openapi_faults.specs.Meaning.{is_leaf, tagged_of}
-use Rattle.openapi_faults.specs.Told.{Gives, number_causes, own_causes, unless_expected}
+use Rattle.openapi_tables.specs.Tree.{Entry, members_list}
+use Rattle.openapi_tables.proofs.ByRowLaws.{entry, own-found, own-missing}
+use Rattle.openapi_tables.proofs.ListLaws.{only-each}
+use Rattle.openapi_fields.specs.Entries.{chosen}
+use Rattle.openapi_fields.specs.Forms.{is_either}
+use Rattle.openapi_faults.specs.Meaning.{kind_of, row_of, tag_name, tagged_of}
+use Rattle.openapi_faults.specs.declared.kind.Kind as declared_kind
+use Rattle.openapi_faults.specs.declared.row.Row as declared
+use Rattle.openapi_faults.specs.declared.row.Row.TheVariants as r
 use Rattle.openapi_faults.specs.declared.tag.Tag.{Tag}
 use Rattle.openapi_faults.specs.declared.tag.Tag.TheVariants as g
 
--- the causes under another name of the kind
-pub gives_as : (o : Option Cause) (k j : Kind) (t : Tree) (cs : List faults.Cause) → k ≡ j → own_causes j t ≡ cs → Gives o cs
-    → Gives o (own_causes k t)
-gives_as o k j t cs same is h = subst (λ l. Gives o l) (sym (ap (λ x. own_causes x t) same ∙ is)) h
+found_here : (tag : Tag) (ms : Members) (u : Tree) → find (tag_name tag) ms ≡ Some u → causes final_tables (tagged_of tag) (object ms) ≡ []
+found_here g.Parameter ms u h = ap (tag_misses (codes "in")) (own-found (codes "in") required any_text ms u h).is
+found_here g.SecurityScheme ms u h = ap (tag_misses (codes "type")) (own-found (codes "type") required any_text ms u h).is
+found_here g.SchemaType ms u h = ap (tag_misses (codes "type")) (own-found (codes "type") required any_text ms u h).is
 
-pub own_list : (k : Kind) (t : Tree) → own_causes (list_of k) t ≡ unless_expected e.List t
-own_list k (list ts) = refl
-own_list k t = refl
+missing_here : (tag : Tag) (ms : Members) → find (tag_name tag) ms ≡ None
+    → causes final_tables (tagged_of tag) (object ms) ≡ missing (tag_name tag) ∷ []
+missing_here g.Parameter ms h = ap (tag_misses (codes "in")) (own-missing (codes "in") required any_text ms h)
+missing_here g.SecurityScheme ms h = ap (tag_misses (codes "type")) (own-missing (codes "type") required any_text ms h)
+missing_here g.SchemaType ms h = ap (tag_misses (codes "type")) (own-missing (codes "type") required any_text ms h)
 
-pub own_map : (k : Kind) (t : Tree) → own_causes (map_of k) t ≡ unless_expected e.Object t
-own_map k (object ms) = refl
-own_map k t = refl
+-- the tag of an object that a view shows
+module _ (tag : Tag) (n : List ℕ) (name : n ≡ tag_name tag) (v : View) (m : Bor (OrderedMap Node)) (is : v ≡ Object m) where
+  pub tag_there : (u : Tree) → Some u ≡ find n (members_of m.now) → causes final_tables (tagged_of tag) (shown v) ≡ []
+  tag_there u h =
+      ap (λ w. causes final_tables (tagged_of tag) (shown w)) is
+      ∙ found_here tag (members_of m.now) u (ap (λ x. find x (members_of m.now)) (sym name) ∙ sym h)
 
-pub own_by : (i : TableName) (t : Tree) → own_causes (by i) t ≡ unless_expected e.Object t
-own_by i (object ms) = refl
-own_by i t = refl
+  pub tag_gone : None ≡ find n (members_of m.now) → causes final_tables (tagged_of tag) (shown v) ≡ missing n ∷ []
+  tag_gone h =
+      ap (λ w. causes final_tables (tagged_of tag) (shown w)) is
+      ∙ missing_here tag (members_of m.now) (ap (λ x. find x (members_of m.now)) (sym name) ∙ sym h)
+      ∙ ap (λ x. missing x ∷ []) (sym name)
 
-pub own_flag_or_schema : (t : Tree) → own_causes flag_or_schema t ≡ unless_expected e.FlagOrObject t
-own_flag_or_schema (flag b) = refl
-own_flag_or_schema t = refl
+-- ---- what a row misses
 
-pub own_schema : (t : Tree) → own_causes a_schema t ≡ unless_expected e.Object t
-own_schema (object ms) = refl
-own_schema t = refl
+listed : (es : Entries Tree) → members_list (members_of es) ≡ each (λ e. entry e.0 e.1) es
+listed [] = refl
+listed (e ∷ es) = ap (λ l. entry e.0 e.1 ∷ l) (listed es)
 
-pub own_schema_kind : (t : Tree) → own_causes a_schema_kind t ≡ unless_expected e.Object t
-own_schema_kind (object ms) = refl
-own_schema_kind t = refl
+-- what a row takes of members
+pub own_chosen : (w : Row) (es : Entries Tree)
+    → own w (members_list (members_of es)) ≡ each (λ e. entry e.0 e.1) (chosen (takes w) es)
+own_chosen w es =
+    ap (own w) (listed es) ∙ only-each (λ (e : Entry Tree). takes w e.name) (λ (e : List ℕ × Tree). entry e.0 e.1) es
 
-pub own_tagged : (tag : Tag) (t : Tree) → own_causes (tagged_of tag) t ≡ causes final_tables (tagged_of tag) t
-own_tagged g.Parameter t = refl
-own_tagged g.SecurityScheme t = refl
-own_tagged g.SchemaType t = refl
+module _ (w : declared.Row) (n : Bor (List ℕ)) (k : declared_kind.Kind) (is : w ≡ r.Required n k) (ms : Members) where
+  pub required_there : (u : Tree) → Some u ≡ find n.now ms → row_misses (members_list ms) (row_of w) ≡ []
+  required_there u h =
+      ap (λ v. row_misses (members_list ms) (row_of v)) is
+      ∙ ap (misses (row n.now required (kind_of k))) (own-found n.now required (kind_of k) ms u (sym h)).is
 
-pub own_leaf : (k : Kind) (t : Tree) → is_leaf k → own_causes k t ≡ causes final_tables k t
-own_leaf (by i) t h = absurd h
-own_leaf k t h = refl
+  pub required_gone : None ≡ find n.now ms → row_misses (members_list ms) (row_of w) ≡ missing n.now ∷ []
+  required_gone h =
+      ap (λ v. row_misses (members_list ms) (row_of v)) is
+      ∙ ap (misses (row n.now required (kind_of k))) (own-missing n.now required (kind_of k) ms (sym h))
 
--- ---- values that hold no others
+module _ (w : declared.Row) (a b : Bor (List ℕ)) (j k : declared_kind.Kind) (is : w ≡ r.Either a j b k) (es : Entries Tree) where
+  abbrev pair_row : Row
+  pair_row = either a.now (kind_of j) b.now (kind_of k)
 
-pub text_causes : (t : Tree) → causes final_tables any_text t ≡ unless_expected e.Text t
-text_causes (text s) = refl
-text_causes t = refl
+  abbrev the_chosen : Entries Tree
+  the_chosen = chosen (is_either a.now b.now) es
 
-pub flag_causes : (t : Tree) → causes final_tables any_flag t ≡ unless_expected e.Flag t
-flag_causes (flag b) = refl
-flag_causes t = refl
+  either_as : row_misses (members_list (members_of es)) (row_of w) ≡ misses pair_row (each (λ e. entry e.0 e.1) the_chosen)
+  either_as =
+      ap (λ v. row_misses (members_list (members_of es)) (row_of v)) is ∙ ap (misses pair_row) (own_chosen pair_row es)
 
-pub text_or_null_causes : (t : Tree) → causes final_tables (null_or any_text) t ≡ unless_expected e.TextOrNull t
-text_or_null_causes (text s) = refl
-text_or_null_causes t = refl
+  pub either_there : (e : List ℕ × Tree) → Some e ≡ slice_get (chosen (is_either a.now b.now) es) 0
+      → row_misses (members_list (members_of es)) (row_of w) ≡ []
+  either_there e h = either_as ∙ go the_chosen h
+    where
+      go : (cs : Entries Tree) → Some e ≡ slice_get cs 0 → misses pair_row (each (λ d. entry d.0 d.1) cs) ≡ []
+      go [] q = cc
+      go (d ∷ cs) q = refl
 
-pub flag_or_null_causes : (t : Tree) → causes final_tables (null_or any_flag) t ≡ unless_expected e.FlagOrNull t
-flag_or_null_causes (flag b) = refl
-flag_or_null_causes t = refl
-
-pub format_causes : (ws : List (List ℕ)) (t : Tree) → causes final_tables (format ws true) t ≡ unless_expected e.TextOrNull t
-format_causes ws (text s) = refl
-format_causes ws t = refl
-
-pub whole_causes : (l : Limits) (t : Tree) → causes final_tables (number l) t ≡ number_causes e.Whole l t
-whole_causes l (whole z) = refl
-whole_causes l t = refl
-
-pub whole_or_null_causes : (l : Limits) (t : Tree) → causes final_tables (null_or (number l)) t ≡ number_causes e.WholeOrNull l t
-whole_or_null_causes l (whole z) = refl
-whole_or_null_causes l t = refl
+  pub either_gone : None ≡ slice_get (chosen (is_either a.now b.now) es) 0
+      → row_misses (members_list (members_of es)) (row_of w) ≡ missing_either a.now b.now ∷ []
+  either_gone h = either_as ∙ go the_chosen h
+    where
+      go : (cs : Entries Tree) → None ≡ slice_get cs 0 → misses pair_row (each (λ d. entry d.0 d.1) cs) ≡ missing_either a.now b.now ∷ []
+      go [] q = refl
+      go (d ∷ cs) q = cc

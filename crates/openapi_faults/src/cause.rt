@@ -85,10 +85,11 @@ fn scalar_cause(kind: Kind, view: &View<'_>) -> Option<Cause>
 fn tag_cause(tag: Tag, view: &View<'_>) -> Option<Cause>
     ensures { Gives result (causes final_tables (tagged_of tag) (shown view.now)) }
 {
+    let name = tag.name();
     match view {
-        View::Object(members) => match find_member(members, tag.name()) {
+        View::Object(members) => match find_member(members, name) {
             Some(_) => None,
-            None => Some(Cause::Missing(tag.name())),
+            None => Some(Cause::Missing(name)),
         },
         _ => unless_expected(Expected::Object, view),
     }

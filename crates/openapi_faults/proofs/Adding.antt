@@ -3,6 +3,7 @@ use Rattle.std.proofs.Common.{◌≡◌, List, [], ◌∷◌, ◌++◌, map, ref
 use Rattle.std.proofs.lemmas.List.{append-nil}
 use Rattle.openapi_tables.specs.Faults.{Asking}
 use Rattle.openapi_tables.specs.Lists.{each, flat, join}
+use Rattle.openapi_tables.proofs.ListLaws.{join-nil, join_assoc}
 use Rattle.openapi_faults.specs.Adds.{Adds}
 use Rattle.openapi_faults.specs.Walk.{Folds, moved}
 
@@ -10,6 +11,12 @@ use Rattle.openapi_faults.specs.Walk.{Folds, moved}
 pub join_append : {A : Type 0} → (xs ys : List A) → join xs ys ≡ xs ++ ys
 join_append [] ys = refl
 join_append (x ∷ xs) ys = ap (λ l. x ∷ l) (join_append xs ys)
+
+-- with one more element, what it gives comes last
+pub flat-push : {A B : Type 0} → (f : A → List B) (xs : List A) (x : A)
+    → flat (each f (xs ++ (x ∷ []))) ≡ join (flat (each f xs)) (f x)
+flat-push f [] x = join-nil (f x)
+flat-push f (y ∷ xs) x = ap (join (f y)) (flat-push f xs x) ∙ sym (join_assoc (f y) (flat (each f xs)) (f x))
 
 module _ {X Y : Type 0} (f : X → Y) where
   pub adds_none : (xs : List X) → Adds f xs xs []

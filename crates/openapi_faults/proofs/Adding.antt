@@ -1,11 +1,12 @@
 -- What visits append to a list.
-use Rattle.std.proofs.Common.{◌≡◌, List, [], ◌∷◌, ◌++◌, map, refl, sym, ap, ◌∙◌, subst, append_assoc}
+use Rattle.std.proofs.Common.{◌≡◌, List, [], ◌∷◌, ◌++◌, Result, Ok, OnOk, map, refl, sym, ap, ◌∙◌, subst, append_assoc}
 use Rattle.std.proofs.lemmas.List.{append-nil}
 use Rattle.openapi_tables.specs.Faults.{Asking}
 use Rattle.openapi_tables.specs.Lists.{each, flat, join}
 use Rattle.openapi_tables.proofs.ListLaws.{join-nil, join_assoc}
 use Rattle.openapi_faults.specs.Adds.{Adds}
-use Rattle.openapi_faults.specs.Walk.{Folds, moved}
+use Rattle.openapi_faults.specs.Walk.{Folds, Visits, moved, step_of}
+use Rattle.openapi_faults.specs.declared.walk.Walk.{Walk}
 
 -- two lists in a row, in the words of std
 pub join_append : {A : Type 0} → (xs ys : List A) → join xs ys ≡ xs ++ ys
@@ -37,3 +38,18 @@ folds_add get f g (a ∷ as') s u h =
 pub moved_nil : (as' : List Asking) → moved [] as' ≡ as'
 moved_nil [] = refl
 moved_nil (a ∷ as') = ap (λ l. a ∷ l) (moved_nil as')
+
+-- what was visited of a walk that began at the empty location
+pub walked : {V : Type 0} (R : V → Asking → V → Type 0) (as' : List Asking) (old new : Walk V) → old.place.items ≡ []
+    → Visits R as' old new → Folds R old.visitor as' new.visitor
+walked R as' old new e f =
+    subst (λ l. Folds R old.visitor l new.visitor) (ap (λ s. moved (map step_of s) as') e ∙ moved_nil as') f.visits
+
+-- what holds on success holds where there is success
+pub at_ok : {A E : Type 0} (P : Type 0) (r : Result A E) (x : A) → r ≡ Ok x → OnOk r P → P
+at_ok P r x e h = subst (λ s. OnOk s P) e h
+
+-- what visits append to an empty list
+pub folds_all : {S X Y : Type 0} → (get : S → List X) (f : X → Y) (g : Asking → List Y) (as' : List Asking) (s u : S)
+    → get s ≡ [] → Folds (λ r a v. Adds f (get r) (get v) (g a)) s as' u → map f (get u) ≡ flat (each g as')
+folds_all get f g as' s u e h = folds_add get f g as' s u h ∙ ap (λ l. map f l ++ flat (each g as')) e

@@ -106,8 +106,7 @@ impl DroppedFinder {
     {
         for i in 0..members.len() {
             let (name, _) = members.entry_at(i);
-            let why = why_dropped(kind, is_reference, members, name);
-            self.report(place, name, why)?;
+            self.report(place, name, why_dropped(kind, is_reference, members, name))?;
         }
         Ok(())
     }

@@ -3,5 +3,8 @@ pub mod Causes
 pub mod Dropping
 pub mod Folding
 pub mod Inside
+pub mod Listing
+pub mod Rows
+pub mod Shown
 pub mod Telling
 pub mod Walking

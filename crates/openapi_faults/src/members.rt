@@ -1,5 +1,5 @@
 //! Members of an object: by a class of names, and the first of two names.
-ghost use Rattle.std.specs.Prelude.{◌≡◌, ◌+◌, ◌≤◌};
+ghost use Rattle.std.specs.Prelude.{◌≡◌, ◌+◌, ◌≤◌, cond};
 ghost use Rattle.std.specs.Option.{option_copied, option_map};
 ghost use Rattle.std.specs.List.{slice_get};
 ghost use Rattle.std.specs.Map.Iter.{deref_pair};
@@ -44,6 +44,13 @@ pub(crate) fn is_among(class: Option<Class>, name: &str) -> bool
         Some(class) => is_of(class, name),
         None => true,
     }
+}
+
+/// Returns the kind of the member of a name, where the first of two names has one kind and the second another.
+pub(crate) fn kind_by_name(first: &str, one: Kind, other: Kind, name: &str) -> Kind
+    ensures { kind_of result ≡ cond (same_text first.now name.now) (kind_of one) (kind_of other) }
+{
+    if is_same(first, name) { one } else { other }
 }
 
 /// Returns whether a name is one of two.

@@ -1,5 +1,5 @@
 //! The rows of the tables.
-ghost use Rattle.std.specs.Prelude.{◌≡◌};
+ghost use Rattle.std.specs.Prelude.{◌≡◌, cond};
 ghost use Rattle.openapi_tables.specs.Members.{made_optional};
 ghost use Rattle.openapi_faults.specs.Meaning.{row_of};
 
@@ -56,5 +56,11 @@ impl Row {
             Row::Flag(name) => Row::Optional(name, Kind::Flag),
             Row::Either(..) | Row::Names(..) => self,
         }
+    }
+    /// Returns the row, made optional where the rows are open.
+    pub(crate) fn made_optional_if(self, is_open: bool) -> Row
+        ensures { row_of result ≡ cond is_open (made_optional (row_of self)) (row_of self) }
+    {
+        if is_open { self.made_optional() } else { self }
     }
 }

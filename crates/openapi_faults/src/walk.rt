@@ -1,19 +1,21 @@
 //! A walk over all that is asked in a JSON value.
-ghost use Rattle.std.specs.Prelude.{◌≡◌, ◌+◌, ◌*◌, ◌≤◌, None, OnOk, map};
+ghost use Rattle.std.specs.Prelude.{◌≡◌, ◌+◌, ◌*◌, ◌≤◌, [], ◌∷◌, None, Some, OnOk, map};
+ghost use Rattle.openapi_node.specs.Place.{named};
 ghost use Rattle.std.specs.Option.{option_copied};
-ghost use Rattle.openapi_node.specs.Tree.{items_of, items_size, members_of, members_size, object, size_of};
+ghost use Rattle.openapi_node.specs.Tree.{find, items_of, items_size, members_of, members_size, object, size_of};
 ghost use Rattle.openapi_node.specs.View.{shown};
 ghost use Rattle.openapi_tables.specs.ByRow.{asking, row_weight, rows_weight};
-ghost use Rattle.openapi_tables.specs.Faults.{asked};
+ghost use Rattle.openapi_tables.specs.Faults.{asked, below, words};
+ghost use Rattle.openapi_tables.specs.Kind.{one_of};
 ghost use Rattle.openapi_tables.specs.Tables.{final_tables};
-ghost use Rattle.openapi_faults.specs.Meaning.{kind_of, row_of, tagged_of};
+ghost use Rattle.openapi_faults.specs.Meaning.{cases_of, kind_of, row_of, tag_name, tagged_of};
 ghost use Rattle.openapi_faults.specs.Walk.{Visits, accesses, accesses_inside, asked_entries, asked_inside, asked_items};
 ghost use Rattle.openapi_faults.specs.Walk.{asked_below, asked_member, asked_optional, asked_row, asked_rows};
 ghost use Rattle.openapi_faults.specs.Walk.{entries_size, is_chosen, member_size};
 ghost use Rattle.openapi_faults.specs.Walk.{reference_text, rows_as, step_of};
 
 use crate::kind::{Inside, Kind};
-use crate::members::{first_of_two, is_among, is_same, reference_in};
+use crate::members::{first_of_two, is_among, kind_by_name, reference_in};
 use crate::row::{Class, Row};
 use crate::step::Step;
 use crate::table::TableName;
@@ -54,7 +56,6 @@ pub struct Walk<'a, V> {
 
 impl<'a, V: Visitor> Walk<'a, V> {
     /// Visits a value, and all values in it.
-    #[cycle(walk)]
     pub(crate) fn value(
         &mut self,
         kind: Kind,
@@ -162,8 +163,25 @@ impl<'a, V: Visitor> Walk<'a, V> {
         ensures rises { steps.old ≤ steps.new }
         ensures count { steps.new ≤ steps.old + 3 * size_of node.now }
     {
+        let view = node.open(steps);
+        self.shown_below(step, kind, &view, steps)
+    }
+
+    /// Visits a value one step below that was opened, and all values in it.
+    #[cycle(walk)]
+    fn shown_below(
+        &mut self,
+        step: Step<'a>,
+        kind: Kind,
+        view: &View<'a>,
+        steps: &mut Steps,
+    ) -> Result<(), AllocError>
+        ensures visits { OnOk result (Visits V.Takes (asked_below (step_of step.entry) (kind_of kind) (shown view.now)) self.old self.new) }
+        ensures rises { steps.old ≤ steps.new }
+        ensures count { steps.new + 3 ≤ steps.old + 3 * size_of (shown view.now) + accesses (kind_of kind) }
+    {
         self.place.push(step)?;
-        self.value(kind, node, steps)?;
+        self.shown(kind, view, steps)?;
         self.place.pop();
         Ok(())
     }
@@ -204,11 +222,7 @@ impl<'a, V: Visitor> Walk<'a, V> {
         ensures count { steps.new ≤ steps.old + 3 * rows_weight (rows_as is_open rows.now) (members_of members.now) }
     {
         for i in 0..rows.len() {
-            let row = if is_open {
-                rows[i].made_optional()
-            } else {
-                rows[i]
-            };
+            let row = rows[i].made_optional_if(is_open);
             self.row(row, members, steps)?;
         }
         Ok(())
@@ -216,24 +230,36 @@ impl<'a, V: Visitor> Walk<'a, V> {
 
     /// Visits what a row asks.
     #[cycle(walk)]
+    #[tactic(
+        auto,
+        using(
+            crate::proofs::Rows::optional_asks,
+            crate::proofs::Rows::member_asks,
+            crate::proofs::Rows::member_weight,
+            crate::proofs::Rows::class_asks,
+            crate::proofs::Rows::class_weight,
+            crate::proofs::Rows::either_asks,
+            crate::proofs::Rows::either_none,
+            crate::proofs::Rows::either_weight
+        )
+    )]
     fn row(&mut self, row: Row, members: &'a Members, steps: &mut Steps) -> Result<(), AllocError>
         ensures visits { OnOk result (Visits V.Takes (asked_row (row_of row) (members_of members.now)) self.old self.new) }
         ensures rises { steps.old ≤ steps.new }
         ensures count { steps.new ≤ steps.old + 3 * row_weight (row_of row) (members_of members.now) }
     {
         match row {
-            Row::Optional(name, kind) | Row::Nullable(name, kind) => {
-                self.optional(name, kind, members, steps)
-            }
-            Row::Required(name, kind)
-            | Row::Listed(name, kind)
-            | Row::Styled(name, _, kind)
-            | Row::Format(name, kind) => self.member(name, kind, members, steps),
+            Row::Optional(name, kind) => self.optional(name, kind, members, steps),
+            Row::Nullable(name, kind) => self.optional(name, kind, members, steps),
+            Row::Required(name, kind) => self.member(name, kind, members, steps),
+            Row::Listed(name, kind) => self.member(name, kind, members, steps),
+            Row::Styled(name, _, kind) => self.member(name, kind, members, steps),
+            Row::Format(name, kind) => self.member(name, kind, members, steps),
             Row::Flag(name) => self.member(name, Kind::Flag, members, steps),
             Row::Either(first, one, second, other) => {
                 match first_of_two(members, first, second) {
                     Some((name, node)) => {
-                        let kind = if is_same(first, name) { one } else { other };
+                        let kind = kind_by_name(first, one, other, name);
                         self.below(Step::Name(name), kind, node, steps)
                     }
                     None => Ok(()),
@@ -242,6 +268,7 @@ impl<'a, V: Visitor> Walk<'a, V> {
             Row::Names(class, kind) => self.entries(Some(class), kind, members, steps),
         }
     }
+
     /// Visits the member of a name, if there is one.
     #[cycle(walk)]
     fn member(
@@ -274,17 +301,16 @@ impl<'a, V: Visitor> Walk<'a, V> {
         ensures rises { steps.old ≤ steps.new }
         ensures count { steps.new ≤ steps.old + 3 * member_size name.entry.now (members_of members.now) }
     {
-        let Some(node) = find_member(members, name) else {
-            return Ok(());
-        };
-        let view = node.open(steps);
-        if view.is_null() {
-            return Ok(());
+        match find_member(members, name) {
+            Some(node) => {
+                let view = node.open(steps);
+                if view.is_null() {
+                    return Ok(());
+                }
+                self.shown_below(Step::Name(name), kind, &view, steps)
+            }
+            None => Ok(()),
         }
-        self.place.push(Step::Name(name))?;
-        self.shown(kind, &view, steps)?;
-        self.place.pop();
-        Ok(())
     }
 
     /// Visits the tag of an object, and what the rows of the table ask that it stands for.
@@ -299,20 +325,46 @@ impl<'a, V: Visitor> Walk<'a, V> {
         ensures rises { steps.old ≤ steps.new }
         ensures count { steps.new ≤ steps.old + 3 * members_size (members_of members.now) + 1 }
     {
-        let Some(node) = find_member(members, tag.name()) else {
-            return Ok(());
-        };
-        let view = node.open(steps);
-        self.place.push(Step::Name(tag.name()))?;
-        self.visitor
-            .visit(self.place.as_slice(), tag.kind(), &view, None)?;
-        self.place.pop();
-        let Some(text) = view.as_text() else {
-            return Ok(());
-        };
-        match tag.table(text) {
-            Some(table) => self.shown(Kind::Object(table), &View::Object(members), steps),
+        match find_member(members, tag.name()) {
+            Some(node) => self.by_tag(tag, node, members, steps),
             None => Ok(()),
         }
+    }
+
+    /// Visits the tag of an object, which it has, and what the rows of the table ask that it stands for.
+    #[cycle(walk)]
+    fn by_tag(
+        &mut self,
+        tag: Tag,
+        node: &'a Node,
+        members: &'a Members,
+        steps: &mut Steps,
+    ) -> Result<(), AllocError>
+        requires { Some node.now ≡ find (tag_name tag) (members_of members.now) }
+        ensures visits { OnOk result (Visits V.Takes (asked_inside (tagged_of tag) (object (members_of members.now))) self.old self.new) }
+        ensures rises { steps.old ≤ steps.new }
+        ensures count { steps.new ≤ steps.old + 3 * members_size (members_of members.now) + 1 }
+    {
+        let view = node.open(steps);
+        self.tag(tag, &view)?;
+        match view.as_text() {
+            Some(text) => match tag.table(text) {
+                Some(table) => self.shown(Kind::Object(table), &View::Object(members), steps),
+                None => Ok(()),
+            },
+            None => Ok(()),
+        }
+    }
+
+    /// Visits the tag of an object.
+    fn tag(&mut self, tag: Tag, view: &View<'a>) -> Result<(), AllocError>
+        ensures { OnOk result (Visits V.Takes (below (named (tag_name tag)) (asking [] (one_of (words (cases_of tag))) (shown view.now) ∷ []))
+            self.old self.new) }
+    {
+        self.place.push(Step::Name(tag.name()))?;
+        self.visitor
+            .visit(self.place.as_slice(), tag.kind(), view, None)?;
+        self.place.pop();
+        Ok(())
     }
 }

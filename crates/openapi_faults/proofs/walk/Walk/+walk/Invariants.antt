@@ -9,13 +9,13 @@ use Rattle.openapi_faults.proofs.walk.Walk.+walk.Given as goal
 
 -- the size of the tree that is left to visit; and for the same tree, the caller above what it calls
 abbrev pub decreases-items : goal.decreases-items
-decreases-items g l = 20 * items_size (items_of l.items.now) + 11
+decreases-items g l = 20 * items_size (items_of l.items.now) + 12
 
 abbrev pub decreases-below : goal.decreases-below
-decreases-below g l = 20 * size_of l.node.now + 10
+decreases-below g l = 20 * size_of l.node.now + 11
 
-abbrev pub decreases-value : goal.decreases-value
-decreases-value g l = 20 * size_of l.node.now + 9
+abbrev pub decreases-shown_below : goal.decreases-shown_below
+decreases-shown_below g l = 20 * size_of (shown l.view.now) + kind_rank (kind_of l.kind) + 2
 
 abbrev pub decreases-shown : goal.decreases-shown
 decreases-shown g l = 20 * size_of (shown l.view.now) + kind_rank (kind_of l.kind) + 1
@@ -24,7 +24,10 @@ abbrev pub decreases-inside : goal.decreases-inside
 decreases-inside g l = 20 * size_of (shown l.view.now) + kind_rank (kind_of l.kind)
 
 abbrev pub decreases-tagged : goal.decreases-tagged
-decreases-tagged g l = 20 * members_size (members_of l.members.now) + 23
+decreases-tagged g l = 20 * members_size (members_of l.members.now) + 24
+
+abbrev pub decreases-by_tag : goal.decreases-by_tag
+decreases-by_tag g l = 20 * members_size (members_of l.members.now) + 23
 
 abbrev pub decreases-rows : goal.decreases-rows
 decreases-rows g l = 20 * members_size (members_of l.members.now) + 14

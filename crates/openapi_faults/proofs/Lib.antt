@@ -1,5 +1,6 @@
 pub mod Adding
 pub mod Causes
+pub mod Complete
 pub mod Dropping
 pub mod Folding
 pub mod Inside

@@ -1,5 +1,6 @@
 pub mod Adds
 pub mod Dropped
+pub mod Laws
 pub mod Meaning
 pub mod References
 pub mod Told

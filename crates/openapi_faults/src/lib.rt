@@ -4,6 +4,7 @@ mod cause;
 mod dropped;
 mod fault;
 mod kind;
+pub mod laws;
 mod members;
 mod reference;
 mod row;

@@ -6,10 +6,13 @@ use Rattle.openapi_map.specs.Entries.{Entries}
 use Rattle.openapi_node.specs.Place.{indexed, named}
 use Rattle.openapi_node.specs.Tree.{Tree, Members, members_of, members_size, size_of}
 use Rattle.openapi_node.proofs.TreeLemmas.{take_next}
-use Rattle.openapi_tables.specs.Prelude.{Kind, Row, join, each, flat, Asking, final_tables}
+use Rattle.openapi_tables.specs.Prelude.{Kind, Row, made_optional, join, each, flat, Asking, final_tables}
 use Rattle.openapi_tables.specs.Prelude.{row_weight, rows_weight}
 use Rattle.openapi_tables.proofs.ListLaws.{join-nil, join_assoc}
 use Rattle.openapi_faults.specs.Walk.{asked_below, asked_entries, asked_items, asked_row, asked_rows, entries_size, is_chosen}
+use Rattle.openapi_faults.specs.Meaning.{row_of}
+use Rattle.openapi_faults.specs.Walk.{rows_as}
+use Rattle.openapi_faults.specs.declared.row.Row as declared
 
 -- a list as far as an element, and with it
 pub next_at : {A : Type 0} → (xs : List A) (i : ℕ) (x : A) → i < length xs → x ≡ get_or xs i x
@@ -106,18 +109,18 @@ module _ (ms : Members) where
     map-append (x ∷ xs) ys = ap (λ l. g x ∷ l) (map-append xs ys)
 
     module _ (xs : List A) (i : ℕ) (x : A) (next : take (i + 1) xs ≡ take i xs ++ (x ∷ [])) where
-      pub next_row : asked_rows (map g (take (i + 1) xs)) ms ≡ join (asked_rows (map g (take i xs)) ms) (asked_row (g x) ms)
+      next_row : asked_rows (map g (take (i + 1) xs)) ms ≡ join (asked_rows (map g (take i xs)) ms) (asked_row (g x) ms)
       next_row =
           ap (λ l. asked_rows (map g l) ms) next
           ∙ ap (λ l. asked_rows l ms) (map-append (take i xs) (x ∷ [])) ∙ rows-next (map g (take i xs)) (g x)
 
-      pub next_row-weight : rows_weight (map g (take (i + 1) xs)) ms ≡ rows_weight (map g (take i xs)) ms + row_weight (g x) ms
+      next_row-weight : rows_weight (map g (take (i + 1) xs)) ms ≡ rows_weight (map g (take i xs)) ms + row_weight (g x) ms
       next_row-weight =
           ap (λ l. rows_weight (map g l) ms) next
           ∙ ap (λ l. rows_weight l ms) (map-append (take i xs) (x ∷ []))
           ∙ rows_weight-append (map g (take i xs)) (g x ∷ []) ∙ omega arith
 
-      pub row_weight-le : rows_weight (map g (take i xs)) ms + row_weight (g x) ms ≤ rows_weight (map g xs) ms
+      row_weight-le : rows_weight (map g (take i xs)) ms + row_weight (g x) ms ≤ rows_weight (map g xs) ms
       row_weight-le =
           let split : rows_weight (map g xs) ms
           ≡ rows_weight (map g (take (i + 1) xs)) ms + rows_weight (map g (drop (i + 1) xs)) ms =
@@ -125,3 +128,21 @@ module _ (ms : Members) where
           ∙ ap (λ l. rows_weight l ms) (map-append (take (i + 1) xs) (drop (i + 1) xs))
           ∙ rows_weight-append (map g (take (i + 1) xs)) (map g (drop (i + 1) xs)) in
           omega (arith, split, next_row-weight)
+
+-- the next of the rows of the code, where they may be open
+pub record NextRow (ms : Members) (b : Bool) (rs : List declared.Row) (i : ℕ) (w : Row) : Type 0 where
+  pub asked : asked_rows (rows_as b (take (i + 1) rs)) ms ≡ join (asked_rows (rows_as b (take i rs)) ms) (asked_row w ms)
+  pub weight : rows_weight (rows_as b (take (i + 1) rs)) ms ≡ rows_weight (rows_as b (take i rs)) ms + row_weight w ms
+  pub within : rows_weight (rows_as b (take i rs)) ms + row_weight w ms ≤ rows_weight (rows_as b rs) ms
+
+pub next_open_row : (ms : Members) (b : Bool) (rs : List declared.Row) (i : ℕ) (d : declared.Row) (w : Row) → i < length rs
+    → w ≡ cond b (made_optional (row_of (get_or rs i d))) (row_of (get_or rs i d)) → NextRow ms b rs i w
+next_open_row ms b rs i d w h e =
+    let f : declared.Row → Row = λ r. cond b (made_optional (row_of r)) (row_of r) in
+    let r = get_or rs i d in
+    let next = take_more rs i d h in
+    record {
+      asked = next_row ms f rs i r next ∙ ap (λ v. join (asked_rows (rows_as b (take i rs)) ms) (asked_row v ms)) (sym e);
+      weight = next_row-weight ms f rs i r next ∙ ap (λ v. rows_weight (rows_as b (take i rs)) ms + row_weight v ms) (sym e);
+      within = omega (arith, row_weight-le ms f rs i r next, ap (λ v. row_weight v ms) e);
+    }

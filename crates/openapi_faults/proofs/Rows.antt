@@ -3,11 +3,11 @@ use Rattle.std.proofs.Common.{◌≡◌, ℕ, ◌+◌, ◌≤◌, Bool, true, fa
 use Rattle.std.proofs.Common.{slice_get, refl, sym, ap, ◌∙◌, subst, arith}
 use Rattle.openapi_map.specs.Entries.{Entries}
 use Rattle.openapi_node.specs.Place.{named}
-use Rattle.openapi_node.specs.Tree.{Tree, Members, members_of, size_of, find}
+use Rattle.openapi_node.specs.Tree.{Tree, Members, members_of, members_size, size_of, find}
 use Rattle.openapi_tables.specs.Prelude.{Kind, Row, row, either, class, Class, Mode, in_class, final_tables, same_text}
 use Rattle.openapi_tables.specs.Prelude.{Entry, members_list, of_members, on_entry, each, join, own, is_null, skips_null}
 use Rattle.openapi_tables.specs.Prelude.{Asking, Asks, Shape, root_asks, asks_own, asks_members, weight, row_weight}
-use Rattle.openapi_tables.proofs.ByRowLaws.{entry, own-found, own-missing, own-members, weight-found}
+use Rattle.openapi_tables.proofs.ByRowLaws.{entry, own-found, own-missing, own-members, rows_weight-le, weight-found}
 use Rattle.openapi_tables.proofs.TreeLaws.{see}
 use Rattle.openapi_fields.specs.Entries.{chosen}
 use Rattle.openapi_fields.specs.Forms.{is_either}
@@ -141,3 +141,7 @@ module _ (a : List ℕ) (j : Kind) (b : List ℕ) (k : Kind) where
             let same : c ≡ (n, t) = cc in
             let size : size_of c.1 ≡ size_of t = ap (λ (e : List ℕ × Tree). size_of e.1) same in
             omega (arith, size)
+
+    pub either_within : (n : List ℕ) (t : Tree) → slice_get first 0 ≡ Some (n, t) → size_of t ≤ members_size (members_of es)
+    either_within n t h =
+        omega (arith, either_weight n t h, rows_weight-le (either a j b k ∷ []) (members_of es) refl)

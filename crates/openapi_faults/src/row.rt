@@ -58,9 +58,9 @@ impl Row {
         }
     }
     /// Returns the row, made optional where the rows are open.
-    pub(crate) fn made_optional_if(self, is_open: bool) -> Row
-        ensures { row_of result ≡ cond is_open (made_optional (row_of self)) (row_of self) }
+    pub(crate) fn made_optional_if(&self, is_open: bool) -> Row
+        ensures { row_of result ≡ cond is_open (made_optional (row_of self.now)) (row_of self.now) }
     {
-        if is_open { self.made_optional() } else { self }
+        if is_open { self.made_optional() } else { *self }
     }
 }

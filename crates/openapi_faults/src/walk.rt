@@ -230,19 +230,7 @@ impl<'a, V: Visitor> Walk<'a, V> {
 
     /// Visits what a row asks.
     #[cycle(walk)]
-    #[tactic(
-        auto,
-        using(
-            crate::proofs::Rows::optional_asks,
-            crate::proofs::Rows::member_asks,
-            crate::proofs::Rows::member_weight,
-            crate::proofs::Rows::class_asks,
-            crate::proofs::Rows::class_weight,
-            crate::proofs::Rows::either_asks,
-            crate::proofs::Rows::either_none,
-            crate::proofs::Rows::either_weight
-        )
-    )]
+    #[tactic(auto, using(crate::proofs::Rows::optional_asks, crate::proofs::Rows::member_asks, crate::proofs::Rows::member_weight, crate::proofs::Rows::class_asks, crate::proofs::Rows::class_weight, crate::proofs::Rows::either_asks, crate::proofs::Rows::either_none, crate::proofs::Rows::either_weight))]
     fn row(&mut self, row: Row, members: &'a Members, steps: &mut Steps) -> Result<(), AllocError>
         ensures visits { OnOk result (Visits V.Takes (asked_row (row_of row) (members_of members.now)) self.old self.new) }
         ensures rises { steps.old ≤ steps.new }

@@ -1,21 +1,24 @@
-use Rattle.std.proofs.Common.{◌≡◌, ◌+◌, false, cond, [], ◌∷◌, length, map, take, OnOk, refl, sym, ap, ◌∙◌, subst, arith}
-use Rattle.std.proofs.lemmas.List.{length-take, map-append}
+use Rattle.std.proofs.Common.{◌≡◌, ◌+◌, Bool, false, cond, [], ◌∷◌, length, map, take, OnOk, refl, sym, ap, ◌∙◌, subst, arith}
+use Rattle.std.proofs.lemmas.List.{length-take-le, map-append}
 use Rattle.openapi_node.specs.Place.{named}
 use Rattle.openapi_node.specs.Tree.{find, members_of, size_of}
 use Rattle.openapi_node.proofs.TreeLemmas.{next_item, next_member}
 use Rattle.openapi_node.specs.View.{shown}
 use Rattle.openapi_tables.specs.Kind.{schema_data}
 use Rattle.openapi_tables.specs.Tables.{final_tables}
-use Rattle.openapi_tables.specs.ByRow.{asking}
+use Rattle.openapi_tables.specs.ByRow.{asking, row_weight, rows_weight}
 use Rattle.openapi_tables.specs.Faults.{asked}
 use Rattle.openapi_tables.specs.Lists.{join}
 use Rattle.openapi_tables.proofs.ListLaws.{join-nil}
 use Rattle.openapi_faults.specs.Meaning.{kind_of, table_of}
-use Rattle.openapi_faults.specs.Walk.{Visits, asked_below, asked_entries, asked_inside, entries_size, is_chosen, place_in, rows_as, step_of}
+use Rattle.openapi_faults.specs.Walk.{Visits, asked_below, asked_entries, asked_inside, asked_row, asked_rows, entries_size, is_chosen, place_in, rows_as, step_of}
 use Rattle.openapi_faults.specs.declared.walk.Walk.{Walk}
 use Rattle.openapi_faults.proofs.Inside.{asked_here}
 use Rattle.openapi_faults.proofs.Folding.{popped, visits_below, visits_none, visits_one, visits_then}
+use Rattle.openapi_faults.proofs.Listing.{next_open_row}
+use Rattle.openapi_faults.proofs.Rows.{either_within}
 use Rattle.openapi_faults.proofs.Listing.{all_size, entry_size-le, next_at, next_entry, next_entry-size, next_item-asked}
+use Rattle.openapi_faults.proofs.Shown.{known_asked, no_text_asked, unknown_asked}
 use Rattle.openapi_faults.proofs.Shown.{not_null, optional_asked, reference_asked, untagged_asked}
 use Rattle.openapi_faults.proofs.Shown.{item_asked, items_asked, members_asked, on_ok, rows_asked_by, schema_asked, schema_weight}
 use Rattle.openapi_faults.proofs.Shown.{table_weight, type_asked}
@@ -54,7 +57,7 @@ items-loop-index-preserved g t c =
     let next = next_item ts i c.index-items-index.result c.loop-index-test.true c.index-items-index.is in
     next_visited g.V.Visitor.Takes _ _ _ _ _ _ c.args.self.now c.loop-index.self c.below.new.self c.args.steps.now c.loop-index.steps c.below.new.steps
     (next_item-asked (kind_of c.args.kind) ts i c.index-items-index.result
-    (next_at ts i c.index-items-index.result c.loop-index-test.true c.index-items-index.is) (length-take i ts (omega (arith, c.loop-index.auto.index-end))))
+    (next_at ts i c.index-items-index.result c.loop-index-test.true c.index-items-index.is) (length-take-le i ts (omega (arith, c.loop-index.auto.index-end))))
     next.adds c.loop-index.invariant c.in_ok-below.ensures.visits c.in_ok-below.ensures.rises c.in_ok-below.ensures.count
 
 pub entries-below-requires : goal.entries-below-requires
@@ -85,18 +88,18 @@ entries-loop-i-preserved g t c =
     let asked = next_entry p es i n u c.entry_at.ensures k in
     let size = next_entry-size p es i n u c.entry_at.ensures in
     elim c.if-is_among.branch [
-      entries-then-is_among+in_ok-below w ↦
-        (let yes = sym c.is_among.ensures ∙ w.if-is_among.true in
-        rw w.self-is (rw w.steps-is (next_visited g.V.Visitor.Takes _ _ _ _ _ _ c.args.self.now c.loop-i.self w.below.new.self c.args.steps.now c.loop-i.steps w.below.new.steps
-        (asked ∙ ap (λ b. join (asked_entries p k (take i es)) (cond b (asked_below (named n) k u) [])) yes)
-        (size ∙ ap (λ b. entries_size p (take i es) + cond b (size_of u) 0) yes)
-        c.loop-i.invariant w.in_ok-below.ensures.visits w.in_ok-below.ensures.rises w.in_ok-below.ensures.count)))
-    | entries-else-is_among w ↦
-        (let no = sym c.is_among.ensures ∙ w.if-is_among.false in
-        rw w.self-is (rw w.steps-is (so_far_as g.V.Visitor.Takes _ _ _ _ c.args.self.now c.loop-i.self c.args.steps.now c.loop-i.steps
-        (asked ∙ ap (λ b. join (asked_entries p k (take i es)) (cond b (asked_below (named n) k u) [])) no ∙ join-nil (asked_entries p k (take i es)))
-        (size ∙ ap (λ b. entries_size p (take i es) + cond b (size_of u) 0) no ∙ omega arith)
-        c.loop-i.invariant)))
+      | entries-then-is_among+in_ok-below w ↦
+          (let yes = sym c.is_among.ensures ∙ w.if-is_among.true in
+          rw w.self-is (rw w.steps-is (next_visited g.V.Visitor.Takes _ _ _ _ _ _ c.args.self.now c.loop-i.self w.below.new.self c.args.steps.now c.loop-i.steps w.below.new.steps
+          (asked ∙ ap (λ b. join (asked_entries p k (take i es)) (cond b (asked_below (named n) k u) [])) yes)
+          (size ∙ ap (λ b. entries_size p (take i es) + cond b (size_of u) 0) yes)
+          c.loop-i.invariant w.in_ok-below.ensures.visits w.in_ok-below.ensures.rises w.in_ok-below.ensures.count)))
+      | entries-else-is_among w ↦
+          (let no = sym c.is_among.ensures ∙ w.if-is_among.false in
+          rw w.self-is (rw w.steps-is (so_far_as g.V.Visitor.Takes _ _ _ _ c.args.self.now c.loop-i.self c.args.steps.now c.loop-i.steps
+          (asked ∙ ap (λ b. join (asked_entries p k (take i es)) (cond b (asked_below (named n) k u) [])) no ∙ join-nil (asked_entries p k (take i es)))
+          (size ∙ ap (λ b. entries_size p (take i es) + cond b (size_of u) 0) no ∙ omega arith)
+          c.loop-i.invariant)))
     ]
 
 pub inside-returns-in_err-rows-in-Object-view-4-clause-count : goal.inside-returns-in_err-rows-in-Object-view-4-clause-count
@@ -186,11 +189,41 @@ optional-returns-else-is_null-clause-visits g t c =
     (optional_asked c.args.name.now (kind_of c.args.kind) (members_of c.args.members.now) c.in-Some.node.now (shown c.open-view.result)
     c.in-Some.ensures.found c.open-view.ensures.shown null) c.shown_below.ensures.visits
 
+pub row-below-requires : goal.row-below-requires
+row-below-requires g t c =
+    let small = either_within c.in-Either.first.now (kind_of c.in-Either.one) c.in-Either.second.now (kind_of c.in-Either.other)
+    c.args.members.now c.in-Some.name.now c.in-Some.node.now (sym c.in-Some.ensures) in
+    λ κs h. (omega (arith, small, c.decreases), h)
+
 pub rows-returns-in_err-row-clause-count : goal.rows-returns-in_err-row-clause-count
-rows-returns-in_err-row-clause-count g t c = ?
+rows-returns-in_err-row-clause-count g t c =
+    let next = next_open_row (members_of c.args.members.now) c.args.is_open c.args.rows.now c.loop-i.i _ _ c.loop-i-test.true c.made_optional_if-row.ensures in
+    omega (arith, next.within, c.loop-i.invariant.count, c.row.ensures.count)
 
 pub rows-loop-i-preserved : goal.rows-loop-i-preserved
-rows-loop-i-preserved g t c = ?
+rows-loop-i-preserved g t c =
+    let next = next_open_row (members_of c.args.members.now) c.args.is_open c.args.rows.now c.loop-i.i _ _ c.loop-i-test.true c.made_optional_if-row.ensures in
+    next_visited g.V.Visitor.Takes _ _ _ _ _ _ c.args.self.now c.loop-i.self c.row.new.self c.args.steps.now c.loop-i.steps c.row.new.steps
+    next.asked next.weight c.loop-i.invariant c.in_ok-row.ensures.visits c.in_ok-row.ensures.rises c.in_ok-row.ensures.count
+
+pub by_tag-returns-in-Some-table-clause-visits : goal.by_tag-returns-in-Some-table-clause-visits
+by_tag-returns-in-Some-table-clause-visits g t c =
+    let asked = known_asked c.args.tag (members_of c.args.members.now) c.args.node.now (shown c.open-view.result) c.requires c.open-view.ensures.shown
+    c.in-Some.text.now (table_of c.in-Some-table.table) c.in-Some.ensures (sym c.in-Some-table.ensures.known) c.in-Some-table.ensures.some in
+    on_ok c.shown.result (λ h. subst (λ l. Visits g.V.Visitor.Takes l c.args.self.now c.shown.new.self) asked
+    (visits_then g.V.Visitor.Takes _ _ c.args.self.now c.tag.new.self c.shown.new.self c.in_ok-tag.ensures h)) c.shown.ensures.visits
+
+pub by_tag-returns-in-None-table-clause-visits : goal.by_tag-returns-in-None-table-clause-visits
+by_tag-returns-in-None-table-clause-visits g t c =
+    subst (λ l. Visits g.V.Visitor.Takes l c.args.self.now c.tag.new.self)
+    (unknown_asked c.args.tag (members_of c.args.members.now) c.args.node.now (shown c.open-view.result) c.requires c.open-view.ensures.shown
+    c.in-Some.text.now c.in-Some.ensures (sym c.in-None-table.ensures.known)) c.in_ok-tag.ensures
+
+pub by_tag-returns-in-None-clause-visits : goal.by_tag-returns-in-None-clause-visits
+by_tag-returns-in-None-clause-visits g t c =
+    subst (λ l. Visits g.V.Visitor.Takes l c.args.self.now c.tag.new.self)
+    (no_text_asked c.args.tag (members_of c.args.members.now) c.args.node.now (shown c.open-view.result) c.requires c.open-view.ensures.shown
+    c.in-None.ensures) c.in_ok-tag.ensures
 
 pub shown-returns-then-is_some-clause-visits : goal.shown-returns-then-is_some-clause-visits
 shown-returns-then-is_some-clause-visits g t c =

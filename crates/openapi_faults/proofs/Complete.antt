@@ -15,7 +15,6 @@ use Rattle.openapi_tables.specs.Kind as kind
 use Rattle.openapi_tables.specs.Kind.{Kind, TableName}
 use Rattle.openapi_tables.specs.Laws.{Among}
 use Rattle.openapi_tables.specs.Lists.{each, every, flat, is_empty, join}
-use Rattle.openapi_tables.specs.Sound.{sound}
 use Rattle.openapi_tables.specs.Tables.{final_tables}
 use Rattle.openapi_tables.proofs.ByRowLaws.{among_left, among_right}
 use Rattle.openapi_tables.proofs.FaultLaw.{conforms-asked}
@@ -23,10 +22,11 @@ use Rattle.openapi_tables.proofs.WellMade.{final_sound}
 use Rattle.openapi_fields.specs.Returned.{FailsBy, Fails}
 use Rattle.openapi_faults.specs.Dropped.{tag_of_table}
 use Rattle.openapi_faults.specs.Laws.{AllTold, NothingWrong, RefusalTold, TagsOfTables}
-use Rattle.openapi_faults.specs.Meaning.{cases_of, tag_name}
+use Rattle.openapi_faults.specs.Meaning.{cases_of, kind_of, tag_name}
 use Rattle.openapi_faults.specs.Told.{cause_in, fault_in, known, told, told_at}
 use Rattle.openapi_faults.specs.declared.tag.Tag.{Tag}
 use Rattle.openapi_faults.specs.declared.tag.Tag.TheVariants as g
+use Rattle.openapi_faults.proofs.SoundKinds.{kind_sound}
 
 -- ---- nothing is wrong
 
@@ -54,10 +54,13 @@ from_empty [] h = refl
 from_empty (x ∷ xs) h = cc
 
 pub nothing_wrong : NothingWrong
-nothing_wrong k t s =
-    let same : conforms final_tables k t ≡ is_empty (told final_tables k t) =
-    conforms-asked final_tables final_sound t k s ∙ every_told (asked final_tables k t) in
-    (λ e. same ∙ to_empty (told final_tables k t) e, λ e. from_empty (told final_tables k t) (sym same ∙ e))
+nothing_wrong k t =
+    let same : conforms final_tables (kind_of k) t ≡ is_empty (told final_tables (kind_of k) t) =
+    conforms-asked final_tables final_sound t (kind_of k) (kind_sound k) ∙ every_told (asked final_tables (kind_of k) t) in
+    (
+      λ e. same ∙ to_empty (told final_tables (kind_of k) t) e,
+      λ e. from_empty (told final_tables (kind_of k) t) (sym same ∙ e),
+    )
 
 -- ---- what is broken
 

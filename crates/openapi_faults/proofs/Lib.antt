@@ -7,5 +7,6 @@ pub mod Inside
 pub mod Listing
 pub mod Rows
 pub mod Shown
+pub mod SoundKinds
 pub mod Telling
 pub mod Walking

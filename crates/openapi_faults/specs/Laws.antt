@@ -10,18 +10,18 @@ use Rattle.openapi_tables.specs.Faults.{Cause}
 use Rattle.openapi_tables.specs.Kind.{Kind, TableName}
 use Rattle.openapi_tables.specs.Laws.{Among}
 use Rattle.openapi_tables.specs.Lists.{each}
-use Rattle.openapi_tables.specs.Sound.{sound}
 use Rattle.openapi_tables.specs.Tables.{final_tables}
 use Rattle.openapi_fields.specs.Returned.{Fails}
 use Rattle.openapi_faults.specs.Dropped.{tag_of_table}
-use Rattle.openapi_faults.specs.Meaning.{cases_of, tag_name}
+use Rattle.openapi_faults.specs.Meaning.{cases_of, kind_of, tag_name}
 use Rattle.openapi_faults.specs.Told.{fault_in, known, told}
+use Rattle.openapi_faults.specs.declared.kind.Kind as declared
 use Rattle.openapi_faults.specs.declared.tag.Tag.{Tag}
 
 -- nothing is wrong with exactly the trees that conform
 abbrev pub NothingWrong : Type 0
-NothingWrong = (k : Kind) (t : Tree) → sound final_tables k ≡ true
-    → (told final_tables k t ≡ []) ↔ (conforms final_tables k t ≡ true)
+NothingWrong = (k : declared.Kind) (t : Tree)
+    → (told final_tables (kind_of k) t ≡ []) ↔ (conforms final_tables (kind_of k) t ≡ true)
 
 -- what is told is exactly what is broken, each at its location
 abbrev pub AllTold : Type 0

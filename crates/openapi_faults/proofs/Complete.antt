@@ -1,12 +1,11 @@
 -- What is told is what is broken.
-use Rattle.std.proofs.Common.{◌≡◌, ◌↔◌, ◌⊎◌, ℕ, Bool, true, false, ◌&&◌, List, [], ◌∷◌, Option, Some, None, refl, sym, ap, ◌∙◌, subst, inl, inr, codes}
+use Rattle.std.proofs.Common.{◌≡◌, ◌⊎◌, ℕ, true, ◌&&◌, List, [], ◌∷◌, Some, refl, sym, ap, ◌∙◌, subst, inl, inr, codes}
 use Rattle.openapi_node.specs.Fault.{place_of}
 use Rattle.openapi_node.specs.Place.{Place}
 use Rattle.openapi_node.specs.Tree.{Tree}
 use Rattle.openapi_node.specs.declared.fault.Cause as declared
 use Rattle.openapi_node.specs.declared.fault.Cause.TheVariants.{Missing, MissingEither, WrongKind, NotAllowed}
 use Rattle.openapi_node.specs.declared.fault.Cause.TheVariants.{UnknownVariant, NameNotWritable, NotWhole, Memory}
-use Rattle.openapi_node.specs.declared.fault.Fault.{Fault}
 use Rattle.openapi_tables.specs.ByRow.{Broken, asking}
 use Rattle.openapi_tables.specs.Conforms.{conforms}
 use Rattle.openapi_tables.specs.Faults.{Asking, Cause, asked, causes, is_met, missing, missing_either, not_allowed}
@@ -19,11 +18,11 @@ use Rattle.openapi_tables.specs.Tables.{final_tables}
 use Rattle.openapi_tables.proofs.ByRowLaws.{among_left, among_right}
 use Rattle.openapi_tables.proofs.FaultLaw.{conforms-asked}
 use Rattle.openapi_tables.proofs.WellMade.{final_sound}
-use Rattle.openapi_fields.specs.Returned.{FailsBy, Fails}
+use Rattle.openapi_fields.specs.Returned.{FailsBy}
 use Rattle.openapi_faults.specs.Dropped.{tag_of_table}
 use Rattle.openapi_faults.specs.Laws.{AllTold, NothingWrong, RefusalTold, TagsOfTables}
 use Rattle.openapi_faults.specs.Meaning.{cases_of, kind_of, tag_name}
-use Rattle.openapi_faults.specs.Told.{cause_in, fault_in, known, told, told_at}
+use Rattle.openapi_faults.specs.Told.{cause_in, known, told, told_at}
 use Rattle.openapi_faults.specs.declared.tag.Tag.{Tag}
 use Rattle.openapi_faults.specs.declared.tag.Tag.TheVariants as g
 use Rattle.openapi_faults.proofs.SoundKinds.{kind_sound}
@@ -56,8 +55,7 @@ from_empty (x ∷ xs) h = cc
 pub nothing_wrong : NothingWrong
 nothing_wrong k t =
     let same : conforms final_tables (kind_of k) t ≡ is_empty (told final_tables (kind_of k) t) =
-    conforms-asked final_tables final_sound t (kind_of k) (kind_sound k) ∙ every_told (asked final_tables (kind_of k) t) in
-    (
+    conforms-asked final_tables final_sound t (kind_of k) (kind_sound k) ∙ every_told (asked final_tables (kind_of k) t) in (
       λ e. same ∙ to_empty (told final_tables (kind_of k) t) e,
       λ e. from_empty (told final_tables (kind_of k) t) (sym same ∙ e),
     )

@@ -10,7 +10,7 @@ use Rattle.openapi_node.specs.Place.{Place, named}
 use Rattle.openapi_node.specs.Tree.{Tree, Members, members_of}
 use Rattle.openapi_node.proofs.TreeLemmas.{take_next}
 use Rattle.openapi_tables.specs.Kind.{Kind, Row, either, takes}
-use Rattle.openapi_tables.specs.Lists.{each, flat, join, same_text}
+use Rattle.openapi_tables.specs.Lists.{each, flat, same_text}
 use Rattle.openapi_tables.specs.Members.{own}
 use Rattle.openapi_tables.specs.Tree.{Entry, members_list}
 use Rattle.openapi_tables.proofs.ByRowLaws.{entry}

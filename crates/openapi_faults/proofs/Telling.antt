@@ -11,7 +11,7 @@ use Rattle.openapi_tables.specs.Lists.{each, flat, join}
 use Rattle.openapi_tables.specs.Members.{checked_rows}
 use Rattle.openapi_tables.specs.Tables.{final_tables}
 use Rattle.openapi_tables.specs.Tree.{Entry}
-use Rattle.openapi_tables.proofs.ListLaws.{each-each, each-join, join-nil, join_assoc}
+use Rattle.openapi_tables.proofs.ListLaws.{each-each, each-join, join-nil}
 use Rattle.openapi_faults.specs.Adds.{Adds}
 use Rattle.openapi_faults.specs.Meaning.{row_of}
 use Rattle.openapi_faults.specs.Told.{Gives, at, fault_in, given, known, own_causes, row_causes, told_at}

@@ -1,5 +1,5 @@
 -- The members of objects that reading drops, each at its location, and why.
-use Rattle.std.specs.Prelude.{ℕ, Bool, true, false, not, ◌&&◌, ◌||◌, cond, List, [], ◌∷◌, ◌++◌, Option, Some, None, codes, map}
+use Rattle.std.specs.Prelude.{ℕ, Bool, false, not, ◌&&◌, ◌||◌, cond, List, [], ◌∷◌, ◌++◌, Option, Some, None, codes, map}
 use Rattle.std.specs.List.{list_any}
 use Rattle.openapi_node.specs.Fault.{step_of}
 use Rattle.openapi_node.specs.Place.{Place, named}

@@ -1,5 +1,5 @@
 //! Every fault of a value.
-ghost use Rattle.std.specs.Prelude.{◌≡◌, ◌+◌, ◌*◌, ◌≤◌, IfOk, OnOk, map};
+ghost use Rattle.std.specs.Prelude.{◌+◌, ◌*◌, ◌≤◌, IfOk, OnOk, map};
 ghost use Rattle.openapi_node.specs.Tree.{members_of, size_of};
 ghost use Rattle.openapi_node.specs.View.{shown};
 ghost use Rattle.openapi_tables.specs.Faults.{causes, row_misses};

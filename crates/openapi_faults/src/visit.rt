@@ -1,5 +1,5 @@
 //! One visit of all that is asked in a value.
-ghost use Rattle.std.specs.Prelude.{◌≡◌, ◌+◌, ◌*◌, ◌≤◌, IfOk};
+ghost use Rattle.std.specs.Prelude.{◌+◌, ◌*◌, ◌≤◌, IfOk};
 ghost use Rattle.openapi_node.specs.Tree.{size_of};
 ghost use Rattle.openapi_tables.specs.Faults.{asked};
 ghost use Rattle.openapi_tables.specs.Tables.{final_tables};

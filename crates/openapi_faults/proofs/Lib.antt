@@ -1,0 +1,12 @@
+pub mod Adding
+pub mod Causes
+pub mod Complete
+pub mod Dropping
+pub mod Folding
+pub mod Inside
+pub mod Listing
+pub mod Rows
+pub mod Shown
+pub mod SoundKinds
+pub mod Telling
+pub mod Walking

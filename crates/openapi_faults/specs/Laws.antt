@@ -1,0 +1,39 @@
+-- The laws that the functions of `laws` carry.
+use Rattle.std.specs.Prelude.{◌≡◌, ◌↔◌, ◌⊎◌, ℕ, true, List, [], Some}
+use Rattle.openapi_node.specs.Place.{Place}
+use Rattle.openapi_node.specs.Tree.{Tree}
+use Rattle.openapi_node.specs.declared.fault.Cause.TheVariants.{Memory}
+use Rattle.openapi_node.specs.declared.fault.Fault.{Fault}
+use Rattle.openapi_tables.specs.ByRow.{Broken}
+use Rattle.openapi_tables.specs.Conforms.{conforms}
+use Rattle.openapi_tables.specs.Faults.{Cause}
+use Rattle.openapi_tables.specs.Kind.{Kind, TableName}
+use Rattle.openapi_tables.specs.Laws.{Among}
+use Rattle.openapi_tables.specs.Lists.{each}
+use Rattle.openapi_tables.specs.Tables.{final_tables}
+use Rattle.openapi_fields.specs.Returned.{Fails}
+use Rattle.openapi_faults.specs.Dropped.{tag_of_table}
+use Rattle.openapi_faults.specs.Meaning.{cases_of, kind_of, tag_name}
+use Rattle.openapi_faults.specs.Told.{fault_in, known, told}
+use Rattle.openapi_faults.specs.declared.kind.Kind as declared
+use Rattle.openapi_faults.specs.declared.tag.Tag.{Tag}
+
+-- nothing is wrong with exactly the trees that conform
+abbrev pub NothingWrong : Type 0
+NothingWrong = (k : declared.Kind) (t : Tree)
+    → (told final_tables (kind_of k) t ≡ []) ↔ (conforms final_tables (kind_of k) t ≡ true)
+
+-- what is told is exactly what is broken, each at its location
+abbrev pub AllTold : Type 0
+AllTold = (k : Kind) (t : Tree) (p : Place) (c : Cause)
+    → Broken final_tables k t p c ↔ Among (p, c) (told final_tables k t)
+
+-- a refusal of a reader is one of the faults, unless memory ran out
+abbrev pub RefusalTold : Type 0
+RefusalTold = (f : Fault) (k : Kind) (t : Tree) → Fails f k t
+    → (f.cause ≡ Memory) ⊎ Among (fault_in f) (each known (told final_tables k t))
+
+-- the name of the tag by whose text a table is found is that of a tag one of whose cases has the table
+abbrev pub TagsOfTables : Type 0
+TagsOfTables = (i : TableName) (n : List ℕ)
+    → (tag_of_table i ≡ Some n) ↔ ((g : Tag) × (n ≡ tag_name g) × Among i (each (λ c. c.table) (cases_of g)))

@@ -2,6 +2,7 @@
 
 use crate::case::Case;
 use crate::empty::written_empty;
+use crate::findings::{all_dropped, all_faults, all_references};
 use crate::functions::by_functions;
 use crate::row::Row;
 use crate::sorts::{operations, sort};
@@ -55,6 +56,9 @@ fn typed(rt: &HostRuntime, command: &str, name: &str, node: &Node) -> Result<Str
         "settle" => of_type(rt, name, Ask::Settle(node)),
         "again" => of_type(rt, name, Ask::Again(node)),
         "take" => told_if_known(rt, taken(rt, name, node)),
+        "faults" => all_faults(rt, name, node),
+        "dropped" => all_dropped(rt, name, node),
+        "references" => all_references(rt, name, node),
         _ => Ok(String::from_str(rt.alloc(), "! no such command\n")?),
     }
 }

@@ -13,6 +13,7 @@ mod answer;
 mod calls;
 mod case;
 mod empty;
+mod findings;
 mod functions;
 mod marks;
 mod nodes;

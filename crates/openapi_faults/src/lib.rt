@@ -1,5 +1,12 @@
+//! All that is to be said of a JSON value before it is read: every fault, every member that reading drops, every reference.
+//!
+//! Reading stops at the first fault ([`openapi_node::Fault`]). [`faults`] returns all of them: exactly the rules of OpenAPI
+//! 3.0.3 that a value of a [`Kind`] breaks, each with its location. [`dropped_members`] returns the members that reading ignores,
+//! and why. [`references`] returns the Reference Objects. Each function accesses at most three values for each one that the
+//! value holds.
+//!
+//! The field tables themselves are data: [`TableName::rows`] returns the fields of each object.
 #![tactic(auto)]
-//! The tables of OpenAPI 3.0.3 as data.
 mod cause;
 mod dropped;
 mod fault;
@@ -19,6 +26,4 @@ pub use fault::faults;
 pub use kind::{Kind, Limits};
 pub use reference::{Reference, references};
 pub use row::{Class, Row};
-pub use step::Step;
 pub use table::TableName;
-pub use walk::{Visitor, Walk};

@@ -1,6 +1,6 @@
 -- The first tokens of the values in a value, by their numbers.
 use Rattle.std.proofs.Common.{◌≡◌, ℕ, zero, suc, ◌+◌, ◌<◌, ◌≤◌, List, [], ◌∷◌, ◌++◌, Option, Some, None, option_map, drop, get_or, length, take}
-use Rattle.std.proofs.Common.{append-nil, length-append, sym, ap, subst, ◌∙◌, arith, refl}
+use Rattle.std.proofs.Common.{append-nil, length-append, sym, ap, subst, arith, refl}
 use Rattle.std.proofs.lemmas.List.{drop_all}
 use Rattle.std.specs.Borrow.{Bor}
 use Rattle.json.proofs.Found.{not_found, Some_inj}
@@ -8,11 +8,11 @@ use Rattle.json.specs.Json.{Json, null, boolean, number, string, array, object}
 use Rattle.json.specs.Tree.{json_tokens}
 use Rattle.json.specs.Value.{value_view, items_view, members_view}
 use Rattle.json.specs.declared.value.Value.{Value}
-use Rattle.openapi_node.specs.Place.{Place, Step, indexed, named}
+use Rattle.openapi_node.specs.Place.{indexed, named}
 use Rattle.openapi_json.specs.FirstTokens.{IsFirst, ItemsAreFirst, LeadsFrom, MembersAreFirst, number_of}
-use Rattle.openapi_json.specs.Positions.{flat, IsLastNamed, item_tokens, member_tokens, StepsTo, tokens_before}
+use Rattle.openapi_json.specs.Positions.{flat, IsLastNamed, item_tokens, member_tokens}
 use Rattle.openapi_json.specs.declared.first_tokens.FirstToken.{FirstToken}
-use Rattle.openapi_json.proofs.Positions.{after_step, item_steps, member_steps}
+use Rattle.openapi_json.proofs.Positions.{item_steps, member_steps}
 
 -- there is one for each item, and for each member
 pub items_length : {A : Type 0} (vs : List (Value A)) (n : ℕ) (ts : List FirstToken) → ItemsAreFirst (items_view vs) n ts

@@ -14,7 +14,7 @@ use Rattle.json.specs.Tree.{json_tokens}
 use Rattle.openapi_node.specs.Place.{Place}
 use Rattle.openapi_json.specs.Ordered.{parsed}
 use Rattle.openapi_json.specs.Points.{IsPositionAmong, next_point, point_of, points, points_from, StandsAmong}
-use Rattle.openapi_json.specs.Positions.{behind_byte, IsBehind, IsPositionAt, IsToken, json_at, last_name, Spot, spot_from, StandsAt, tokens_before}
+use Rattle.openapi_json.specs.Positions.{behind_byte, IsBehind, IsPositionAt, IsToken, json_at, last_name, Spot, spot_from, StandsAt}
 use Rattle.openapi_json.specs.Scanned.{AreGood, begins, next_mode, starts, starts_from}
 use Rattle.openapi_json.specs.declared.position.Point.{Point}
 use Rattle.openapi_json.specs.declared.position.Position.{Position}

@@ -1,9 +1,9 @@
-use Rattle.std.proofs.Common.{◌≡◌, Some, map, sym, ◌∙◌, arith}
+use Rattle.std.proofs.Common.{map, sym, ◌∙◌, arith}
 use Rattle.json.specs.Value.{value_view}
 use Rattle.openapi_node.specs.Fault.{step_of}
 use Rattle.openapi_json.specs.FirstTokens.{number_of}
 use Rattle.openapi_json.specs.Positions.{tokens_before}
-use Rattle.openapi_json.proofs.Numbering.{first_number, first_of_own, from_zero, none_below}
+use Rattle.openapi_json.proofs.Numbering.{first_number, first_of_own, from_zero}
 use Rattle.openapi_json.proofs.Positions.{has_name, place_room}
 use Rattle.openapi_json.proofs.batch.position_among.Goals as goal
 

@@ -1,4 +1,4 @@
-use Rattle.std.proofs.Common.{◌≡◌, ◌+◌, get_or, sym, subst, arith}
+use Rattle.std.proofs.Common.{◌+◌, get_or, sym, subst, arith}
 use Rattle.json.specs.Json.{array}
 use Rattle.json.specs.Value.{value_view, items_view}
 use Rattle.json.proofs.Trees.{get_item_past}

@@ -1,4 +1,4 @@
-use Rattle.std.proofs.Common.{◌≡◌, ◌+◌, get_or, sym, subst, arith}
+use Rattle.std.proofs.Common.{◌+◌, get_or, sym, subst, arith}
 use Rattle.json.specs.Json.{object}
 use Rattle.json.specs.Value.{value_view, members_view}
 use Rattle.openapi_node.specs.Place.{named}

@@ -78,6 +78,10 @@ else
   for sample in schema document tag; do
     for call in from_owned_node into_node; do count "$call" "$sample"; done
   done
+  for sample in schema refused document; do
+    for call in faults dropped_members; do count "$call" "$sample"; done
+  done
+  count references document
   for call in ref_ boxed_item insert entry extend collect; do count "$call"; done
 fi
 echo "$all requests for memory were refused in all"

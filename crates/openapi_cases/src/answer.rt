@@ -2,7 +2,7 @@
 
 use crate::case::Case;
 use crate::empty::written_empty;
-use crate::findings::{all_dropped, all_faults, all_references};
+use crate::findings::{agree_with, all_dropped, all_faults, all_references};
 use crate::functions::by_functions;
 use crate::row::Row;
 use crate::sorts::{operations, sort};
@@ -64,9 +64,12 @@ fn typed(rt: &HostRuntime, command: &str, name: &str, node: &Node) -> Result<Str
 }
 
 /// What a tree is cleaned to by the type, and by functions of its own or by a tree that is given up, where there is such
-/// a way.
+/// a way. The faults of the tree have to agree.
 fn clean(rt: &HostRuntime, name: &str, node: &Node) -> Result<String, Fail> {
     let answer = of_type(rt, name, Ask::Clean(node))?;
+    if !agree_with(rt, name, node, answer.as_str())? {
+        return Ok(format!(in rt.alloc(); "{}its faults differ\n", answer.as_str())?);
+    }
     match by_functions(rt, name, node).or(given(rt, name, node)) {
         Some(written) => {
             let other = told(rt, written)?;

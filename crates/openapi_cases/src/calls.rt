@@ -3,7 +3,7 @@
 use crate::marks::{Moment, mark};
 use crate::samples::Sample;
 use crate::told::{Told, told_by_growth};
-use crate::{nodes, typed};
+use crate::{findings, nodes, typed};
 use openapi_test_support::trees::tree;
 use openapiv3::{Node, OpenAPI, Operation, OrderedMap, ReferenceOr, Responses, Schema, Tag};
 use std::alloc::{AllocError, Global};
@@ -38,6 +38,9 @@ pub fn on_sample(rt: &HostRuntime, call: &str, sample: Sample) -> Result<Told, F
         "position_of" => nodes::position_of(rt, sample.text()),
         "position_below" => nodes::position_below(rt, sample),
         "positions_of" => nodes::positions_of(rt, sample),
+        "faults" => findings::faults_of(rt, sample),
+        "dropped_members" => findings::dropped_of(rt, sample),
+        "references" => findings::references_of(rt, sample),
         "from_owned_node" => match sample {
             Sample::Schema => typed::from_owned_node::<Schema>(rt, sample),
             Sample::Document => typed::from_owned_node::<OpenAPI>(rt, sample),

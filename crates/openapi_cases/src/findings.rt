@@ -1,6 +1,11 @@
 //! Cases on all faults of a value, all members that reading drops, and all references.
 
+use crate::kinds::kind_of;
+use crate::marks::{Moment, mark};
+use crate::samples::Sample;
+use crate::told::{Told, told_by_growth};
 use openapi_faults::{DropReason, Kind, TableName, dropped_members, faults, references};
+use openapi_test_support::trees::tree;
 use openapiv3::{Node, Pointer, Steps};
 use std::test::Fail;
 
@@ -65,22 +70,54 @@ fn no_such_type(rt: &HostRuntime) -> Result<String, Fail> {
     Ok(String::from_str(rt.alloc(), "! no such type for this command\n")?)
 }
 
-/// Returns the kind that a type is read by.
-fn kind_of(name: &str) -> Option<Kind> {
-    let table = match name {
-        "Schema" => return Some(Kind::Schema),
-        "SchemaKind" => return Some(Kind::SchemaKind),
-        "Type" => return Some(Kind::SchemaType),
-        "Parameter" => return Some(Kind::Parameter),
-        "SecurityScheme" => return Some(Kind::SecurityScheme),
-        "SecurityRequirement" => return Some(Kind::SecurityRequirement),
-        "OpenAPI" => TableName::OpenAPI,
-        "Components" => TableName::Components,
-        "Contact" => TableName::Contact,
-        "Link" => TableName::Link,
-        "Operation" => TableName::Operation,
-        "Responses" => TableName::Responses,
-        _ => return None,
-    };
-    Some(Kind::Object(table))
+/// Returns whether the faults of a value agree with what reading it answers: none if it answers with a value, and if it answers
+/// with a fault that one among them.
+pub fn agree_with(rt: &HostRuntime, name: &str, node: &Node, answer: &str) -> Result<bool, Fail> {
+    if kind_of(name).is_none() {
+        return Ok(true);
+    }
+    let all = all_faults(rt, name, node)?;
+    if answer.starts_with("= ") {
+        return Ok(all.as_str() == "= none\n");
+    }
+    Ok(all.as_str().lines().any(|line| line == answer.trim_end()))
+}
+
+/// Makes the list of all faults of a sample, which as an Info Object has some.
+pub fn faults_of(rt: &HostRuntime, sample: Sample) -> Result<Told, Fail> {
+    let alloc = rt.alloc();
+    let node = tree(rt, sample.text())?;
+    let kind = Kind::Object(TableName::Info);
+    let mut steps = Steps::new(rt);
+    let wanted = faults(alloc, kind, &node, &mut steps)?;
+    mark(alloc, Moment::CallBegins)?;
+    let answer = faults(alloc, kind, &node, &mut steps);
+    mark(alloc, Moment::CallEnds)?;
+    Ok(told_by_growth(answer, &wanted))
+}
+
+/// Makes the list of all members that reading a sample as a Contact Object drops.
+pub fn dropped_of(rt: &HostRuntime, sample: Sample) -> Result<Told, Fail> {
+    let alloc = rt.alloc();
+    let node = tree(rt, sample.text())?;
+    let kind = Kind::Object(TableName::Contact);
+    let mut steps = Steps::new(rt);
+    let wanted = dropped_members(alloc, kind, &node, &mut steps)?;
+    mark(alloc, Moment::CallBegins)?;
+    let answer = dropped_members(alloc, kind, &node, &mut steps);
+    mark(alloc, Moment::CallEnds)?;
+    Ok(told_by_growth(answer, &wanted))
+}
+
+/// Makes the list of all references of a document.
+pub fn references_of(rt: &HostRuntime, sample: Sample) -> Result<Told, Fail> {
+    let alloc = rt.alloc();
+    let node = tree(rt, sample.text())?;
+    let kind = Kind::Object(TableName::OpenAPI);
+    let mut steps = Steps::new(rt);
+    let wanted = references(alloc, kind, &node, &mut steps)?;
+    mark(alloc, Moment::CallBegins)?;
+    let answer = references(alloc, kind, &node, &mut steps);
+    mark(alloc, Moment::CallEnds)?;
+    Ok(told_by_growth(answer, &wanted))
 }

@@ -15,6 +15,7 @@ mod case;
 mod empty;
 mod findings;
 mod functions;
+mod kinds;
 mod marks;
 mod nodes;
 mod row;

@@ -99,14 +99,22 @@ fn told_if_known(rt: &HostRuntime, answer: Option<Result<Node, Fault>>) -> Resul
     }
 }
 
-/// The answer to a line of standard input: a type, a tab and a JSON text.
+/// The answer to a line of standard input: a type, a tab and a JSON text; or a command and a type, a tab and a JSON text, of
+/// which the answer ends with an empty line.
 pub fn answer_line(rt: &HostRuntime, line: &str) -> Result<String, Fail> {
-    match line.split_once('\t') {
-        Some((name, text)) => match node_from_json(rt.alloc(), text.as_bytes()) {
-            Ok(node) => of_type(rt, name, Ask::Line(&node)),
-            Err(fault) => Ok(format!(in rt.alloc(); "! {fault}\n")?),
-        },
-        None => Ok(String::from_str(rt.alloc(), "! no tab\n")?),
+    let Some((request, text)) = line.split_once('\t') else {
+        return Ok(String::from_str(rt.alloc(), "! no tab\n")?);
+    };
+    let node = match node_from_json(rt.alloc(), text.as_bytes()) {
+        Ok(node) => node,
+        Err(fault) => return Ok(format!(in rt.alloc(); "! {fault}\n")?),
+    };
+    match request.split_once(' ') {
+        Some((command, name)) => {
+            let answer = typed(rt, command, name, &node)?;
+            Ok(format!(in rt.alloc(); "{}\n", answer.as_str())?)
+        }
+        None => of_type(rt, request, Ask::Line(&node)),
     }
 }
 

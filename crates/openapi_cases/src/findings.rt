@@ -52,7 +52,9 @@ pub fn all_references(rt: &HostRuntime, name: &str, node: &Node) -> Result<Strin
         let pointer = Pointer(reference.place.as_slice());
         let text = reference.text.as_str();
         let target = reference.target;
-        answer.push_str(format!(in rt.alloc(); "= #{pointer} to {text} as {target:?}\n")?.as_str())?;
+        answer.push_str(format!(in rt.alloc();
+            "= #{pointer} to {text} as {target:?}\n"
+        )?.as_str())?;
     }
     or_none(rt, answer)
 }
@@ -83,11 +85,11 @@ pub fn agree_with(rt: &HostRuntime, name: &str, node: &Node, answer: &str) -> Re
     Ok(all.as_str().lines().any(|line| line == answer.trim_end()))
 }
 
-/// Makes the list of all faults of a sample, which as an Info Object has some.
+/// Makes the list of all faults of a sample as a Security Requirement Object, whose members are lists.
 pub fn faults_of(rt: &HostRuntime, sample: Sample) -> Result<Told, Fail> {
     let alloc = rt.alloc();
     let node = tree(rt, sample.text())?;
-    let kind = Kind::Object(TableName::Info);
+    let kind = Kind::SecurityRequirement;
     let mut steps = Steps::new(rt);
     let wanted = faults(alloc, kind, &node, &mut steps)?;
     mark(alloc, Moment::CallBegins)?;

@@ -7,6 +7,7 @@
 //!
 //! The field tables themselves are data: [`TableName::rows`] returns the fields of each object.
 #![tactic(auto)]
+
 mod cause;
 mod dropped;
 mod fault;

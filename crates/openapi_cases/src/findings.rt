@@ -82,7 +82,13 @@ pub fn agree_with(rt: &HostRuntime, name: &str, node: &Node, answer: &str) -> Re
     if answer.starts_with("= ") {
         return Ok(all.as_str() == "= none\n");
     }
-    Ok(all.as_str().lines().any(|line| line == answer.trim_end()))
+    let fault = answer.trim_end();
+    for line in all.as_str().lines() {
+        if line == fault {
+            return Ok(true);
+        }
+    }
+    Ok(false)
 }
 
 /// Makes the list of all faults of a sample as a Security Requirement Object, whose members are lists.

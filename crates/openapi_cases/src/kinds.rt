@@ -30,13 +30,11 @@ pub fn kind_of(name: &str) -> Option<Kind> {
 
 /// Returns the kind of a type that is read by a table, or of a reference to one.
 fn kind_by_table(name: &str) -> Option<Kind> {
-    match name
-        .strip_prefix("ReferenceOr<")
-        .and_then(|rest| rest.strip_suffix(">"))
-    {
-        Some(item) => table_of(item).map(|table| Kind::ObjectOrRef(table)),
-        None => table_of(name).map(|table| Kind::Object(table)),
-    }
+    let Some(rest) = name.strip_prefix("ReferenceOr<") else {
+        return Some(Kind::Object(table_of(name)?));
+    };
+    let item = rest.strip_suffix(">")?;
+    Some(Kind::ObjectOrRef(table_of(item)?))
 }
 
 /// Returns the table that a type is read by.

@@ -29,8 +29,8 @@ its name, a hash of what the verdict rests on, and the reason, in one of these w
 - `shape`: the mutation adds a function or a loop, so the refusal may tell of what the contract of that function leaves out, or
   of an invariant that the loop has not.
 The last three are no refusals: the mutation is rewritten, or gets a twin. A verdict without a reason was kept before reasons were,
-and decides nothing either: the mutation is tried again when its crate is. `--compare` fails for `proof` and `shape`, and for a
-mutation that has no verdict on the text; those that are undecided (`limit`, no reason) it counts neither as passed nor as failed.
+and decides nothing: the mutation is tried again when its crate is. `--compare` fails for `proof`, `limit` and `shape`, and for a
+mutation that has no verdict on the text; those without a reason are undecided, and count neither as passed nor as failed.
 
 Mutations are expensive, so each is tried when what its verdict rests on has changed. The second line of `edits/verdicts` is that
 of `rt version`. The verdicts hold for each release of the kit that has the same logic, which that line names too.
@@ -76,8 +76,6 @@ HEAD = "# The kit, and for each mutation the hash of what its verdict rests on, 
 REFUSED = ("goal", "lemma", "twin")
 # Why a mutation is tried again whose verdict was kept before reasons were.
 NO_REASON = "no reason"
-# Why a verdict is neither a refusal nor a failure yet.
-UNDECIDED = (NO_REASON, "limit")
 # The crates that `--draw` draws from where none is named: the lowest, so that few proofs are needed where none are kept.
 LOWEST = ("openapi_json", "openapi_map", "openapi_node", "openapi_tables", "openapi_values")
 # A line of a source that no proof sees: a comment, or a hint on inlining.
@@ -366,20 +364,19 @@ def due_of(crate, found):
 def compare():
     """Prints for each crate with mutations which of them were not refused on its text as it is. Those with a verdict on that text
     that decides nothing yet count neither as passed nor as failed."""
-    found, edits, open_ones, failed = verdicts(version())[1], [], [], 0
+    found, edits, undecided, failed = verdicts(version())[1], [], 0, 0
     for crate in crates_with_edits():
         own, left = due_of(crate, found)
-        due = {name: why for name, why in left.items() if why not in UNDECIDED}
-        edits, open_ones, failed = edits + own, open_ones + [it for it in left.values() if it in UNDECIDED], failed + len(due)
+        due = {name: why for name, why in left.items() if why != NO_REASON}
+        edits, undecided, failed = edits + own, undecided + len(left) - len(due), failed + len(due)
         if due:
             print(f"mutations of {crate}: FAILED: {len(due)} of {len(own)} are due; run tests/edits.py {crate}")
             for why, names in itertools.groupby(sorted(due, key=due.get), due.get):
                 print(f"    {why}: {' '.join(it.partition('/')[2] for it in names)}")
         else:
             print(f"mutations of {crate}: {len(own) - len(left)} were refused at a clause, {len(left)} are undecided")
-    for why in UNDECIDED:
-        print(f"{open_ones.count(why)} of {len(edits)} are undecided: {why}")
-    print(f"{len(edits) - len(open_ones) - failed} passed, {failed} failed")
+    print(f"{undecided} of {len(edits)} are undecided: {NO_REASON}")
+    print(f"{len(edits) - undecided - failed} passed, {failed} failed")
     return 1 if failed else 0
 
 

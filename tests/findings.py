@@ -7,6 +7,7 @@ The maker is that of `tests/random_documents.py`, which makes values from OpenAP
 - it has no fault, since it conforms;
 - with several faults planted, of which none hides another, exactly these are found;
 - members are dropped, and without them the value is normalized to the same text, and none is dropped any more.
+Then come a fault below 120 levels, a hundred thousand faults in a list, and one under a name of a megabyte.
 
 The program is `openapi_cases`, as `bin/prove.py openapi_cases` built it; with --unproved as `bin/unproved.py openapi_cases` did.
 The last line is `N passed, M failed`.
@@ -90,6 +91,20 @@ class Round:
         return [(f"dropped {self.kind}", value), (f"clean {self.kind}", value)]
 
 
+def large():
+    """Yields what is asked of large values, each with the lines that are wanted."""
+    deep = 7
+    for _ in range(120):
+        deep = {"not": deep}
+    yield ("faults Schema", deep), ["! invalid type, expected object at #" + "/not" * 120]
+    count = 100_000
+    yield ("faults Schema", {"required": [*range(count)]}), [f"! invalid type, expected text at #/required/{it}" for it in range(count)]
+    yield ("dropped Schema", {f"m{it:05}": it for it in range(count)}), [f"= unknown member at #/m{it:05}" for it in range(count)]
+    name = "n" * 2**20
+    yield ("faults Schema", {"properties": {name: 7}}), [f"! invalid type, expected object at #/properties/{name}"]
+    yield ("references Schema", {"properties": {name: {"$ref": name}}}), [f"= #/properties/{name} to {name} as Schema"]
+
+
 def main():
     parser = argparse.ArgumentParser()
     parser.add_argument("--unproved", action="store_true")
@@ -120,6 +135,11 @@ def main():
             passed, failed = passed + holds, failed + (not holds)
             if not holds and failed < 4:
                 print(f"FAILED: {what}\n  of {json.dumps(round.value, ensure_ascii=False)[:2000]}")
+    requests, wanted = zip(*large())
+    for (words, _), answer, lines in zip(requests, ask(program, requests), wanted):
+        passed, failed = passed + (answer == lines), failed + (answer != lines)
+        if answer != lines:
+            print(f"FAILED: {words} of a large value: {len(answer)} lines came, as {answer[0][:200]}, and {len(lines)} were wanted")
     if not planted or not removed:
         print(f"FAILED: {planted} faults were planted, and {removed} members removed")
         failed += 1

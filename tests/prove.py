@@ -15,7 +15,7 @@ import time
 TOP = os.path.dirname(os.path.dirname(os.path.realpath(__file__)))
 RT = """#!/bin/sh
 if [ "$1" != ci ]; then exec '{rt}' "$@"; fi
-if [ $# -gt 1 ]; then echo "usage: rt ci $USAGE"; exit 2; fi
+if [ $# -gt 1 ]; then [ "$CI" = true ] && USAGE='without names'; echo "usage: rt ci $USAGE"; exit 2; fi
 cp crates.txt HANDLES '{room}'
 ls crates > '{room}/crates'
 echo $(ls crates) >> '{room}/runs'
@@ -148,6 +148,11 @@ def main():
             check("a library that is not proved ends the run", it.read().splitlines() == alone[:1])
         check("its errors are printed", ran.returncode == 1 and f"{copy}/crates/openapi_map/src/lib.rt:1:1: error\n" in ran.stdout)
         check("and its verdict", ran.stdout.endswith("\n7 passed, 1 failed\n"))
+        os.remove(f"{room}/runs")
+        ran = run("bin/prove.py", USAGE=names, CI="true")
+        with open(f"{room}/runs") as it:
+            runs = it.read().splitlines()
+        check("before a merge too", ran.returncode == 0 and runs[:2] == alone and "example_linter" in runs[-1])
         ran = run("bin/prove.py")
         check("all crates are proved at the top of the repository", ran.returncode == 0 and "example_linter proved after" in ran.stdout)
         answers("the proved build answers", "and then the proved program answers")

@@ -421,11 +421,11 @@ class Function:
         if not text.startswith("error"):
             return False
         proofs = "/".join(filter(None, ["proofs", *self.module.split("::")])) + "/"
-        if self.cycle:
-            return path.startswith(f"{proofs}+{self.cycle}/") and f"`{self.name}-" in text
         # The proofs of an impl stand with its type, in whatever file the impl is; those of a function that calls itself in
         # the folder of a cycle.
         own = rf"proofs/(\S*/)?{self.owner}{self.more}/" if self.owner else proofs
+        if self.cycle:
+            return bool(re.match(rf"{own}\+{self.cycle}/", path)) and f"`{self.name}-" in text
         return bool(re.match(rf"{own}\+?{self.name}/", path))
 
 

@@ -158,19 +158,36 @@ pub fn position_below(rt: &HostRuntime, sample: Sample) -> Result<Told, Fail> {
 pub fn positions_of(rt: &HostRuntime, sample: Sample) -> Result<Told, Fail> {
     let alloc = rt.alloc();
     let (names, member) = sample.inner();
+    let wanted = wanted_positions(alloc, sample.text(), member)?;
+    let root = place_of(alloc, &[])?;
     let place = place_of(alloc, names)?;
     let missing = place_of(alloc, &["no such member"])?;
+    let mut places = Vec::new(alloc);
+    places.push(root.as_slice())?;
+    places.push(place.as_slice())?;
+    places.push(missing.as_slice())?;
+    mark(alloc, Moment::CallBegins)?;
+    let answer = openapiv3::positions_of(alloc, sample.text().as_bytes(), places.as_slice());
+    mark(alloc, Moment::CallEnds)?;
+    Ok(told_by_growth(answer, &wanted))
+}
+
+/// Returns the positions of a text's root and of a member, which the text has once, and none.
+fn wanted_positions(
+    alloc: Global,
+    text: &str,
+    member: &str,
+) -> Result<Vec<Option<Position>>, Fail> {
     let root = Position {
         value: point_at(0),
         name: None,
     };
-    let below = position_in(sample.text(), member)?;
-    let wanted = [Some(root), Some(below), None].to_vec(alloc)?;
-    let places = [[].as_slice(), place.as_slice(), missing.as_slice()];
-    mark(alloc, Moment::CallBegins)?;
-    let answer = openapiv3::positions_of(alloc, sample.text().as_bytes(), &places);
-    mark(alloc, Moment::CallEnds)?;
-    Ok(told_by_growth(answer, &wanted))
+    let below = position_in(text, member)?;
+    let mut wanted = Vec::new(alloc);
+    wanted.push(Some(root))?;
+    wanted.push(Some(below))?;
+    wanted.push(None)?;
+    Ok(wanted)
 }
 
 /// Returns the place that these names lead to.

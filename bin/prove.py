@@ -13,7 +13,9 @@ they rest on, so each counts for later runs of `rt ci` here, in other clones too
 are refused, as `rt ci` refuses them there: some crates are not enough for a merge.
 
 With such a kit each library that others use is proved by a run of its own first. A run divides the processors among all that
-is ready, also tests that a crate has not, and so proves a chain of libraries with one or two of four.
+is ready, also tests that a crate has not, and so proves a chain of libraries with one or two of four. A run takes 3 to 20 seconds
+even if all is kept, so a library that was proved so is noted in a folder for temporary files, by a hash of its sources and of
+those below it. It is left to the last run, which proves it if it is not kept any more.
 """
 import os
 import shutil
@@ -49,6 +51,11 @@ def keeps_proofs():
     return "names of crates" in ran.stdout
 
 
+def note_of(name, top):
+    """Returns the path that says of a library, as its sources are, that a run of its own proved it."""
+    return f"{tempfile.gettempdir()}/openapi-proved-{os.getuid()}/{sources.sum_of(name, is_proved=True, top=top)}"
+
+
 class Proof:
     """Proves crates, and yields the lines that `rt ci` prints; then its status is that of the last run."""
 
@@ -62,6 +69,9 @@ class Proof:
 
     def alone(self, name):
         """Proves a library and those that it uses, which are kept, and yields what is printed of it; of a failure, all."""
+        note = note_of(name, self.folder)
+        if os.path.isfile(note):
+            return
         with tempfile.TemporaryDirectory(prefix="prove-") as room:
             folder = f"{room}/repository"
             copy(sources.crates_of([name], self.folder), folder, self.folder)
@@ -69,6 +79,10 @@ class Proof:
                 lines = [line.replace(folder, sources.TOP) for line in ran.stdout]
         self.status = ran.returncode
         self.done.add(name)
+        if not self.status:
+            os.makedirs(os.path.dirname(note), exist_ok=True)
+            with open(note, "w"):
+                pass
         yield from lines if self.status else (it for it in lines if progress.crate_of(it) == name)
 
     def lines(self):

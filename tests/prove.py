@@ -53,7 +53,7 @@ def main():
             print(f"FAILED: {what.strip()}")
 
     def run(*words, **more):
-        env = {**os.environ, "PATH": f"{room}/tools:{os.environ['PATH']}", "OPENAPI_CLEAN_QUIET": "", "REFUSED": "", "CI": "", "USAGE": "", **more}
+        env = {**os.environ, "PATH": f"{room}/tools:{os.environ['PATH']}", "OPENAPI_CLEAN_QUIET": "", "REFUSED": "", "CI": "", "USAGE": "", "TMPDIR": noted, **more}
         return subprocess.run(words, cwd=copy, env=env, stdin=subprocess.DEVNULL, stdout=subprocess.PIPE, stderr=subprocess.STDOUT, text=True)
 
     def answers(text, what):
@@ -65,8 +65,9 @@ def main():
             it.write(text)
 
     with tempfile.TemporaryDirectory(prefix="test-prove-") as room:
-        copy, program = f"{room}/copy", "crates/openapi_clean/out/openapi_clean"
+        copy, noted, program = f"{room}/copy", f"{room}/noted", "crates/openapi_clean/out/openapi_clean"
         os.mkdir(copy)
+        os.mkdir(noted)
         for name in ("bin", "crates"):
             shutil.copytree(f"{TOP}/{name}", f"{copy}/{name}", ignore=shutil.ignore_patterns("out"))
         for name in ("crates.txt", "HANDLES", "openapi_clean"):
@@ -142,6 +143,13 @@ def main():
             check("a kit that keeps proofs proves each library by itself first", it.read().splitlines() == alone)
         check("each crate is printed once", [it.split(" proved")[0] for it in ran.stdout.splitlines()[:-1]] == alone[-1].split())
         check("what is printed ends with the last run", ran.returncode == 0 and ran.stdout.endswith("\n7 passed, 0 failed\n"))
+        os.remove(f"{room}/runs")
+        ran = run("bin/prove.py", "openapi_node", USAGE=names)
+        with open(f"{room}/runs") as it:
+            check("a library that was proved by itself is left to the last run", it.read().splitlines() == alone[-1:])
+        check("and is printed", [it.split(" proved")[0] for it in ran.stdout.splitlines()[:-1]] == alone[-1].split())
+        shutil.rmtree(noted)
+        os.mkdir(noted)
         os.remove(f"{room}/runs")
         ran = run("bin/prove.py", "openapi_node", USAGE=names, REFUSED="openapi_map")
         with open(f"{room}/runs") as it:

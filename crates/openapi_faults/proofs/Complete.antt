@@ -62,17 +62,17 @@ nothing_wrong k t =
 
 -- ---- what is broken
 
-among_each : {A B : Type 0} → (f : A → B) (x : A) (xs : List A) → Among x xs → Among (f x) (each f xs)
+pub among_each : {A B : Type 0} → (f : A → B) (x : A) (xs : List A) → Among x xs → Among (f x) (each f xs)
 among_each f x [] h = absurd h
 among_each f x (y ∷ xs) (inl e) = inl (ap f e)
 among_each f x (y ∷ xs) (inr h) = inr (among_each f x xs h)
 
-from_each : {A B : Type 0} → (f : A → B) (y : B) (xs : List A) → Among y (each f xs) → (x : A) × Among x xs × (y ≡ f x)
+pub from_each : {A B : Type 0} → (f : A → B) (y : B) (xs : List A) → Among y (each f xs) → (x : A) × Among x xs × (y ≡ f x)
 from_each f y [] h = absurd h
 from_each f y (x ∷ xs) (inl e) = (x, inl refl, e)
 from_each f y (x ∷ xs) (inr h) = let r = from_each f y xs h in (r.0, inr r.1, r.2)
 
-from_join : {A : Type 0} → (x : A) (xs ys : List A) → Among x (join xs ys) → Among x xs ⊎ Among x ys
+pub from_join : {A : Type 0} → (x : A) (xs ys : List A) → Among x (join xs ys) → Among x xs ⊎ Among x ys
 from_join x [] ys h = inr h
 from_join x (y ∷ xs) ys (inl e) = inl (inl e)
 from_join x (y ∷ xs) ys (inr h) = elim (from_join x xs ys h) [ inl a ↦ inl (inr a) | inr a ↦ inr a ]

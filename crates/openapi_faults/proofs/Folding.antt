@@ -2,7 +2,7 @@
 use Rattle.std.proofs.Common.{◌≡◌, ℕ, ◌-◌, List, [], ◌∷◌, ◌++◌, refl, sym, ap, ◌∙◌, subst, append_assoc, arith, length, length-append, map, take}
 use Rattle.std.proofs.lemmas.List.{append-nil, length-map, take-append-le, take-map, take_all}
 use Rattle.openapi_node.specs.Place.{Place, Step}
-use Rattle.openapi_tables.specs.Lists.{each, join}
+use Rattle.openapi_tables.specs.Lists.{join}
 use Rattle.openapi_node.specs.Tree.{Tree}
 use Rattle.openapi_tables.specs.ByRow.{asking}
 use Rattle.openapi_tables.specs.Faults.{Asking, below}

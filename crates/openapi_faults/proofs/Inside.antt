@@ -1,17 +1,17 @@
 -- What is asked of a tree: its kind, and then what is asked inside, by its kind.
-use Rattle.std.proofs.Common.{◌≡◌, ℕ, suc, Bool, true, false, cond, List, [], ◌∷◌, Option, None, Some, ◌≤◌, refl, sym, ap, ◌∙◌, map, codes, arith}
+use Rattle.std.proofs.Common.{◌≡◌, ℕ, suc, Bool, true, false, cond, List, [], ◌∷◌, Option, None, Some, ◌≤◌, refl, sym, ap, ◌∙◌, map, arith}
 use Rattle.openapi_map.specs.Entries.{Entries}
 use Rattle.openapi_node.specs.Place.{indexed, named}
 use Rattle.openapi_node.specs.Tree.{Tree, Members, null, flag, whole, text, find, items_of, list, members_of, object, text_in}
 use Rattle.openapi_tables.specs.Prelude.{a_flag, a_list, a_null, a_text, a_whole, tagged}
 use Rattle.openapi_tables.specs.Prelude.{Kind, Row, Shape, TableName, a_schema, a_schema_kind, an_object, any_rows, by, each}
-use Rattle.openapi_tables.specs.Prelude.{checked_rows, final_tables, flag_or_schema, flat, is_reference, join, list_of}
+use Rattle.openapi_tables.specs.Prelude.{checked_rows, final_tables, flag_or_schema, flat, join, list_of}
 use Rattle.openapi_tables.specs.Prelude.{made_optional, map_of, of_items, of_members, ref_to, schema_data}
-use Rattle.openapi_tables.specs.Prelude.{Asking, Asks, asked, asking, asks_items, asks_members, asks_row, asks_rows}
+use Rattle.openapi_tables.specs.Prelude.{Asking, Asks, asked, asking, asks_items, asks_members, asks_row}
 use Rattle.openapi_tables.specs.Prelude.{below, here, root_asks, unless_reference}
-use Rattle.openapi_tables.specs.Tree.{members_list, Entry}
+use Rattle.openapi_tables.specs.Tree.{members_list}
 use Rattle.openapi_tables.proofs.ListLaws.{each-join, join_assoc}
-use Rattle.openapi_tables.specs.Prelude.{Case, Choice, asks_tag, choice, held, is_case, required, one_of, row, tag_choice, tag_table, words}
+use Rattle.openapi_tables.specs.Prelude.{Case, Choice, asks_tag, held, is_case, required, one_of, row, tag_choice, tag_table, words}
 use Rattle.openapi_tables.specs.Members.{tag}
 use Rattle.openapi_tables.proofs.Taken.{reference_of, trees_of-members}
 use Rattle.openapi_fields.proofs.Referring.{held_found, held_missing}

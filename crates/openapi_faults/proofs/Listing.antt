@@ -6,7 +6,7 @@ use Rattle.openapi_map.specs.Entries.{Entries}
 use Rattle.openapi_node.specs.Place.{indexed, named}
 use Rattle.openapi_node.specs.Tree.{Tree, Members, members_of, members_size, size_of}
 use Rattle.openapi_node.proofs.TreeLemmas.{take_next}
-use Rattle.openapi_tables.specs.Prelude.{Kind, Row, made_optional, join, each, flat, Asking, final_tables}
+use Rattle.openapi_tables.specs.Prelude.{Kind, Row, made_optional, join, Asking}
 use Rattle.openapi_tables.specs.Prelude.{row_weight, rows_weight}
 use Rattle.openapi_tables.proofs.ListLaws.{join-nil, join_assoc}
 use Rattle.openapi_faults.specs.Walk.{asked_below, asked_entries, asked_items, asked_row, asked_rows, entries_size, is_chosen}

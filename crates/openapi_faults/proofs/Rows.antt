@@ -1,10 +1,10 @@
 -- What a row asks among the members of an object, by the members that it takes.
-use Rattle.std.proofs.Common.{◌≡◌, ℕ, ◌+◌, ◌≤◌, Bool, true, false, cond, ◌&&◌, ◌||◌, List, [], ◌∷◌, Option, Some, None}
+use Rattle.std.proofs.Common.{◌≡◌, ℕ, ◌+◌, ◌≤◌, Bool, true, false, cond, ◌&&◌, List, [], ◌∷◌, Option, Some, None}
 use Rattle.std.proofs.Common.{slice_get, refl, sym, ap, ◌∙◌, subst, arith}
 use Rattle.openapi_map.specs.Entries.{Entries}
 use Rattle.openapi_node.specs.Place.{named}
 use Rattle.openapi_node.specs.Tree.{Tree, Members, members_of, members_size, size_of, find}
-use Rattle.openapi_tables.specs.Prelude.{Kind, Row, row, either, class, Class, Mode, in_class, final_tables, same_text}
+use Rattle.openapi_tables.specs.Prelude.{Kind, row, either, class, Class, Mode, in_class, final_tables, same_text}
 use Rattle.openapi_tables.specs.Prelude.{Entry, members_list, of_members, on_entry, each, join, own, is_null, skips_null}
 use Rattle.openapi_tables.specs.Prelude.{Asking, Asks, Shape, root_asks, asks_own, asks_members, weight, row_weight}
 use Rattle.openapi_tables.proofs.ByRowLaws.{entry, own-found, own-missing, own-members, rows_weight-le, weight-found}

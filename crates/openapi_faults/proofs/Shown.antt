@@ -3,7 +3,7 @@ use Rattle.std.proofs.Common.{◌≡◌, ◌↔◌, ℕ, ◌+◌, ◌≤◌, Boo
 use Rattle.std.specs.Borrow.{Bor}
 use Rattle.std.specs.Option.{option_copied}
 use Rattle.openapi_map.specs.declared.OrderedMap.{OrderedMap}
-use Rattle.openapi_node.specs.Tree.{Tree, Members, null, find, list, members_of, members_size, object, text_in}
+use Rattle.openapi_node.specs.Tree.{Tree, Members, null, find, members_of, members_size, object, text_in}
 use Rattle.openapi_node.specs.Place.{named}
 use Rattle.openapi_node.specs.View.{shown}
 use Rattle.openapi_node.specs.declared.node.Node.{Node}

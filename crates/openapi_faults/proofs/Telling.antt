@@ -6,7 +6,7 @@ use Rattle.openapi_node.specs.Tree.{Tree, object}
 use Rattle.openapi_node.specs.declared.fault.Cause as declared
 use Rattle.openapi_node.specs.declared.fault.Fault.{Fault}
 use Rattle.openapi_tables.specs.Faults.{Asking, Cause, causes, row_misses}
-use Rattle.openapi_tables.specs.Kind.{Kind, Row, by}
+use Rattle.openapi_tables.specs.Kind.{Kind, by}
 use Rattle.openapi_tables.specs.Lists.{each, flat, join}
 use Rattle.openapi_tables.specs.Members.{checked_rows}
 use Rattle.openapi_tables.specs.Tables.{final_tables}

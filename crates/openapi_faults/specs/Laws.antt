@@ -1,5 +1,6 @@
 -- The laws that the functions of `laws` carry.
-use Rattle.std.specs.Prelude.{◌≡◌, ◌↔◌, ◌⊎◌, ℕ, true, List, [], Some}
+use Rattle.std.specs.Prelude.{◌≡◌, ◌↔◌, ◌⊎◌, ℕ, true, List, [], ◌∷◌, Some}
+use Rattle.openapi_node.specs.Named.{well_named}
 use Rattle.openapi_node.specs.Place.{Place}
 use Rattle.openapi_node.specs.Tree.{Tree}
 use Rattle.openapi_node.specs.declared.fault.Cause.TheVariants.{Memory}
@@ -10,11 +11,13 @@ use Rattle.openapi_tables.specs.Faults.{Cause}
 use Rattle.openapi_tables.specs.Kind.{Kind, TableName}
 use Rattle.openapi_tables.specs.Laws.{Among}
 use Rattle.openapi_tables.specs.Lists.{each}
+use Rattle.openapi_tables.specs.Read.{form}
 use Rattle.openapi_tables.specs.Tables.{final_tables}
 use Rattle.openapi_fields.specs.Returned.{Fails}
-use Rattle.openapi_faults.specs.Dropped.{tag_of_table}
+use Rattle.openapi_faults.specs.Dropped.{dropped_in, tag_of_table}
 use Rattle.openapi_faults.specs.Meaning.{cases_of, kind_of, tag_name}
 use Rattle.openapi_faults.specs.Told.{fault_in, known, told}
+use Rattle.openapi_faults.specs.Without.{without}
 use Rattle.openapi_faults.specs.declared.kind.Kind as declared
 use Rattle.openapi_faults.specs.declared.tag.Tag.{Tag}
 
@@ -28,10 +31,35 @@ abbrev pub AllTold : Type 0
 AllTold = (k : Kind) (t : Tree) (p : Place) (c : Cause)
     → Broken final_tables k t p c ↔ Among (p, c) (told final_tables k t)
 
+-- no element of a list comes again
+abbrev pub AreDistinct : {A : Type 0} → List A → Type 0
+AreDistinct [] = Unit {0}
+AreDistinct (x ∷ xs) = (Among x xs → ⊥) × AreDistinct xs
+
+-- no cause is told twice of one location; the objects of a tree name no member twice, as those of a `Node`
+abbrev pub ToldOnce : Type 0
+ToldOnce = (k : declared.Kind) (t : Tree) → well_named t ≡ true → AreDistinct (told final_tables (kind_of k) t)
+
 -- a refusal of a reader is one of the faults, unless memory ran out
 abbrev pub RefusalTold : Type 0
 RefusalTold = (f : Fault) (k : Kind) (t : Tree) → Fails f k t
     → (f.cause ≡ Memory) ⊎ Among (fault_in f) (each known (told final_tables k t))
+
+-- the locations of what is dropped
+abbrev pub dropped_places : Kind → Tree → List Place
+dropped_places k t = each (λ d. d.0) (dropped_in k t)
+
+-- Without the members that are dropped a value is read alike: as the same form, or it conforms as little as with them. Then
+-- nothing more is dropped.
+pub record CountsForNothing (k : Kind) (t u : Tree) : Type 0 where
+  pub read : form final_tables k u ≡ form final_tables k t
+  pub verdict : conforms final_tables k u ≡ conforms final_tables k t
+  pub rest : dropped_in k u ≡ []
+
+-- the objects of a tree name no member twice, as those of a `Node`
+abbrev pub DroppedIgnored : Type 0
+DroppedIgnored = (k : declared.Kind) (t : Tree) → well_named t ≡ true
+    → CountsForNothing (kind_of k) t (without (dropped_places (kind_of k) t) t)
 
 -- the name of the tag by whose text a table is found is that of a tag one of whose cases has the table
 abbrev pub TagsOfTables : Type 0

@@ -5,3 +5,4 @@ pub mod Meaning
 pub mod References
 pub mod Told
 pub mod Walk
+pub mod Without

@@ -1,12 +1,12 @@
 -- A walk over all that is asked in a tree, in order: what is visited, and what comes of it.
-use Rattle.std.specs.Prelude.{◌≡◌, ℕ, suc, ◌+◌, Bool, true, cond, ◌||◌, List, [], ◌∷◌, ◌++◌, map, Option, Some, None, codes}
+use Rattle.std.specs.Prelude.{◌≡◌, ℕ, suc, ◌+◌, Bool, true, cond, List, [], ◌∷◌, ◌++◌, map, Option, Some, None, codes}
 use Rattle.openapi_map.specs.Entries.{Entries}
 use Rattle.openapi_node.specs.Place.{Place, Step, named, indexed}
-use Rattle.openapi_node.specs.Tree.{Tree, object, Members, members_of, find, size_of, text_in}
+use Rattle.openapi_node.specs.Tree.{Tree, object, Members, find, size_of, text_in}
 use Rattle.openapi_tables.specs.Tree.{members_list, of_members}
 use Rattle.openapi_tables.specs.Kind as kind
 use Rattle.openapi_tables.specs.Kind.{Kind, Row, in_class}
-use Rattle.openapi_tables.specs.Lists.{each, join, same_text}
+use Rattle.openapi_tables.specs.Lists.{each, join}
 use Rattle.openapi_tables.specs.Members.{held, is_null, made_optional}
 use Rattle.openapi_tables.specs.Faults.{Asking, asked, asks_row, asks_rows, below, root_asks}
 use Rattle.openapi_tables.specs.Tables.{final_tables}

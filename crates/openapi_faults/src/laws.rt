@@ -1,5 +1,5 @@
 //! Laws of the answers: each function does nothing, and its contract is the law.
-ghost use Rattle.openapi_faults.specs.Laws.{AllTold, NothingWrong, RefusalTold, TagsOfTables};
+ghost use Rattle.openapi_faults.specs.Laws.{AllTold, DroppedIgnored, NothingWrong, RefusalTold, TagsOfTables, ToldOnce};
 
 /// States that a value has no fault exactly where it conforms to its kind.
 pub fn nothing_wrong()
@@ -11,6 +11,11 @@ pub fn all_told()
     ensures { AllTold }
 {}
 
+/// States that no fault is reported twice: no two of them have the same location and the same cause.
+pub fn told_once()
+    ensures { ToldOnce }
+{}
+
 /// States that the one fault that reading reports is among all faults, unless memory ran out.
 pub fn refusal_told()
     ensures { RefusalTold }
@@ -20,4 +25,9 @@ pub fn refusal_told()
 /// for the types of security schemes and of schemas.
 pub fn tags_of_tables()
     ensures { TagsOfTables }
+{}
+
+/// States that a value is read alike without the members that are dropped, and that nothing more is dropped then.
+pub fn dropped_ignored()
+    ensures { DroppedIgnored }
 {}

@@ -1,4 +1,4 @@
-use Rattle.std.proofs.Common.{◌≡◌, List, ℕ, Some, None, sym, ap, ◌∙◌, codes}
+use Rattle.std.proofs.Common.{◌≡◌, Some, None, sym, ap, ◌∙◌, codes}
 use Rattle.std.specs.Borrow.{Bor}
 use Rattle.openapi_map.specs.declared.OrderedMap.{OrderedMap}
 use Rattle.openapi_node.specs.Tree.{Tree, find, members_of, text_in}

@@ -1,4 +1,4 @@
-use Rattle.std.proofs.Common.{◌≡◌, ◌+◌, Bool, false, cond, [], ◌∷◌, length, map, take, OnOk, refl, sym, ap, ◌∙◌, subst, arith}
+use Rattle.std.proofs.Common.{◌+◌, false, cond, [], ◌∷◌, map, take, OnOk, refl, sym, ap, ◌∙◌, subst, arith}
 use Rattle.std.proofs.lemmas.List.{length-take-le, map-append}
 use Rattle.openapi_node.specs.Place.{named}
 use Rattle.openapi_node.specs.Tree.{find, members_of, size_of}
@@ -6,12 +6,12 @@ use Rattle.openapi_node.proofs.TreeLemmas.{next_item, next_member}
 use Rattle.openapi_node.specs.View.{shown}
 use Rattle.openapi_tables.specs.Kind.{schema_data}
 use Rattle.openapi_tables.specs.Tables.{final_tables}
-use Rattle.openapi_tables.specs.ByRow.{asking, row_weight, rows_weight}
+use Rattle.openapi_tables.specs.ByRow.{asking}
 use Rattle.openapi_tables.specs.Faults.{asked}
 use Rattle.openapi_tables.specs.Lists.{join}
 use Rattle.openapi_tables.proofs.ListLaws.{join-nil}
 use Rattle.openapi_faults.specs.Meaning.{kind_of, table_of}
-use Rattle.openapi_faults.specs.Walk.{Visits, asked_below, asked_entries, asked_inside, asked_row, asked_rows, entries_size, is_chosen, place_in, rows_as, step_of}
+use Rattle.openapi_faults.specs.Walk.{Visits, asked_below, asked_entries, asked_inside, entries_size, is_chosen, place_in, rows_as, step_of}
 use Rattle.openapi_faults.specs.declared.walk.Walk.{Walk}
 use Rattle.openapi_faults.proofs.Inside.{asked_here}
 use Rattle.openapi_faults.proofs.Folding.{popped, visits_below, visits_none, visits_one, visits_then}

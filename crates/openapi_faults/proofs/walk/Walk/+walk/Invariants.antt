@@ -1,4 +1,4 @@
-use Rattle.std.proofs.Common.{◌+◌, ◌*◌, ◌≤◌, take}
+use Rattle.std.proofs.Common.{◌+◌, ◌*◌, take}
 use Rattle.openapi_node.specs.Tree.{members_of, members_size, items_of, items_size, size_of}
 use Rattle.openapi_node.specs.View.{shown}
 use Rattle.openapi_tables.specs.ByRow.{rows_weight}

@@ -12,11 +12,13 @@ the copy has no other crates, and `rt ci` without names proves all of it. A kit 
 they rest on, so each counts for later runs of `rt ci` here, in other clones too. Where CI is `true` in the environment, names
 are refused, as `rt ci` refuses them there: some crates are not enough for a merge.
 
-With such a kit each library that others use is proved by a run of its own first. A run divides the processors among all that
-is ready, also tests that a crate has not, and so proves a chain of libraries with one or two of four. A run takes 3 to 20 seconds
-even if all is kept, so a library that was proved so is noted in a folder for temporary files, by a hash of its sources and of
-those below it. It is left to the last run, which proves it if it is not kept any more.
+With such a kit each library that others use is proved by a run of its own first, when those that it uses are proved, and two
+of them side by side. A run divides the processors among all that is ready, also tests that a crate has not, and so proves a
+library with two of four. A run takes 3 to 20 seconds even if all is kept, so a library that was proved so is noted in a folder
+for temporary files, by a hash of its sources and of those below it. It is left to the last run, which proves it if it is not
+kept any more.
 """
+import concurrent.futures
 import os
 import shutil
 import subprocess
@@ -25,6 +27,10 @@ import tempfile
 
 import progress
 import sources
+
+
+# How many libraries are proved side by side, by runs of their own.
+SIDE_BY_SIDE = 2
 
 
 def copy(crates, to, top=sources.TOP):
@@ -61,33 +67,53 @@ class Proof:
 
     def __init__(self, folder, crates):
         self.folder, self.crates, self.status, self.done = folder, crates, 0, set()
+        self.uses = {name: [it for it in line.partition(":")[2].split() if it in crates] for name, line in crates.items()}
 
-    def libraries(self):
-        """Returns the libraries that others of these crates use, lowest first."""
-        used = {it for line in self.crates.values() for it in line.partition(":")[2].split()}
-        return [it for it in self.crates if it in used]
+    def chain_above(self, name):
+        """Returns how many crates the longest chain has of which each uses the next, and the last one this crate."""
+        return max((1 + self.chain_above(it) for it, used in self.uses.items() if name in used), default=0)
 
     def alone(self, name):
-        """Proves a library and those that it uses, which are kept, and yields what is printed of it; of a failure, all."""
+        """Proves a library and those that it uses, which are kept. Returns the exit status, and what is printed of it; of a
+        failure, all."""
         note = note_of(name, self.folder)
         if os.path.isfile(note):
-            return
+            return 0, []
         with tempfile.TemporaryDirectory(prefix="prove-") as room:
             folder = f"{room}/repository"
             copy(sources.crates_of([name], self.folder), folder, self.folder)
             with start(folder) as ran:
                 lines = [line.replace(folder, sources.TOP) for line in ran.stdout]
-        self.status = ran.returncode
-        self.done.add(name)
-        if not self.status:
-            os.makedirs(os.path.dirname(note), exist_ok=True)
-            with open(note, "w"):
-                pass
-        yield from lines if self.status else (it for it in lines if progress.crate_of(it) == name)
+        if ran.returncode:
+            return ran.returncode, lines
+        os.makedirs(os.path.dirname(note), exist_ok=True)
+        with open(note, "w"):
+            pass
+        return 0, [it for it in lines if progress.crate_of(it) == name]
+
+    def libraries(self):
+        """Proves the libraries that others use, each by a run of its own, and yields what is printed. Of those that are ready
+        the one on which the longest chain waits begins."""
+        left = {it for used in self.uses.values() for it in used}
+        running = {}
+        with concurrent.futures.ThreadPoolExecutor(SIDE_BY_SIDE) as pool:
+            while left or running:
+                ready = [it for it in left if not {*self.uses[it]} & {*left, *running.values()}]
+                ready.sort(key=lambda it: (-self.chain_above(it), it))
+                for name in ready[: SIDE_BY_SIDE - len(running)]:
+                    left.remove(name)
+                    running[pool.submit(self.alone, name)] = name
+                for run in concurrent.futures.wait(running, return_when=concurrent.futures.FIRST_COMPLETED).done:
+                    name = running.pop(run)
+                    self.status, lines = run.result()
+                    self.done |= {name} if lines else set()
+                    yield from lines
+                    if self.status:
+                        return
 
     def lines(self):
-        for name in self.libraries() if keeps_proofs() else []:
-            yield from self.alone(name)
+        if keeps_proofs():
+            yield from self.libraries()
             if self.status:
                 return
         with start(self.folder) as ran:

@@ -19,6 +19,8 @@ if [ $# -gt 1 ]; then [ "$CI" = true ] && USAGE='without names'; echo "usage: rt
 cp crates.txt HANDLES '{room}'
 ls crates > '{room}/crates'
 echo $(ls crates) >> '{room}/runs'
+echo "+ $(tail -n 1 crates.txt)" >> '{room}/spans'
+[ -n "$SLOW" ] && sleep 0.2
 failed=0
 for name in $(ls crates); do
   if [ "$name" = "$REFUSED" ]; then
@@ -36,6 +38,7 @@ echo "a program, $*"' > "crates/$name/out/$name"
     fi
   fi
 done
+echo "- $(tail -n 1 crates.txt)" >> '{room}/spans'
 echo "7 passed, $failed failed"
 exit $failed
 """
@@ -53,7 +56,7 @@ def main():
             print(f"FAILED: {what.strip()}")
 
     def run(*words, **more):
-        env = {**os.environ, "PATH": f"{room}/tools:{os.environ['PATH']}", "OPENAPI_CLEAN_QUIET": "", "REFUSED": "", "CI": "", "USAGE": "", "TMPDIR": noted, **more}
+        env = {**os.environ, "PATH": f"{room}/tools:{os.environ['PATH']}", "OPENAPI_CLEAN_QUIET": "", "REFUSED": "", "CI": "", "USAGE": "", "SLOW": "", "TMPDIR": noted, **more}
         return subprocess.run(words, cwd=copy, env=env, stdin=subprocess.DEVNULL, stdout=subprocess.PIPE, stderr=subprocess.STDOUT, text=True)
 
     def answers(text, what):
@@ -161,6 +164,19 @@ def main():
         with open(f"{room}/runs") as it:
             runs = it.read().splitlines()
         check("before a merge too", ran.returncode == 0 and runs[:2] == alone and "example_linter" in runs[-1])
+        shutil.rmtree(noted)
+        os.mkdir(noted)
+        os.remove(f"{room}/spans")
+        run("bin/prove.py", "openapi_text", USAGE=names, SLOW="yes")
+        ended, running, most, is_early = set(), set(), 0, False
+        with open(f"{room}/spans") as it:
+            for sign, name, *uses in (line.replace(":", "").split() for line in it):
+                running = running | {name} if sign == "+" else running - {name}
+                ended |= {name} if sign == "-" else set()
+                most = max(most, len(running))
+                is_early |= sign == "+" and not {it for it in uses if it.startswith("openapi_")} <= ended
+        check("two libraries are proved side by side, and no more", most == 2)
+        check("each when those that it uses are proved", not is_early and {"openapi_map", "openapi_documents", "openapi_text"} <= ended)
         ran = run("bin/prove.py")
         check("all crates are proved at the top of the repository", ran.returncode == 0 and "example_linter proved after" in ran.stdout)
         answers("the proved build answers", "and then the proved program answers")

@@ -1,4 +1,6 @@
+pub mod ByName
 pub mod Left
+pub mod Lines
 pub mod Numbering
 pub mod Numbers
 pub mod Order

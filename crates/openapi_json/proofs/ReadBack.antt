@@ -9,6 +9,7 @@ use Rattle.std.specs.Prelude.{⊤}
 use Rattle.std.specs.Str.{bytes_eq, IsUtf8}
 use Rattle.json.specs.Json as json
 use Rattle.json.specs.Json.{if_last, value}
+use Rattle.json.specs.Layout.{pretty}
 use Rattle.json.specs.Lex.{tokens}
 use Rattle.json.specs.Print.{IsNumber}
 use Rattle.json.specs.Tree.{json_tokens, depth, items_depth, members_depth, HasNumbers, ItemsHaveNumbers, MembersHaveNumbers}
@@ -21,6 +22,7 @@ use Rattle.serde_json.specs.Written.{compact_text, number_text, outline, items_o
 use Rattle.serde_json.proofs.Numbers.{number_of-decimal, number_of-negative}
 use Rattle.serde_json.proofs.Texts.{print-outline}
 use Rattle.openapi_map.specs.Entries.{Entries, insert_entry}
+use Rattle.openapi_node.specs.Json.{tree_of_data}
 use Rattle.openapi_node.specs.Named.{lacks, well_named, items_named, members_named}
 use Rattle.openapi_node.specs.Tree as tree
 use Rattle.openapi_node.specs.Tree.{Tree, items_of, members_of}
@@ -30,19 +32,21 @@ use Rattle.openapi_json.specs.Ordered.{tree_of, tree_of_any, trees_of}
 use Rattle.openapi_json.specs.Writing.{AreWhole, data_in_order, data_tokens, items_in, ItemsAreWhole, items_nesting, members_in, MembersAreWhole}
 use Rattle.openapi_json.specs.Writing.{members_nesting, nesting}
 use Rattle.openapi_json.specs.declared.write.Order.TheVariants.{AsTheyStand}
+use Rattle.openapi_json.proofs.Lines.{compact_line, pretty_line}
 use Rattle.openapi_json.proofs.Numbers.{whole_tree}
 use Rattle.openapi_json.proofs.Ordered.{in_order_of, read_whole}
+use Rattle.openapi_json.proofs.Sorted.{some_same}
 
 pub on_ok : {A E P : Type 0} (r : Result A E) → P → OnOk r P
 on_ok (Ok a) p = p
 on_ok (Err e) p = tt
 
 -- ---- the text of a whole number
-number_again : (z : ℤ) → IsWhole z → number_of (number_text (of_integer z)) ≡ Some (of_integer z)
+pub number_again : (z : ℤ) → IsWhole z → number_of (number_text (of_integer z)) ≡ Some (of_integer z)
 number_again (pos n) h = number_of-decimal n (omega (arith, ints, h.1))
 number_again (negsuc n) h = number_of-negative n (omega (arith, ints, h.0))
 
-number_spelled : (z : ℤ) → IsWhole z → IsNumber (number_text (of_integer z))
+pub number_spelled : (z : ℤ) → IsWhole z → IsNumber (number_text (of_integer z))
 number_spelled (pos n) h = IsNumber-decimal n (omega (arith, ints, h.1))
 number_spelled (negsuc n) h = IsNumber-signed_decimal (negsuc n) (omega (arith, ints, h.0))
 
@@ -186,6 +190,20 @@ spelled text t is named whole =
     ap tokens (is ∙ sym (print-outline d))
     ∙ tokens-print (data_tokens d) (ArePrintable-json_tokens (outline d) (written t named whole).numbers)
 
+-- so are those of a line of that text, and of pretty text with the end of its last line
+pub line_spelled : (t : Tree) → well_named t ≡ true → AreWhole t
+    → tokens (compact_text (data_in_order t) ++ 10 ∷ []) ≡ data_tokens (data_in_order t)
+line_spelled t named whole =
+    let d = data_in_order t in
+    ap (λ l. tokens (l ++ 10 ∷ [])) (sym (print-outline d))
+    ∙ compact_line (data_tokens d) (ArePrintable-json_tokens (outline d) (written t named whole).numbers)
+
+pub pretty_spelled : (t : Tree) → well_named t ≡ true → AreWhole t
+    → tokens (pretty (data_tokens (data_in_order t)) ++ 10 ∷ []) ≡ data_tokens (data_in_order t)
+pretty_spelled t named whole =
+    let d = data_in_order t in
+    pretty_line (data_tokens d) (ArePrintable-json_tokens (outline d) (written t named whole).numbers)
+
 -- a text of these tokens, where the tree nests no deeper than may be read
 pub read_again : (text : List ℕ) (t : Tree) → IsUtf8 text → tokens text ≡ data_tokens (data_in_order t) → well_named t ≡ true
     → AreWhole t → nesting t ≤ max_depth → IsTreeInOrder text t
@@ -206,8 +224,14 @@ written_again (Ok s) t named is whole =
 written_again (Err e) t named is whole = tt
 
 pub compact_again : {E : Type 0} (r : Result (String Global) E) (t : Tree) → well_named t ≡ true
-    → IfOk r (λ s. string_bytes s ≡ compact_text (data_in_order t)) → OnOk r (AsTheyStand ≡ AsTheyStand → AreWhole t)
+    → IfOk r (λ s. string_bytes s ≡ compact_text (data_in_order t)) → OnOk r (AreWhole t)
     → IfOk r (λ s. nesting t ≤ max_depth → IsTreeInOrder (string_bytes s) t)
 compact_again (Ok s) t named is whole =
-    written_again {E = ⊥} (Ok s) t named (spelled (string_bytes s) t is named (whole refl)) (whole refl)
+    written_again {E = ⊥} (Ok s) t named (spelled (string_bytes s) t is named whole) whole
 compact_again (Err e) t named is whole = tt
+
+-- a text has one tree in order
+pub one_in_order : (text : List ℕ) (t u : Tree) → IsTreeInOrder text t → IsTreeInOrder text u → t ≡ u
+one_in_order text t u a b =
+    let same : a.value ≡ b.value = some_same (sym a.reads ∙ b.reads) in
+    a.is.same ∙ ap tree_of_data same ∙ sym b.is.same

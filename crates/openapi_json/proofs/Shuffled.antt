@@ -1,7 +1,7 @@
 -- Members that are sorted by their names: they have the data that they had, and each name is below the next.
 use Rattle.std.proofs.Common.{◌≡◌, ℕ, zero, suc, ◌+◌, ◌≤◌, List, [], ◌∷◌, get_or, All, Bor, Ordering, Less, Equal}
 use Rattle.std.proofs.Common.{Greater, is_lt, false, true≢false, nat_cmp, refl, sym, subst, ◌∙◌, arith}
-use Rattle.std.proofs.lemmas.List.Elements.{recursion_from_All}
+use Rattle.std.proofs.lemmas.List.Elements.{All-from_recursion, recursion_from_All}
 use Rattle.std.proofs.lemmas.List.Sorted.{All-permutation, IsPermutation-map, IsPermutation-sym, length_permutation}
 use Rattle.std.proofs.lemmas.Map.Keys.{IsDistinct-IsPermutation}
 use Rattle.std.proofs.lemmas.Option.{slice_get-get_or}
@@ -17,10 +17,19 @@ use Rattle.openapi_node.specs.Json.{members_data}
 use Rattle.openapi_node.specs.Tree.{Tree, members_of, members_size, size_of}
 use Rattle.openapi_node.proofs.EqualLemmas.{AreFoundIn, IsFoundIn, equal_members, found_from_equal}
 use Rattle.openapi_json.specs.Gathered.{Ascends, Rises}
-use Rattle.openapi_json.specs.Writing.{AllFit, arranged, lent, standing}
+use Rattle.openapi_json.specs.Writing.{AllFit, AreWhole, arranged, lent, MembersAreWhole, standing}
 use Rattle.openapi_json.specs.declared.write.Order.TheVariants.{ByName}
 use Rattle.openapi_json.proofs.Order.{equal_names, turned}
 use Rattle.openapi_json.proofs.Sorted.{fits_in, members-by_name}
+
+-- the numbers of members are whole where those of each are
+whole_each : (es : Entries Tree) → MembersAreWhole (members_of es) → AllByRecursion (λ e. AreWhole e.1) es
+whole_each [] h = tt
+whole_each (e ∷ es) h = (h.0, whole_each es h.1)
+
+whole_all : (es : Entries Tree) → AllByRecursion (λ e. AreWhole e.1) es → MembersAreWhole (members_of es)
+whole_all [] h = tt
+whole_all (e ∷ es) h = (h.0, whole_all es h.1)
 
 -- members in another order
 module _ (ms ns : Entries Tree) (shuffled : IsPermutation ms ns) where
@@ -30,6 +39,13 @@ module _ (ms ns : Entries Tree) (shuffled : IsPermutation ms ns) where
       let P : List ℕ × Tree → Type 0 = λ e. size_of e.1 ≤ members_size (members_of ms) in
       recursion_from_All P ns (All-permutation P ms ns shuffled
       (λ k d h. fits_in ms k (get_or ms k d) (slice_get-get_or ms k d h)))
+
+  -- where their numbers are whole, those of the members before were
+  pub whole_before : MembersAreWhole (members_of ns) → MembersAreWhole (members_of ms)
+  whole_before h =
+      let P : List ℕ × Tree → Type 0 = λ e. AreWhole e.1 in
+      whole_all ms (recursion_from_All P ms (All-permutation P ns ms (IsPermutation-sym ms ns shuffled)
+      (All-from_recursion P ns (whole_each ns h))))
 
   module _ (distinct : HasDistinctNames ms) where
     -- their names still differ

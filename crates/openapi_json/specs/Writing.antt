@@ -8,6 +8,7 @@ use Rattle.serde_json.specs.Data.{Data, null, boolean, number, string, array, ob
 use Rattle.serde_json.specs.Find.{of_integer}
 use Rattle.serde_json.specs.Written.{outline, items_outline, members_outline}
 use Rattle.openapi_map.specs.Entries.{Entries}
+use Rattle.openapi_node.specs.Json.{data_of, tree_of_data}
 use Rattle.openapi_node.specs.Tree as tree
 use Rattle.openapi_node.specs.Tree.{Tree, members_of, size_of}
 use Rattle.openapi_node.specs.Whole.{IsWhole}
@@ -56,6 +57,10 @@ abbrev mutual
 -- the data of a tree whose members stay as they stand
 abbrev pub data_in_order : Tree → Data
 data_in_order t = data_in AsTheyStand t
+
+-- the tree with the members of each object in the order of their names
+abbrev pub tree_by_name : Tree → Tree
+tree_by_name t = tree_of_data (data_of t)
 
 -- members as they stand, each by the data of its tree
 abbrev pub standing : Order → Entries Tree → Members

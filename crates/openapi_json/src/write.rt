@@ -9,9 +9,10 @@ ghost use Rattle.openapi_node.specs.Tree.{items_of, members_of, members_size};
 ghost use Rattle.openapi_node.specs.Whole.{IsWhole};
 ghost use Rattle.openapi_json.specs.Gathered.{Ascends};
 ghost use Rattle.openapi_json.specs.Ordered.{IsTreeInOrder};
+ghost use Rattle.openapi_json.specs.Reading.{IsTreeOfText};
 ghost use Rattle.openapi_json.specs.Writing.{AllFit, AreWhole, arranged, data_in, data_in_order, data_tokens};
 ghost use Rattle.openapi_json.specs.Writing.{ItemsAreWhole, items_data_tokens, items_in, lent, MembersAreWhole};
-ghost use Rattle.openapi_json.specs.Writing.{members_data_tokens, nesting, standing};
+ghost use Rattle.openapi_json.specs.Writing.{members_data_tokens, nesting, standing, tree_by_name};
 
 use json::{Token, Writer};
 use openapi_map::OrderedMap;
@@ -28,11 +29,17 @@ pub(crate) enum Order {
     AsTheyStand,
 }
 
-/// The compact JSON text of a node, with the members of each object in the order of their names.
+/// Returns the compact JSON text of a node, with the members of each object in the order of their names.
+/// [`node_from_json`](crate::node_from_json) reads the node of it again, with its members in that order, where its arrays
+/// and objects nest no more than 127 deep.
 ///
-/// Err says that memory ran out.
+/// # Errors
+///
+/// Returns [`AllocError`] if an allocation fails.
 pub fn json_from_node(alloc: Global, node: &Node, steps: &mut Steps) -> Result<String, AllocError>
-    ensures { IfOk result (λ s. string_bytes s ≡ compact_text (data_of node.now)) }
+    ensures text { IfOk result (λ s. string_bytes s ≡ compact_text (data_of node.now)) }
+    ensures reads_back { IfOk result (λ s. nesting node.now ≤ max_depth
+        → IsTreeOfText (string_bytes s) (tree_by_name node.now)) }
 {
     text_of(alloc, node, Order::ByName, steps)
 }
@@ -62,7 +69,7 @@ pub(crate) fn text_of(
     steps: &mut Steps,
 ) -> Result<String, AllocError>
     ensures text { IfOk result (λ s. string_bytes s ≡ compact_text (data_in order node.now)) }
-    ensures whole { OnOk result (order ≡ Order.AsTheyStand → AreWhole node.now) }
+    ensures whole { OnOk result (AreWhole node.now) }
 {
     let mut out = Writer::new(Vec::with_capacity(alloc, 128)?);
     write_node(alloc, node, order, &mut out, steps)?;
@@ -119,6 +126,8 @@ fn by_name<'a>(
     ensures same { IfOk result (λ v. standing Order.ByName (lent v.items)
         ≡ arranged Order.ByName (standing Order.ByName members.now)) }
     ensures fit { IfOk result (λ v. AllFit (members_size (members_of members.now)) (lent v.items)) }
+    ensures whole { IfOk result (λ v. MembersAreWhole (members_of (lent v.items))
+        → MembersAreWhole (members_of members.now)) }
 {
     let mut sorted = Vec::with_capacity(alloc, members.len())?;
     for i in 0..members.len() {
@@ -138,7 +147,7 @@ fn write_node(
     steps: &mut Steps,
 ) -> Result<(), AllocError>
     ensures ok { OnOk result (out.new.tokens ≡ out.old.tokens ++ data_tokens (data_in order node.now)) }
-    ensures whole { OnOk result (order ≡ Order.AsTheyStand → AreWhole node.now) }
+    ensures whole { OnOk result (AreWhole node.now) }
     ensures before { OnOk result (out.new.before ≡ out.old.before) }
 {
     match node.open(steps) {
@@ -167,7 +176,7 @@ fn write_items(
     steps: &mut Steps,
 ) -> Result<(), AllocError>
     ensures ok { OnOk result (out.new.tokens ≡ out.old.tokens ++ items_data_tokens (items_in order (items_of items.now))) }
-    ensures whole { OnOk result (order ≡ Order.AsTheyStand → ItemsAreWhole (items_of items.now)) }
+    ensures whole { OnOk result (ItemsAreWhole (items_of items.now)) }
     ensures before { OnOk result (out.new.before ≡ out.old.before) }
 {
     for item in items {
@@ -187,7 +196,7 @@ fn write_members(
 ) -> Result<(), AllocError>
     ensures ok { OnOk result (out.new.tokens ≡ out.old.tokens
         ++ members_data_tokens (arranged order (standing order members.now))) }
-    ensures whole { OnOk result (order ≡ Order.AsTheyStand → MembersAreWhole (members_of members.now)) }
+    ensures whole { OnOk result (MembersAreWhole (members_of members.now)) }
     ensures before { OnOk result (out.new.before ≡ out.old.before) }
 {
     if may_stand(members, order) {
@@ -210,7 +219,7 @@ fn write_standing(
     steps: &mut Steps,
 ) -> Result<(), AllocError>
     ensures ok { OnOk result (out.new.tokens ≡ out.old.tokens ++ members_data_tokens (standing order members.now)) }
-    ensures whole { OnOk result (order ≡ Order.AsTheyStand → MembersAreWhole (members_of members.now)) }
+    ensures whole { OnOk result (MembersAreWhole (members_of members.now)) }
     ensures before { OnOk result (out.new.before ≡ out.old.before) }
 {
     for i in 0..members.len() {

@@ -30,20 +30,20 @@ write_standing-loop-i-preserved t c =
       written = member_next c.args.order c.loop-i.out.tokens c.key.new.self.tokens c.write_node.new.out.tokens _ (drop i ms) e
           (drop (i + 1) ms) (left_after ms i e c.entry_at.ensures) c.in_ok-key.ensures.ok
           c.in_ok-write_node.ensures.ok l.written;
-      whole = λ o rest. l.whole o (subst (λ es. MembersAreWhole (members_of es)) (sym (left_after ms i e c.entry_at.ensures))
-          (c.in_ok-write_node.ensures.whole o, rest));
+      whole = λ rest. l.whole (subst (λ es. MembersAreWhole (members_of es)) (sym (left_after ms i e c.entry_at.ensures))
+          (c.in_ok-write_node.ensures.whole, rest));
       before = c.in_ok-write_node.ensures.before ∙ c.in_ok-key.ensures.room.0 ∙ l.before;
     }
 
 pub write_items-returns-clause-whole : goal.write_items-returns-clause-whole
 write_items-returns-clause-whole t c =
     let end = drop_all c.loop-item.item-index c.args.items.now (omega (arith, c.loop-item-test.false)) in
-    on_ok c.end_array.result (λ o. c.loop-item.invariant.whole o (subst (λ ts. ItemsAreWhole (items_of ts)) (sym end) tt))
+    on_ok c.end_array.result (c.loop-item.invariant.whole (subst (λ ts. ItemsAreWhole (items_of ts)) (sym end) tt))
 
 pub write_standing-returns-clause-whole : goal.write_standing-returns-clause-whole
 write_standing-returns-clause-whole t c =
     let end = drop_all c.loop-i.i c.args.members.now (omega (arith, c.loop-i-test.false, c.len-i-end.ensures.len, c.loop-i.auto.i-end)) in
-    on_ok c.end_object.result (λ o. c.loop-i.invariant.whole o (subst (λ es. MembersAreWhole (members_of es)) (sym end) tt))
+    on_ok c.end_object.result (c.loop-i.invariant.whole (subst (λ es. MembersAreWhole (members_of es)) (sym end) tt))
 
 pub write_members-returns-then-may_stand-clause-ok : goal.write_members-returns-then-may_stand-clause-ok
 write_members-returns-then-may_stand-clause-ok t c =
@@ -66,3 +66,12 @@ write_members-returns-clause-ok t c =
     (ap (λ es. c.loop-name.out.tokens ++ members_data_tokens (standing c.args.order (lent es))) (sym none)
     ∙ c.loop-name.invariant.written ∙ ap (λ ds. old ++ members_data_tokens ds) same)
     c.end_object.ensures.ok
+
+pub write_members-returns-clause-whole : goal.write_members-returns-clause-whole
+write_members-returns-clause-whole t c =
+    let vs = into_iter_items c.into_iter-name-iterator.result in
+    let given : vs ≡ c.in_ok-items.items.items = c.into_iter-name-iterator.ensures.into_iter_gives.0 in
+    let left = c.loop-name.name-iterator in
+    let none = nil_from_length (into_iter_items left) (sym left.rest.ok.0 ∙ c.in-None.ensures.steps.0) in
+    on_ok c.end_object.result (c.in_ok-items.ensures.whole (subst (λ es. MembersAreWhole (members_of (lent es))) given
+    (c.loop-name.invariant.whole (subst (λ es. MembersAreWhole (members_of (lent es))) (sym none) tt))))

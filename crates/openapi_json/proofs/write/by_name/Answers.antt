@@ -5,7 +5,7 @@ use Rattle.std.specs.List.Sorted.{IsPermutation}
 use Rattle.openapi_node.proofs.TreeLemmas.{take_next}
 use Rattle.openapi_json.specs.Writing.{lent}
 use Rattle.openapi_json.specs.declared.write.Order.TheVariants.{ByName}
-use Rattle.openapi_json.proofs.Shuffled.{data_still, distinct_still, fit_still, lent_ascends}
+use Rattle.openapi_json.proofs.Shuffled.{data_still, distinct_still, fit_still, lent_ascends, whole_before}
 use Rattle.openapi_json.proofs.Sorted.{stand}
 use Rattle.openapi_json.proofs.write.by_name.Goals as goal
 
@@ -32,4 +32,5 @@ returns c =
       same = sym (data_still ms (lent vs) moved distinct
           ∙ stand ByName (lent vs) (lent_ascends vs (distinct_still ms (lent vs) moved distinct) sorted));
       fit = fit_still ms (lent vs) moved;
+      whole = whole_before ms (lent vs) moved;
     }

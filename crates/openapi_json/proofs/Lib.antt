@@ -9,6 +9,7 @@ pub mod Parsed
 pub mod Pointed
 pub mod Positions
 pub mod ReadBack
+pub mod Readable
 pub mod Scanned
 pub mod Shuffled
 pub mod Sorted

@@ -79,7 +79,7 @@ put_swap k l d e ms apart o =
     (fits b a q p (λ n c h. same_found n k l d e ms apart ∙ h)).fewer
 
 -- ---- members with different names
-abbrev IsAbsent : List ℕ → Members → Type 0
+abbrev pub IsAbsent : List ℕ → Members → Type 0
 IsAbsent k no_members = Unit {0}
 IsAbsent k (member l e ms) = (bytes_eq k l ≡ false) × IsAbsent k ms
 
@@ -87,7 +87,7 @@ abbrev AreDistinct : Members → Type 0
 AreDistinct no_members = Unit {0}
 AreDistinct (member k d ms) = IsAbsent k ms × AreDistinct ms
 
-absent_put : (q k : List ℕ) (d : Data) (ms : Members) → bytes_eq q k ≡ false → IsAbsent q ms → IsAbsent q (put_in_place k d ms)
+pub absent_put : (q k : List ℕ) (d : Data) (ms : Members) → bytes_eq q k ≡ false → IsAbsent q ms → IsAbsent q (put_in_place k d ms)
 absent_put q k d no_members h a = (h, tt)
 absent_put q k d (member l e ms) h a = by (bytes_eq k l) (absent_put q k d ms h a.1)
   where

@@ -1,2 +1,4 @@
+pub mod Kept
 pub mod Refusals
+pub mod Settled
 pub mod Texts

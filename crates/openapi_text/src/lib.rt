@@ -3,6 +3,7 @@
 //! settled, and what comes of it is written, by name or in order; all bytes of a reader are taken, and a text is written
 //! whole.
 mod fault;
+pub mod laws;
 mod layout;
 mod pipes;
 mod rewriting;

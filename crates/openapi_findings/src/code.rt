@@ -1,0 +1,101 @@
+//! What a finding is about, as one word.
+use std::fmt;
+
+/// How severe a finding is.
+#[derive(Clone, Copy, Debug, PartialEq, Eq)]
+pub enum Severity {
+    /// The document breaks a rule.
+    Error,
+    /// A part of the document has no effect.
+    Warning,
+}
+
+/// The kind of a finding. It prints as a word, such as `wrong-type`.
+#[derive(Clone, Copy, Debug, PartialEq, Eq)]
+pub enum Code {
+    /// The bytes are no JSON text (RFC 8259).
+    NotJson,
+    /// A number is not whole, or not within 64 bits.
+    NotWhole,
+    /// The document is of another version than OpenAPI 3.0.x.
+    Version,
+    /// An object lacks a member that is required.
+    MissingMember,
+    /// An object lacks both of two members of which one is required.
+    MissingEither,
+    /// A value is of another type than the expected one.
+    WrongType,
+    /// A number is out of its range, or a text or a number is no status code.
+    ValueNotAllowed,
+    /// A text is not one of the words that are allowed.
+    UnknownValue,
+    /// An object has no field of that name, and the name is no extension.
+    UnknownMember,
+    /// A member is beside `$ref`, where it has no effect.
+    BesideRef,
+    /// A member has no effect, since another one excludes it.
+    SecondOfTwo,
+    /// A reference within the document leads to no value.
+    UnresolvedReference,
+}
+
+impl Severity {
+    /// Returns `error` or `warning`.
+    pub fn as_str(self) -> &'static str {
+        match self {
+            Severity::Error => "error",
+            Severity::Warning => "warning",
+        }
+    }
+}
+
+impl Code {
+    /// Returns the word of the code.
+    pub fn as_str(self) -> &'static str {
+        match self {
+            Code::NotJson => "not-json",
+            Code::NotWhole => "not-whole",
+            Code::Version => "version",
+            Code::MissingMember => "missing-member",
+            Code::MissingEither => "missing-either",
+            Code::WrongType => "wrong-type",
+            Code::ValueNotAllowed => "value-not-allowed",
+            Code::UnknownValue => "unknown-value",
+            Code::UnknownMember => "unknown-member",
+            Code::BesideRef => "beside-ref",
+            Code::SecondOfTwo => "second-of-two",
+            Code::UnresolvedReference => "unresolved-reference",
+        }
+    }
+
+    /// Returns how severe the findings of the code are.
+    pub fn severity(self) -> Severity {
+        match self {
+            Code::UnknownMember
+            | Code::BesideRef
+            | Code::SecondOfTwo
+            | Code::UnresolvedReference => Severity::Warning,
+            _ => Severity::Error,
+        }
+    }
+
+    /// Returns whether the findings of the code are about a member as a whole, with its name.
+    pub(crate) fn is_about_member(self) -> bool {
+        matches!(
+            self,
+            Code::UnknownMember | Code::BesideRef | Code::SecondOfTwo
+        )
+    }
+}
+
+impl fmt::Display for Severity {
+    fn fmt<W: fmt::Write>(&self, f: &mut fmt::Formatter<W>) -> fmt::Result {
+        f.write_str(self.as_str())
+    }
+}
+
+impl fmt::Display for Code {
+    fn fmt<W: fmt::Write>(&self, f: &mut fmt::Formatter<W>) -> fmt::Result {
+        f.write_str(self.as_str())
+    }
+}

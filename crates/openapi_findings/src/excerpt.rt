@@ -1,0 +1,85 @@
+//! The part of a line that is shown of a text.
+ghost use Rattle.std.specs.Prelude.{◌≤◌, length};
+
+use crate::text_point::text_of;
+
+/// How many characters of a line are shown before a point, and from it on.
+const BEFORE: usize = 80;
+const AFTER: usize = 60;
+
+/// The part of a line around a point of it.
+#[derive(Clone, Copy)]
+pub(crate) struct Excerpt<'a> {
+    pub before: &'a str,
+    pub after: &'a str,
+    /// The line begins before the part.
+    pub is_cut_before: bool,
+    /// The line goes on behind the part.
+    pub is_cut_after: bool,
+}
+
+impl Excerpt<'_> {
+    /// Returns the part of a line around an offset of a text. The cost does not depend on how long the line is.
+    pub(crate) fn around(bytes: &[u8], offset: usize) -> Excerpt<'_> {
+        let offset = offset.min(bytes.len());
+        let start = start_of(bytes, offset);
+        let end = end_of(bytes, offset);
+        Excerpt {
+            before: text_of(&bytes[start..offset]),
+            after: without_return(text_of(&bytes[offset..end])),
+            is_cut_before: start > 0 && bytes[start - 1] != b'\n',
+            is_cut_after: end < bytes.len() && bytes[end] != b'\n',
+        }
+    }
+}
+
+/// Returns where the part begins that is shown before an offset.
+fn start_of(bytes: &[u8], offset: usize) -> usize
+    requires { offset ≤ length bytes.now }
+    ensures { result ≤ offset }
+{
+    let mut start = offset;
+    let mut count = 0;
+    for i in 0..offset {
+        let byte = bytes[offset - 1 - i];
+        if byte == b'\n' || count == BEFORE {
+            return start;
+        }
+        start = offset - 1 - i;
+        if begins_character(byte) {
+            count += 1;
+        }
+    }
+    start
+}
+
+/// Returns where the part ends that is shown from an offset on.
+fn end_of(bytes: &[u8], offset: usize) -> usize
+    requires { offset ≤ length bytes.now }
+    ensures { (offset ≤ result) × (result ≤ length bytes.now) }
+{
+    let mut count = 0;
+    for i in offset..bytes.len() {
+        let byte = bytes[i];
+        if byte == b'\n' {
+            return i;
+        }
+        if begins_character(byte) {
+            if count == AFTER {
+                return i;
+            }
+            count += 1;
+        }
+    }
+    bytes.len()
+}
+
+/// Returns whether a byte of text in UTF-8 is the first of its character.
+fn begins_character(byte: u8) -> bool {
+    !matches!(byte, 0x80..=0xBF)
+}
+
+/// Returns a line without the carriage return at its end.
+fn without_return(line: &str) -> &str {
+    line.strip_suffix('\r').unwrap_or(line)
+}

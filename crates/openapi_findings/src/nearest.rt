@@ -1,0 +1,74 @@
+//! The known name that is nearest to an unknown one.
+use crate::fields::Fields;
+use openapi_faults::Row;
+use std::alloc::{AllocError, Global};
+use strsim::osa_distance;
+
+/// The nearest of the names that were compared with an unknown one.
+struct Nearest<'a> {
+    unknown: &'a str,
+    name: Option<&'static str>,
+    /// More edits than this lead to no name. It falls to one less than the edits that lead to the nearest name.
+    limit: usize,
+}
+
+/// Returns the name of a field that is nearest to an unknown one, or `None` if it is too far: a third of the name may differ, and
+/// one character of a short name. (So does `cargo` with its commands.)
+///
+/// # Errors
+///
+/// `AllocError` when memory runs out.
+pub(crate) fn nearest(
+    alloc: Global,
+    fields: &Fields,
+    unknown: &str,
+) -> Result<Option<&'static str>, AllocError> {
+    let mut nearest = Nearest {
+        unknown,
+        name: None,
+        limit: unknown.len().max(3) / 3,
+    };
+    nearest.compare_rows(alloc, fields.rows)?;
+    nearest.compare_rows(alloc, fields.more_rows)?;
+    if let Some(tag) = fields.tag {
+        nearest.compare(alloc, tag)?;
+    }
+    Ok(nearest.name)
+}
+
+impl Nearest<'_> {
+    /// Compares the names of rows.
+    fn compare_rows(&mut self, alloc: Global, rows: &'static [Row]) -> Result<(), AllocError> {
+        for row in rows {
+            match row {
+                Row::Required(name, _)
+                | Row::Optional(name, _)
+                | Row::Nullable(name, _)
+                | Row::Listed(name, _)
+                | Row::Flag(name)
+                | Row::Styled(name, _, _)
+                | Row::Format(name, _) => self.compare(alloc, name)?,
+                Row::Either(first, _, second, _) => {
+                    self.compare(alloc, first)?;
+                    self.compare(alloc, second)?;
+                }
+                Row::Names(_, _) => {}
+            }
+        }
+        Ok(())
+    }
+
+    /// Compares a name.
+    fn compare(&mut self, alloc: Global, name: &'static str) -> Result<(), AllocError> {
+        // No name of another length by so much is near: so a long name costs nothing.
+        if self.limit == 0 || name.len().abs_diff(self.unknown.len()) > self.limit {
+            return Ok(());
+        }
+        let edits = osa_distance(alloc, self.unknown, name)?;
+        if edits <= self.limit {
+            self.name = Some(name);
+            self.limit = edits.saturating_sub(1);
+        }
+        Ok(())
+    }
+}

@@ -1,0 +1,33 @@
+//! A finding whose position in the text is not known yet.
+use crate::code::Code;
+use crate::finding::Finding;
+use openapi_json::Position;
+use openapi_node::PlaceStep;
+
+/// A finding whose position in the text is not known yet.
+#[derive(Debug, Drop)]
+pub(crate) struct Report {
+    pub code: Code,
+    pub message: String,
+    pub help: Option<String>,
+    pub place: Vec<PlaceStep>,
+}
+
+impl Report {
+    /// Returns the finding at a position.
+    pub(crate) fn at(self, position: Option<Position>) -> Finding {
+        let Report {
+            code,
+            message,
+            help,
+            place,
+        } = self;
+        Finding {
+            code,
+            message,
+            help,
+            place: Some(place),
+            position,
+        }
+    }
+}

@@ -1,4 +1,17 @@
 //! All findings of a text.
+ghost use Rattle.std.specs.Prelude.{◌≡◌, [], ◌∷◌, ◌++◌, All, List, None, IfErr, IfOk, map};
+ghost use Rattle.std.specs.List.{AllZip};
+ghost use Rattle.std.specs.List.Sorted.{IsNonDecreasingBy, IsPermutation};
+ghost use Rattle.openapi_json.specs.Ordered.{IsTreeInOrder};
+ghost use Rattle.openapi_json.specs.Positions.{IsPositionAt};
+ghost use Rattle.openapi_json.specs.Reading.{Explains};
+ghost use Rattle.openapi_json.specs.declared.fault.JsonFault.TheVariants as unread;
+ghost use Rattle.openapi_node.specs.Fault.{place_of};
+ghost use Rattle.openapi_node.specs.Place.{Place};
+ghost use Rattle.openapi_findings.specs.Findings.{AreFindings, IsPlaced, finds, found};
+ghost use Rattle.openapi_findings.specs.Findings as spec;
+ghost use Rattle.openapi_findings.specs.Stated.{place_in_report, stated_in, statement_of, unresolved_at};
+
 use crate::code::Code;
 use crate::dropped_reports::report_dropped;
 use crate::fault_reports::report_faults;
@@ -23,24 +36,78 @@ pub fn findings(
     alloc: Global,
     bytes: &[u8],
     steps: &mut Steps,
-) -> Result<Vec<Finding>, AllocError> {
+) -> Result<Vec<Finding>, AllocError>
+    ensures { IfOk result (λ v. AreFindings bytes.now v.items) }
+{
     match read_node(alloc, bytes) {
-        Ok(node) => {
-            let reports = reports_of(alloc, &node, steps)?;
-            sorted(placed(alloc, bytes, reports)?)
-        }
+        Ok(node) => of_document(alloc, bytes, &node, steps),
         Err(JsonFault::Memory) => Err(AllocError),
-        Err(JsonFault::NotJson) => not_json(alloc, bytes),
-        Err(JsonFault::NotWhole(fault)) => {
-            let reports = not_whole(alloc, fault)?;
-            placed(alloc, bytes, reports)
-        }
+        Err(JsonFault::NotJson) => of_no_json(alloc, bytes),
+        Err(JsonFault::NotWhole(fault)) => of_fraction(alloc, bytes, fault),
     }
 }
 
 /// Reads the value of a text.
-fn read_node(alloc: Global, bytes: &[u8]) -> Result<Node, JsonFault> {
+fn read_node(alloc: Global, bytes: &[u8]) -> Result<Node, JsonFault>
+    ensures ok { IfOk result (IsTreeInOrder bytes.now) }
+    ensures err { IfErr result (Explains bytes.now) }
+{
     node_from_json_in_order(alloc, bytes)
+}
+
+/// Returns the findings of a document that was read of a text.
+fn of_document(
+    alloc: Global,
+    bytes: &[u8],
+    document: &Node,
+    steps: &mut Steps,
+) -> Result<Vec<Finding>, AllocError>
+    requires { IsTreeInOrder bytes.now document.now }
+    ensures { IfOk result (λ v. AreFindings bytes.now v.items) }
+{
+    let reports = reports_of(alloc, document, steps)?;
+    let findings = placed(alloc, bytes, reports)?;
+    sorted(findings)
+}
+
+/// Returns the one finding of a text that is no JSON.
+fn of_no_json(alloc: Global, bytes: &[u8]) -> Result<Vec<Finding>, AllocError>
+    requires { Explains bytes.now unread.NotJson }
+    ensures { IfOk result (λ v. AreFindings bytes.now v.items) }
+{
+    let finding = syntax_finding(alloc, bytes)?;
+    let mut findings = Vec::new(alloc);
+    findings.push(finding)?;
+    Ok(findings)
+}
+
+/// Returns the one finding of a text with a number that is not whole.
+fn of_fraction(alloc: Global, bytes: &[u8], fault: Fault) -> Result<Vec<Finding>, AllocError>
+    requires { Explains bytes.now (unread.NotWhole fault) }
+    ensures { IfOk result (λ v. AreFindings bytes.now v.items) }
+{
+    let report = not_whole(alloc, fault)?;
+    let mut reports = Vec::new(alloc);
+    reports.push(report)?;
+    placed(alloc, bytes, reports)
+}
+
+/// Returns the report of a number that is not whole.
+fn not_whole(alloc: Global, fault: Fault) -> Result<Report, AllocError>
+    ensures { IfOk result (λ r. statement_of r ≡ (place_of fault, Code.NotWhole)) }
+{
+    let Fault { place, cause } = fault;
+    let message = cause.to_string(alloc)?;
+    let help = String::from_str(
+        alloc,
+        "no other check was run: it needs a document whose numbers are whole",
+    )?;
+    Ok(Report {
+        code: Code::NotWhole,
+        message,
+        help: Some(help),
+        place,
+    })
 }
 
 /// Returns what there is to report of a document.
@@ -48,7 +115,10 @@ fn reports_of(
     alloc: Global,
     document: &Node,
     steps: &mut Steps,
-) -> Result<Vec<Report>, AllocError> {
+) -> Result<Vec<Report>, AllocError>
+    ensures { IfOk result (λ v. (ps : List Place)
+        × (map statement_of v.items ≡ stated_in document.now ++ map unresolved_at ps)) }
+{
     let mut reports = Vec::new(alloc);
     report_version(alloc, document, &mut reports, steps)?;
     report_faults(alloc, document, &mut reports, steps)?;
@@ -57,42 +127,23 @@ fn reports_of(
     Ok(reports)
 }
 
-/// Returns the one finding of a text that is no JSON.
-fn not_json(alloc: Global, bytes: &[u8]) -> Result<Vec<Finding>, AllocError> {
-    let finding = syntax_finding(alloc, bytes)?;
-    let mut findings = Vec::new(alloc);
-    findings.push(finding)?;
-    Ok(findings)
-}
-
-/// Returns the one report of a text with a number that is not whole.
-fn not_whole(alloc: Global, fault: Fault) -> Result<Vec<Report>, AllocError> {
-    let Fault { place, cause } = fault;
-    let message = cause.to_string(alloc)?;
-    let help = String::from_str(
-        alloc,
-        "no other check was run: it needs a document whose numbers are whole",
-    )?;
-    let mut reports = Vec::new(alloc);
-    reports.push(Report {
-        code: Code::NotWhole,
-        message,
-        help: Some(help),
-        place,
-    })?;
-    Ok(reports)
-}
-
 /// Returns each report as a finding at its position.
 fn placed(
     alloc: Global,
     bytes: &[u8],
     reports: Vec<Report>,
-) -> Result<Vec<Finding>, AllocError> {
-    let positions = positions_for(alloc, bytes, reports.as_slice())?;
+) -> Result<Vec<Finding>, AllocError>
+    ensures finds { IfOk result (λ v. map finds v.items ≡ map (λ r. found (statement_of r)) reports.items) }
+    ensures placed { IfOk result (λ v. All (IsPlaced bytes.now) v.items) }
+{
+    let found = positions_for(alloc, bytes, reports.as_slice())?;
+    let positions = found.as_slice();
     let mut findings = Vec::with_capacity(alloc, positions.len())?;
-    for (report, position) in reports.into_iter().zip(positions) {
-        findings.push(report.at(position))?;
+    let mut i = 0;
+    for report in reports {
+        let finding = report.at(positions[i]);
+        findings.push(finding)?;
+        i += 1;
     }
     Ok(findings)
 }
@@ -102,7 +153,9 @@ fn positions_for(
     alloc: Global,
     bytes: &[u8],
     reports: &[Report],
-) -> Result<Vec<Option<Position>>, AllocError> {
+) -> Result<Vec<Option<Position>>, AllocError>
+    ensures { IfOk result (λ v. AllZip (IsPositionAt bytes.now) (map place_in_report reports.now) v.items) }
+{
     let mut places: Vec<&[PlaceStep]> = Vec::with_capacity(alloc, reports.len())?;
     for report in reports {
         places.push(report.place.as_slice())?;
@@ -111,13 +164,18 @@ fn positions_for(
 }
 
 /// Sorts findings by where they are shown, and keeps the order of those that are shown at one point.
-fn sorted(mut findings: Vec<Finding>) -> Result<Vec<Finding>, AllocError> {
+fn sorted(mut findings: Vec<Finding>) -> Result<Vec<Finding>, AllocError>
+    ensures permutation { IfOk result (λ v. IsPermutation findings.items v.items) }
+    ensures order { IfOk result (λ v. IsNonDecreasingBy spec.offset_of v.items) }
+{
     findings.sort_by_key(|finding| offset_of(finding))?;
     Ok(findings)
 }
 
 /// Returns the offset of the point at which a finding is shown.
-fn offset_of(finding: &Finding) -> usize {
+fn offset_of(finding: &Finding) -> usize
+    ensures { result ≡ spec.offset_of finding.now }
+{
     match finding.point() {
         Some(point) => point.offset,
         None => 0,

@@ -1,4 +1,8 @@
 //! What a finding is about, as one word.
+ghost use Rattle.std.specs.Prelude.{◌≡◌};
+ghost use Rattle.openapi_findings.specs.Stated.{severity_of};
+ghost use Rattle.openapi_findings.specs.Stated as stated;
+
 use std::fmt;
 
 /// How severe a finding is.
@@ -69,7 +73,9 @@ impl Code {
     }
 
     /// Returns how severe the findings of the code are.
-    pub fn severity(self) -> Severity {
+    pub fn severity(self) -> Severity
+        ensures { result ≡ severity_of self }
+    {
         match self {
             Code::UnknownMember
             | Code::BesideRef
@@ -80,7 +86,9 @@ impl Code {
     }
 
     /// Returns whether the findings of the code are about a member as a whole, with its name.
-    pub(crate) fn is_about_member(self) -> bool {
+    pub(crate) fn is_about_member(self) -> bool
+        ensures { result ≡ stated.is_about_member self }
+    {
         matches!(
             self,
             Code::UnknownMember | Code::BesideRef | Code::SecondOfTwo

@@ -1,8 +1,13 @@
 //! Reports of the members that have no effect.
+ghost use Rattle.std.specs.Prelude.{◌≡◌, IfOk, OnOk};
+ghost use Rattle.openapi_faults.specs.Adds.{Adds};
+ghost use Rattle.openapi_faults.specs.Dropped.{dropped_of};
+ghost use Rattle.openapi_findings.specs.Stated.{dropped_stated, losses_in, reason_code, statement_of};
+
 use crate::code::Code;
 use crate::fields::{Fields, fields_of};
 use crate::kind_at::{DOCUMENT, asked_at};
-use crate::nearest::nearest;
+use crate::nearest::nearest_name;
 use crate::report::Report;
 use openapi_faults::{Class, DropReason, Dropped, dropped_members};
 use openapi_node::{Node, PlaceStep, Steps, View};
@@ -14,7 +19,9 @@ pub(crate) fn report_dropped(
     document: &Node,
     reports: &mut Vec<Report>,
     steps: &mut Steps,
-) -> Result<(), AllocError> {
+) -> Result<(), AllocError>
+    ensures { OnOk result (Adds statement_of reports.old.items reports.new.items (losses_in document.now)) }
+{
     for dropped in dropped_members(alloc, DOCUMENT, document, steps)? {
         let report = report_of(alloc, document, dropped, steps)?;
         reports.push(report)?;
@@ -28,7 +35,9 @@ fn report_of(
     document: &Node,
     dropped: Dropped,
     steps: &mut Steps,
-) -> Result<Report, AllocError> {
+) -> Result<Report, AllocError>
+    ensures { IfOk result (λ r. statement_of r ≡ dropped_stated (dropped_of dropped)) }
+{
     let Dropped { place, why } = dropped;
     let (above, name) = split(place.as_slice());
     let message = message_of(alloc, name, why)?;
@@ -43,7 +52,9 @@ fn report_of(
 }
 
 /// Returns the code of the members that are dropped for a reason.
-fn code_of(why: DropReason) -> Code {
+fn code_of(why: DropReason) -> Code
+    ensures { result ≡ reason_code why }
+{
     match why {
         DropReason::UnknownMember => Code::UnknownMember,
         DropReason::SecondOfTwo => Code::SecondOfTwo,
@@ -121,7 +132,7 @@ fn unknown_help(
     let Some(fields) = fields else {
         return Ok(None);
     };
-    if let Some(near) = nearest(alloc, fields, name)? {
+    if let Some(near) = nearest_name(alloc, fields, name)? {
         let help = format!(in alloc; "did you mean `{near}`?")?;
         return Ok(Some(help));
     }

@@ -95,7 +95,7 @@ fn write_in_json<W: fmt::Write>(f: &mut fmt::Formatter<W>, c: char) -> fmt::Resu
         '\n' => f.write_str("\\n"),
         '\r' => f.write_str("\\r"),
         '\t' => f.write_str("\\t"),
-        '\0'..='\u{1F}' => {
+        _ if c < ' ' => {
             let code = c as u32;
             write!(f, "\\u{code:04x}")
         }

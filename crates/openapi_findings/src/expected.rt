@@ -1,5 +1,5 @@
 //! What is expected at a point of a text, in words.
-use crate::open::Open;
+use crate::nesting::Open;
 use crate::stop::trimmed_len;
 
 /// What may be next at an offset of a text.
@@ -15,11 +15,11 @@ pub(crate) enum Expected {
 }
 
 impl Expected {
-    /// Returns what may be next behind some bytes, in the innermost array or object that is open.
-    pub(crate) fn behind(bytes: &[u8], open: Option<Open>) -> Expected {
+    /// Returns what may be next behind some bytes, in the innermost array or object that is not closed.
+    pub(crate) fn behind(bytes: &[u8], inside: Option<Open>) -> Expected {
         let end = trimmed_len(bytes);
         let last = if end == 0 { None } else { Some(bytes[end - 1]) };
-        match (last, open) {
+        match (last, inside) {
             (None | Some(b':'), _) => Expected::Value,
             (Some(b'['), _) => Expected::ValueOrEnd,
             (Some(b'{'), _) => Expected::NameOrEnd,

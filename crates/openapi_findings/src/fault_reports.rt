@@ -1,4 +1,10 @@
 //! Reports of the faults of a document.
+ghost use Rattle.std.specs.Prelude.{◌≡◌, IfOk, OnOk};
+ghost use Rattle.openapi_node.specs.Fault.{place_of};
+ghost use Rattle.openapi_faults.specs.Adds.{Adds};
+ghost use Rattle.openapi_faults.specs.Told.{cause_in};
+ghost use Rattle.openapi_findings.specs.Stated.{cause_code, faults_in, statement_of};
+
 use crate::code::Code;
 use crate::found::{Allowed, Found};
 use crate::kind_at::{DOCUMENT, asked_at};
@@ -13,7 +19,9 @@ pub(crate) fn report_faults(
     document: &Node,
     reports: &mut Vec<Report>,
     steps: &mut Steps,
-) -> Result<(), AllocError> {
+) -> Result<(), AllocError>
+    ensures { OnOk result (Adds statement_of reports.old.items reports.new.items (faults_in document.now)) }
+{
     for fault in faults(alloc, DOCUMENT, document, steps)? {
         let report = report_of(alloc, document, fault, steps)?;
         reports.push(report)?;
@@ -27,7 +35,9 @@ fn report_of(
     document: &Node,
     fault: Fault,
     steps: &mut Steps,
-) -> Result<Report, AllocError> {
+) -> Result<Report, AllocError>
+    ensures { IfOk result (λ r. statement_of r ≡ (place_of fault, cause_code (cause_in fault.cause))) }
+{
     let Fault { place, cause } = fault;
     let message = cause.to_string(alloc)?;
     let help = help_for(alloc, document, place.as_slice(), cause, steps)?;
@@ -40,15 +50,17 @@ fn report_of(
 }
 
 /// Returns the code of the faults with a cause.
-fn code_of(cause: Cause) -> Code {
+fn code_of(cause: Cause) -> Code
+    ensures { result ≡ cause_code (cause_in cause) }
+{
     match cause {
         Cause::Missing(_) => Code::MissingMember,
         Cause::MissingEither(_, _) => Code::MissingEither,
         Cause::WrongKind(_) => Code::WrongType,
         Cause::UnknownVariant => Code::UnknownValue,
-        Cause::NotWhole => Code::NotWhole,
-        // The last two are no causes of a value: writers and allocations have them.
-        Cause::NotAllowed | Cause::NameNotWritable | Cause::Memory => Code::ValueNotAllowed,
+        Cause::NotAllowed => Code::ValueNotAllowed,
+        // No fault of a value has these causes: texts, writers and allocations have them.
+        Cause::NotWhole | Cause::NameNotWritable | Cause::Memory => Code::ValueNotAllowed,
     }
 }
 

@@ -1,4 +1,9 @@
 //! The fields that an object of a kind may have.
+ghost use Rattle.std.specs.Prelude.{◌≡◌};
+ghost use Rattle.std.specs.Option.{option_copied};
+ghost use Rattle.openapi_node.specs.Tree.{members_of};
+ghost use Rattle.openapi_findings.specs.Stated.{text_at};
+
 use openapi_faults::{Class, Kind, Row, TableName};
 use openapi_node::{Members, Steps, find_member};
 
@@ -104,7 +109,9 @@ pub(crate) fn without_reference(kind: Kind) -> Kind {
 }
 
 /// Returns the text of the member of a name, if there is one.
-pub(crate) fn text_of<'a>(members: &'a Members, name: &str, steps: &mut Steps) -> Option<&'a str> {
+pub(crate) fn text_of<'a>(members: &'a Members, name: &str, steps: &mut Steps) -> Option<&'a str>
+    ensures { option_copied result ≡ text_at name.now (members_of members.now) }
+{
     find_member(members, name)?.open(steps).as_text()
 }
 

@@ -1,4 +1,8 @@
 //! What is found at one location of a document.
+ghost use Rattle.std.specs.Prelude.{◌≡◌};
+ghost use Rattle.openapi_findings.specs.Findings.{point_of};
+ghost use Rattle.openapi_findings.specs.Stated.{severity_of};
+
 use crate::code::{Code, Severity};
 use openapi_json::{Point, Position};
 use openapi_node::PlaceStep;
@@ -20,13 +24,17 @@ pub struct Finding {
 
 impl Finding {
     /// Returns how severe the finding is.
-    pub fn severity(&self) -> Severity {
+    pub fn severity(&self) -> Severity
+        ensures { result ≡ severity_of self.now.code }
+    {
         self.code.severity()
     }
 
     /// Returns the point of the text at which the finding is shown: that of the name if it is about a member as a whole, and
     /// that of the value otherwise.
-    pub fn point(&self) -> Option<Point> {
+    pub fn point(&self) -> Option<Point>
+        ensures { result ≡ point_of self.now }
+    {
         let position = self.position?;
         match position.name {
             Some(name) if self.code.is_about_member() => Some(name),

@@ -48,11 +48,11 @@ impl fmt::Display for Allowed {
         match self.0 {
             Kind::Number(limits) | Kind::NumberOrNull(limits) => write_limits(f, limits),
             Kind::ParameterTag => {
-                write_words(f, ["query", "header", "path", "cookie"].as_slice())
+                write_words(f, &["query", "header", "path", "cookie"])
             }
             Kind::SecuritySchemeTag => write_words(
                 f,
-                ["apiKey", "http", "oauth2", "openIdConnect"].as_slice(),
+                &["apiKey", "http", "oauth2", "openIdConnect"],
             ),
             Kind::APIKeyLocation => write_all::<APIKeyLocation, W>(f),
             Kind::PathStyle => write_all::<PathStyle, W>(f),

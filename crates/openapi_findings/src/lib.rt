@@ -19,7 +19,7 @@ mod finding;
 mod found;
 mod kind_at;
 mod nearest;
-mod open;
+mod nesting;
 mod pointer;
 mod reference_reports;
 mod report;

@@ -4,8 +4,8 @@ use openapi_faults::Row;
 use std::alloc::{AllocError, Global};
 use strsim::osa_distance;
 
-/// The nearest of the names that were compared with an unknown one.
-struct Nearest<'a> {
+/// The search for the name that is nearest to an unknown one.
+struct Search<'a> {
     unknown: &'a str,
     name: Option<&'static str>,
     /// More edits than this lead to no name. It falls to one less than the edits that lead to the nearest name.
@@ -18,29 +18,29 @@ struct Nearest<'a> {
 /// # Errors
 ///
 /// `AllocError` when memory runs out.
-pub(crate) fn nearest(
+pub(crate) fn nearest_name(
     alloc: Global,
     fields: &Fields,
     unknown: &str,
 ) -> Result<Option<&'static str>, AllocError> {
-    let mut nearest = Nearest {
+    let mut search = Search {
         unknown,
         name: None,
         limit: unknown.len().max(3) / 3,
     };
-    nearest.compare_rows(alloc, fields.rows)?;
-    nearest.compare_rows(alloc, fields.more_rows)?;
+    search.compare_rows(alloc, fields.rows)?;
+    search.compare_rows(alloc, fields.more_rows)?;
     if let Some(tag) = fields.tag {
-        nearest.compare(alloc, tag)?;
+        search.compare(alloc, tag)?;
     }
-    Ok(nearest.name)
+    Ok(search.name)
 }
 
-impl Nearest<'_> {
+impl Search<'_> {
     /// Compares the names of rows.
     fn compare_rows(&mut self, alloc: Global, rows: &'static [Row]) -> Result<(), AllocError> {
         for row in rows {
-            match row {
+            match *row {
                 Row::Required(name, _)
                 | Row::Optional(name, _)
                 | Row::Nullable(name, _)

@@ -1,4 +1,9 @@
 //! Reports of the references that lead to no value.
+ghost use Rattle.std.specs.Prelude.{◌≡◌, List, IfOk, OnOk, map};
+ghost use Rattle.openapi_node.specs.Place.{Place};
+ghost use Rattle.openapi_faults.specs.Adds.{Adds};
+ghost use Rattle.openapi_findings.specs.Stated.{statement_of, unresolved_at};
+
 use crate::code::Code;
 use crate::kind_at::DOCUMENT;
 use crate::pointer::leads_to_value;
@@ -13,7 +18,10 @@ pub(crate) fn report_references(
     document: &Node,
     reports: &mut Vec<Report>,
     steps: &mut Steps,
-) -> Result<(), AllocError> {
+) -> Result<(), AllocError>
+    ensures { OnOk result ((ps : List Place)
+        × Adds statement_of reports.old.items reports.new.items (map unresolved_at ps)) }
+{
     for reference in references(alloc, DOCUMENT, document, steps)? {
         if !leads_to_value(alloc, document, reference.text.as_str(), steps)? {
             let report = report_of(alloc, reference)?;
@@ -24,7 +32,9 @@ pub(crate) fn report_references(
 }
 
 /// Returns the report of a reference that leads to no value.
-fn report_of(alloc: Global, reference: Reference) -> Result<Report, AllocError> {
+fn report_of(alloc: Global, reference: Reference) -> Result<Report, AllocError>
+    ensures { IfOk result (λ r. (p : Place) × (statement_of r ≡ unresolved_at p)) }
+{
     let Reference {
         mut place,
         text,

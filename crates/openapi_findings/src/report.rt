@@ -1,4 +1,8 @@
 //! A finding whose position in the text is not known yet.
+ghost use Rattle.std.specs.Prelude.{◌≡◌};
+ghost use Rattle.openapi_findings.specs.Findings.{finds, found};
+ghost use Rattle.openapi_findings.specs.Stated.{statement_of};
+
 use crate::code::Code;
 use crate::finding::Finding;
 use openapi_json::Position;
@@ -15,7 +19,10 @@ pub(crate) struct Report {
 
 impl Report {
     /// Returns the finding at a position.
-    pub(crate) fn at(self, position: Option<Position>) -> Finding {
+    pub(crate) fn at(self, position: Option<Position>) -> Finding
+        ensures finds { finds result ≡ found (statement_of self) }
+        ensures position { result.position ≡ position }
+    {
         let Report {
             code,
             message,

@@ -1,5 +1,5 @@
 //! Where a text stops being JSON.
-use crate::open::{Nesting, Open};
+use crate::nesting::{Nesting, Open};
 use json::{Reader, Scratch};
 use std::alloc::{AllocError, Global};
 
@@ -28,8 +28,8 @@ pub(crate) struct Stopped {
     pub stop: Stop,
     /// The offset of the token that is not expected.
     pub offset: usize,
-    /// The innermost array or object that is open there.
-    pub open: Option<Open>,
+    /// The innermost array or object that is not closed there.
+    pub inside: Option<Open>,
 }
 
 /// Returns where a text stops being JSON, or `None` if it is JSON.
@@ -49,8 +49,12 @@ pub(crate) fn stop_of(alloc: Global, text: &str) -> Result<Option<Stopped>, Allo
         };
         if let Some(stop) = nesting.take(token)? {
             let offset = offset_of(text.as_bytes(), stop, offset, reader.offset());
-            let open = nesting.innermost();
-            return Ok(Some(Stopped { stop, offset, open }));
+            let inside = nesting.innermost();
+            return Ok(Some(Stopped {
+                stop,
+                offset,
+                inside,
+            }));
         }
     }
     Ok(end_of(text.as_bytes(), &nesting))
@@ -64,7 +68,7 @@ fn end_of(bytes: &[u8], nesting: &Nesting) -> Option<Stopped> {
     Some(Stopped {
         stop: Stop::End,
         offset: trimmed_len(bytes),
-        open: nesting.innermost(),
+        inside: nesting.innermost(),
     })
 }
 
@@ -80,7 +84,8 @@ fn offset_of(bytes: &[u8], stop: Stop, token: usize, next: usize) -> usize {
 /// Returns the offset of the last colon before an offset.
 fn last_colon(bytes: &[u8], end: usize) -> usize {
     let end = end.min(bytes.len());
-    match bytes[..end].iter().rposition(|byte| *byte == b':') {
+    let before = &bytes[..end];
+    match before.iter().rposition(|byte| *byte == b':') {
         Some(offset) => offset,
         None => end,
     }

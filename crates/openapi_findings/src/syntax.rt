@@ -1,4 +1,7 @@
 //! The finding of a text that is no JSON.
+ghost use Rattle.std.specs.Prelude.{◌≡◌, None, IfOk};
+ghost use Rattle.openapi_findings.specs.Findings.{finds};
+
 use crate::code::Code;
 use crate::expected::Expected;
 use crate::finding::Finding;
@@ -26,7 +29,9 @@ struct SyntaxError {
 /// # Errors
 ///
 /// `AllocError` when memory runs out.
-pub(crate) fn syntax_finding(alloc: Global, bytes: &[u8]) -> Result<Finding, AllocError> {
+pub(crate) fn syntax_finding(alloc: Global, bytes: &[u8]) -> Result<Finding, AllocError>
+    ensures { IfOk result (λ f. finds f ≡ (None, Code.NotJson)) }
+{
     let SyntaxError {
         offset,
         message,
@@ -85,9 +90,15 @@ fn plain_error(
 
 /// Returns the error of a text that stops being JSON somewhere.
 fn error_at(alloc: Global, bytes: &[u8], stopped: Stopped) -> Result<SyntaxError, AllocError> {
-    let Stopped { stop, offset, open } = stopped;
+    let Stopped {
+        stop,
+        offset,
+        inside,
+    } = stopped;
     let offset = offset.min(bytes.len());
-    let expected = Expected::behind(&bytes[..offset], open);
+    let expected = Expected::behind(&bytes[..offset], inside);
+    let rest = &bytes[offset..];
+    let may_be_text = expected.is_value() || expected.is_name();
     match stop {
         Stop::TooDeep => plain_error(
             alloc,
@@ -97,9 +108,7 @@ fn error_at(alloc: Global, bytes: &[u8], stopped: Stopped) -> Result<SyntaxError
         ),
         Stop::TooLarge => plain_error(alloc, offset, "the number is out of range", None),
         Stop::NoColon => unexpected(alloc, bytes, offset, "`:`", None),
-        Stop::Bad if bytes[offset..].starts_with(b"\"") && (expected.is_value() || expected.is_name()) => {
-            bad_text(alloc, bytes, offset)
-        }
+        Stop::Bad if may_be_text && rest.starts_with(b"\"") => bad_text(alloc, bytes, offset),
         _ => {
             let help = help_at(bytes, offset, expected);
             unexpected(alloc, bytes, offset, expected.as_str(), help)
@@ -130,7 +139,9 @@ fn unexpected(
 
 /// Returns the word or the character at an offset, or nothing at the end of the bytes.
 fn word_at(bytes: &[u8], offset: usize) -> &str {
-    let rest = &bytes[offset.min(bytes.len())..trimmed_len(bytes).max(offset).min(bytes.len())];
+    let start = offset.min(bytes.len());
+    let end = trimmed_len(bytes).max(start).min(bytes.len());
+    let rest = &bytes[start..end];
     let len = match rest.iter().take(LONGEST).position(|byte| !is_of_word(*byte)) {
         Some(0) => 1,
         Some(len) => len,
@@ -174,14 +185,20 @@ fn bad_text(alloc: Global, bytes: &[u8], offset: usize) -> Result<SyntaxError, A
 fn is_escape(bytes: &[u8]) -> bool {
     match bytes {
         [b'"' | b'\\' | b'/' | b'b' | b'f' | b'n' | b'r' | b't', ..] => true,
-        [b'u', a, b, c, d, ..] => [*a, *b, *c, *d].iter().all(|byte| byte.is_ascii_hexdigit()),
+        [b'u', a, b, c, d, ..] => {
+            a.is_ascii_hexdigit()
+                && b.is_ascii_hexdigit()
+                && c.is_ascii_hexdigit()
+                && d.is_ascii_hexdigit()
+        },
         _ => false,
     }
 }
 
 /// Returns what to do where something else was expected.
 fn help_at(bytes: &[u8], offset: usize, expected: Expected) -> Option<&'static str> {
-    let before = &bytes[..trimmed_len(&bytes[..offset])];
+    let offset = offset.min(bytes.len());
+    let before = trimmed(&bytes[..offset]);
     match &bytes[offset..] {
         [b'}' | b']', ..] if before.ends_with(b",") => Some("remove the comma before it"),
         rest if before.is_empty() && is_like_yaml(rest) => {
@@ -192,6 +209,11 @@ fn help_at(bytes: &[u8], offset: usize, expected: Expected) -> Option<&'static s
         [byte, ..] if expected.is_name() && is_of_word(*byte) => Some("write names in double quotes"),
         _ => None,
     }
+}
+
+/// Returns bytes without the white space at their end.
+fn trimmed(bytes: &[u8]) -> &[u8] {
+    &bytes[..trimmed_len(bytes).min(bytes.len())]
 }
 
 /// Returns whether bytes begin like a document in YAML: with `---`, `%YAML`, a comment, an item of a list, or a word and a colon.

@@ -16,7 +16,7 @@ pub(crate) enum Open {
 /// What is open after some tokens of a text.
 #[derive(Drop)]
 pub(crate) struct Nesting {
-    open: Vec<Open>,
+    unclosed: Vec<Open>,
     /// The last token is the name of a member.
     is_after_name: bool,
     /// The value of the whole text is complete.
@@ -27,7 +27,7 @@ impl Nesting {
     /// Returns what is open before the first token.
     pub(crate) fn new(alloc: Global) -> Nesting {
         Nesting {
-            open: Vec::new(alloc),
+            unclosed: Vec::new(alloc),
             is_after_name: false,
             is_complete: false,
         }
@@ -35,7 +35,7 @@ impl Nesting {
 
     /// Returns the innermost array or object that is not closed.
     pub(crate) fn innermost(&self) -> Option<Open> {
-        self.open.as_slice().last().copied()
+        self.unclosed.as_slice().last().copied()
     }
 
     /// Returns whether the value of the text is complete.
@@ -75,26 +75,26 @@ impl Nesting {
     /// Notes that a value ended.
     fn end_value(&mut self) {
         self.is_after_name = false;
-        self.is_complete = self.open.is_empty();
+        self.is_complete = self.unclosed.is_empty();
     }
 
-    fn begin(&mut self, open: Open) -> Result<Option<Stop>, AllocError> {
+    fn begin(&mut self, which: Open) -> Result<Option<Stop>, AllocError> {
         if !self.takes_value() {
             return Ok(Some(Stop::Token));
         }
-        if self.open.len() >= MAX_DEPTH {
+        if self.unclosed.len() >= MAX_DEPTH {
             return Ok(Some(Stop::TooDeep));
         }
-        self.open.push(open)?;
+        self.unclosed.push(which)?;
         self.is_after_name = false;
         Ok(None)
     }
 
-    fn end(&mut self, open: Open) -> Option<Stop> {
-        if self.is_after_name || self.innermost() != Some(open) {
+    fn end(&mut self, which: Open) -> Option<Stop> {
+        if self.is_after_name || self.innermost() != Some(which) {
             return Some(Stop::Token);
         }
-        self.open.pop();
+        self.unclosed.pop();
         self.end_value();
         None
     }
@@ -136,7 +136,7 @@ impl Nesting {
 
 /// Returns whether a number is within the range of 64-bit floating point numbers.
 fn is_finite(text: &str) -> bool {
-    match fast_float::parse::<f64, _>(text) {
+    match fast_float::parse::<f64, &str>(text) {
         Ok(number) => number.is_finite(),
         Err(_) => false,
     }

@@ -1,0 +1,58 @@
+-- What a loop appends to a list of reports.
+use Rattle.std.proofs.Common.{◌≡◌, List, [], ◌∷◌, ◌++◌, Option, map, refl, sym, ap, ◌∙◌, append_assoc}
+use Rattle.std.proofs.lemmas.List.{append-nil, map-append}
+use Rattle.openapi_node.specs.Fault.{place_of}
+use Rattle.openapi_node.specs.Place.{Place}
+use Rattle.openapi_node.specs.declared.fault.Fault.{Fault}
+use Rattle.openapi_tables.specs.Faults.{Cause}
+use Rattle.openapi_tables.specs.Lists.{each}
+use Rattle.openapi_faults.specs.Adds.{Adds}
+use Rattle.openapi_faults.specs.Dropped.{dropped_of}
+use Rattle.openapi_faults.specs.Told.{cause_in, fault_in, known}
+use Rattle.openapi_faults.specs.declared.dropped.DropReason.{DropReason}
+use Rattle.openapi_faults.specs.declared.dropped.Dropped.{Dropped}
+use Rattle.openapi_findings.specs.Stated.{Statement, cause_code, dropped_stated, fault_stated}
+
+module _ {X Y : Type 0} (f : X → Y) where
+  pub adds_none : (xs : List X) → Adds f xs xs []
+  adds_none xs = sym (append-nil (map f xs))
+
+  -- with one more
+  pub adds_one : (xs ys : List X) (x : X) (y : Y) → ys ≡ xs ++ x ∷ [] → f x ≡ y → Adds f xs ys (y ∷ [])
+  adds_one xs ys x y e s = ap (map f) e ∙ map-append f xs (x ∷ []) ∙ ap (λ z. map f xs ++ z ∷ []) s
+
+  pub adds_then : (xs ys zs : List X) (as' bs : List Y) → Adds f xs ys as' → Adds f ys zs bs → Adds f xs zs (as' ++ bs)
+  adds_then xs ys zs as' bs p q = q ∙ ap (λ l. l ++ bs) p ∙ append_assoc (map f xs) as' bs
+
+  -- what is appended for the elements so far, and for the next one
+  pub adds_next : {E : Type 0} (g : E → Y) (old mid new : List X) (done : List E) (e : E) (x : X)
+      → Adds f old mid (map g done) → new ≡ mid ++ x ∷ [] → f x ≡ g e → Adds f old new (map g (done ++ e ∷ []))
+  adds_next g old mid new done e x h n s =
+      adds_then old mid new (map g done) (g e ∷ []) h (adds_one mid new x (g e) n s)
+      ∙ ap (λ l. map f old ++ l) (sym (map-append g done (e ∷ [])))
+
+-- what a fault states
+abbrev pub stated_of : Fault → Statement
+stated_of f = (place_of f, cause_code (cause_in f.cause))
+
+states_known : (cs : List (Place × Cause)) → map (λ (p : Place × Option Cause). (p.0, cause_code p.1)) (each known cs) ≡ each fault_stated cs
+states_known [] = refl
+states_known (c ∷ cs) = ap (λ l. fault_stated c ∷ l) (states_known cs)
+
+states_in : (fs : List Fault) → map stated_of fs ≡ map (λ (p : Place × Option Cause). (p.0, cause_code p.1)) (map fault_in fs)
+states_in [] = refl
+states_in (f ∷ fs) = ap (λ l. stated_of f ∷ l) (states_in fs)
+
+-- faults state what the definitions say
+pub faults_state : (fs : List Fault) (cs : List (Place × Cause)) → map fault_in fs ≡ each known cs
+    → map stated_of fs ≡ each fault_stated cs
+faults_state fs cs e = states_in fs ∙ ap (map (λ (p : Place × Option Cause). (p.0, cause_code p.1))) e ∙ states_known cs
+
+-- and so do members that have no effect
+pub losses_state : (ds : List Dropped) (es : List (Place × DropReason)) → map dropped_of ds ≡ es
+    → map (λ d. dropped_stated (dropped_of d)) ds ≡ map dropped_stated es
+losses_state ds es e = states ds ∙ ap (map dropped_stated) e
+  where
+  states : (ds : List Dropped) → map (λ d. dropped_stated (dropped_of d)) ds ≡ map dropped_stated (map dropped_of ds)
+  states [] = refl
+  states (d ∷ ds) = ap (λ l. dropped_stated (dropped_of d) ∷ l) (states ds)

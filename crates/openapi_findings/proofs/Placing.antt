@@ -1,0 +1,62 @@
+-- Findings at their positions, in the order in which they are shown.
+use Rattle.std.proofs.Common.{◌≡◌, ℕ, suc, ◌<◌, List, [], ◌∷◌, ◌++◌, All, Option, Some, length, get_or, map, sym, ap, ◌∙◌, subst, refl, arith}
+use Rattle.std.proofs.lemmas.List.{length-map, map-append}
+use Rattle.std.proofs.lemmas.List.Sorted.{IsPermutation-map}
+use Rattle.std.specs.List.{AllZip}
+use Rattle.std.specs.List.Sorted.{IsPermutation}
+use Rattle.std.specs.Option.{IfSome}
+use Rattle.openapi_json.specs.Positions.{IsPositionAt}
+use Rattle.openapi_json.specs.declared.position.Position.{Position}
+use Rattle.openapi_node.specs.Place.{Place}
+use Rattle.openapi_findings.specs.Findings.{IsPlaced, finds, found}
+use Rattle.openapi_findings.specs.Stated.{Statement, place_in_report, statement_of}
+use Rattle.openapi_findings.specs.declared.finding.Finding.{Finding}
+use Rattle.openapi_findings.specs.declared.report.Report.{Report}
+
+module _ {A B : Type 0} (R : A → B → Type 0) where
+  -- what stands beside an element, in lists that stand beside one another
+  beside : (xs : List A) (x : A) (ys : List A) (zs : List B) (d : B) → AllZip R (xs ++ x ∷ ys) zs → R x (get_or zs (length xs) d)
+  beside [] x ys [] d h = absurd h
+  beside [] x ys (z ∷ zs) d h = h.0
+  beside (w ∷ xs) x ys [] d h = absurd h
+  beside (w ∷ xs) x ys (z ∷ zs) d h = beside xs x ys zs d h.1
+
+  within : (xs : List A) (x : A) (ys : List A) (zs : List B) → AllZip R (xs ++ x ∷ ys) zs → length xs < length zs
+  within [] x ys [] h = absurd h
+  within [] x ys (z ∷ zs) h = omega arith
+  within (w ∷ xs) x ys [] h = absurd h
+  within (w ∷ xs) x ys (z ∷ zs) h = omega (arith, within xs x ys zs h.1)
+
+module _ (bytes : List ℕ) (rs done left : List Report) (r : Report) (os : List (Option Position))
+    (split : rs ≡ done ++ r ∷ left) (all : AllZip (IsPositionAt bytes) (map place_in_report rs) os) where
+  places : AllZip (IsPositionAt bytes) (map place_in_report done ++ place_in_report r ∷ map place_in_report left) os
+  places = subst (λ l. AllZip (IsPositionAt bytes) l os) (ap (map place_in_report) split ∙ map-append place_in_report done (r ∷ left)) all
+
+  -- the next report has a position
+  pub next_within : length done < length os
+  next_within =
+      subst (λ n. n < length os) (length-map done place_in_report)
+      (within (IsPositionAt bytes) (map place_in_report done) (place_in_report r) (map place_in_report left) os places)
+
+  -- which is its own
+  pub next_beside : (d : Option Position) → IsPositionAt bytes (place_in_report r) (get_or os (length done) d)
+  next_beside d =
+      subst (λ n. IsPositionAt bytes (place_in_report r) (get_or os n d)) (length-map done place_in_report)
+      (beside (IsPositionAt bytes) (map place_in_report done) (place_in_report r) (map place_in_report left) os d places)
+
+-- a report at its position is a finding that is placed
+pub placed_at : (bytes : List ℕ) (f : Finding) (r : Report) (o : Option Position) → finds f ≡ found (statement_of r)
+    → f.position ≡ o → IsPositionAt bytes (place_in_report r) o → IsPlaced bytes f
+placed_at bytes f r o e p h =
+    subst (λ q. IfSome q (λ at. IsPositionAt bytes at f.position)) (sym (ap (λ s. s.0) e))
+    (subst (λ q. IsPositionAt bytes (place_in_report r) q) (sym p) h)
+
+finds_each : (rs : List Report) → map (λ r. found (statement_of r)) rs ≡ map found (map statement_of rs)
+finds_each [] = refl
+finds_each (r ∷ rs) = ap (λ l. found (statement_of r) ∷ l) (finds_each rs)
+
+-- findings in any order state what reports do
+pub all_found : (ss : List Statement) (rs : List Report) (ps fs : List Finding) → map statement_of rs ≡ ss
+    → map finds ps ≡ map (λ r. found (statement_of r)) rs → IsPermutation ps fs → IsPermutation (map found ss) (map finds fs)
+all_found ss rs ps fs e h p =
+    subst (λ l. IsPermutation l (map finds fs)) (h ∙ finds_each rs ∙ ap (map found) e) (IsPermutation-map finds ps fs p)

@@ -1,0 +1,74 @@
+-- The findings of a text: what is to be reported of it, each at its position, in the order of the text.
+use Rattle.std.specs.Prelude.{◌≡◌, ◌⊎◌, ℕ, Bool, cond, List, [], ◌∷◌, ◌++◌, All, Option, Some, None, IfSome, map, option_map}
+use Rattle.std.specs.List.Sorted.{IsNonDecreasingBy, IsPermutation}
+use Rattle.openapi_json.specs.Ordered.{IsTreeInOrder}
+use Rattle.openapi_json.specs.Positions.{IsPositionAt}
+use Rattle.openapi_json.specs.Reading.{Explains}
+use Rattle.openapi_json.specs.declared.fault.JsonFault.TheVariants as unread
+use Rattle.openapi_json.specs.declared.position.Point.{Point}
+use Rattle.openapi_json.specs.declared.position.Position.{Position}
+use Rattle.openapi_node.specs.Fault.{place_of, step_of}
+use Rattle.openapi_node.specs.Place.{Place}
+use Rattle.openapi_node.specs.Tree.{Tree}
+use Rattle.openapi_node.specs.declared.fault.Fault.{Fault}
+use Rattle.openapi_findings.specs.Stated.{Statement, is_about_member, stated_in, unresolved_at}
+use Rattle.openapi_findings.specs.declared.code.Code.{Code}
+use Rattle.openapi_findings.specs.declared.code.Code.TheVariants as code
+use Rattle.openapi_findings.specs.declared.finding.Finding.{Finding}
+
+-- the location of a finding, if it has one
+abbrev pub place_in : Finding → Option Place
+place_in f = option_map (λ p. map step_of p.items) f.place
+
+-- what a finding states
+abbrev pub finds : Finding → Option Place × Code
+finds f = (place_in f, f.code)
+
+-- the same of a statement
+abbrev pub found : Statement → Option Place × Code
+found s = (Some s.0, s.1)
+
+-- the point of a name if there is one and it is asked for, and else that of a value
+abbrev pub name_or_value : Bool → Option Point → Point → Point
+name_or_value b None p = p
+name_or_value b (Some q) p = cond b q p
+
+-- the point at which a finding is shown: that of the name if it is about a member as a whole
+abbrev pub point_of : Finding → Option Point
+point_of f = option_map (λ p. name_or_value (is_about_member f.code) p.name p.value) f.position
+
+-- its offset
+abbrev pub offset_in : Option Point → ℕ
+offset_in None = 0
+offset_in (Some p) = p.offset
+
+abbrev pub offset_of : Finding → ℕ
+offset_of f = offset_in (point_of f)
+
+-- a finding with a location has the position that the text has there
+abbrev pub IsPlaced : List ℕ → Finding → Type 0
+IsPlaced bytes f = IfSome (place_in f) (λ p. IsPositionAt bytes p f.position)
+
+-- the findings of a document: they state what is to be reported of it, and which references lead to no value
+pub record AreOfDocument (bytes : List ℕ) (fs : List Finding) : Type 0 where
+  pub tree : Tree
+  pub reads : IsTreeInOrder bytes tree
+  pub unresolved : List Place
+  pub all : IsPermutation (map found (stated_in tree ++ map unresolved_at unresolved)) (map finds fs)
+
+-- the one finding of a text that is no JSON
+pub record AreOfNoJson (bytes : List ℕ) (fs : List Finding) : Type 0 where
+  pub unread : Explains bytes unread.NotJson
+  pub one : map finds fs ≡ (None, code.NotJson) ∷ []
+
+-- the one finding of a text with a number that is not whole
+pub record AreOfFraction (bytes : List ℕ) (fs : List Finding) : Type 0 where
+  pub fault : Fault
+  pub unread : Explains bytes (unread.NotWhole fault)
+  pub one : map finds fs ≡ (Some (place_of fault), code.NotWhole) ∷ []
+
+-- the findings of a text, each at its position, and none before another one that is shown before it
+pub record AreFindings (bytes : List ℕ) (fs : List Finding) : Type 0 where
+  pub stated : AreOfDocument bytes fs ⊎ AreOfNoJson bytes fs ⊎ AreOfFraction bytes fs
+  pub placed : All (IsPlaced bytes) fs
+  pub in_order : IsNonDecreasingBy offset_of fs

@@ -1,0 +1,106 @@
+-- What is to be reported of a document: codes, each at a location.
+use Rattle.std.specs.Prelude.{ℕ, Bool, true, false, cond, List, [], ◌∷◌, ◌++◌, Option, Some, None, codes, map, option_and_then}
+use Rattle.openapi_node.specs.Fault.{step_of}
+use Rattle.openapi_node.specs.Place.{Place, named}
+use Rattle.openapi_node.specs.Tree.{Tree, object, Members, find, text_in}
+use Rattle.openapi_tables.specs.Faults.{Cause, missing, missing_either, wrong_kind, not_allowed, unknown_variant}
+use Rattle.openapi_tables.specs.Kind.{begins, by, open_api}
+use Rattle.openapi_tables.specs.Lists.{each}
+use Rattle.openapi_tables.specs.Tables.{final_tables}
+use Rattle.openapi_faults.specs.Dropped.{dropped_in}
+use Rattle.openapi_faults.specs.Told.{told}
+use Rattle.openapi_faults.specs.declared.dropped.DropReason.{DropReason}
+use Rattle.openapi_faults.specs.declared.dropped.DropReason.TheVariants as reason
+use Rattle.openapi_findings.specs.declared.code.Code.{Code}
+use Rattle.openapi_findings.specs.declared.code.Code.TheVariants as code
+use Rattle.openapi_findings.specs.declared.code.Severity.{Severity}
+use Rattle.openapi_findings.specs.declared.code.Severity.TheVariants as severity
+use Rattle.openapi_findings.specs.declared.report.Report.{Report}
+
+-- how severe the findings of a code are
+abbrev pub severity_of : Code → Severity
+severity_of code.UnknownMember = severity.Warning
+severity_of code.BesideRef = severity.Warning
+severity_of code.SecondOfTwo = severity.Warning
+severity_of code.UnresolvedReference = severity.Warning
+severity_of c = severity.Error
+
+-- whether the findings of a code are about a member as a whole, with its name
+abbrev pub is_about_member : Code → Bool
+is_about_member code.UnknownMember = true
+is_about_member code.BesideRef = true
+is_about_member code.SecondOfTwo = true
+is_about_member c = false
+
+-- a location, and what is to be reported there
+abbrev pub Statement : Type 0
+Statement = Place × Code
+
+-- the location of a report, and what it states
+abbrev pub place_in_report : Report → Place
+place_in_report r = map step_of r.place.items
+
+abbrev pub statement_of : Report → Statement
+statement_of r = (place_in_report r, r.code)
+
+-- ---- the version
+
+-- the text of the member of a name
+abbrev pub text_at : List ℕ → Members → Option (List ℕ)
+text_at n ms = option_and_then text_in (find n ms)
+
+abbrev pub version_at : List ℕ → List Statement
+version_at n = (named n ∷ [], code.Version) ∷ []
+
+-- what the texts of `swagger` and of `openapi` state
+abbrev pub versions : Option (List ℕ) → Option (List ℕ) → List Statement
+versions (Some s) o = version_at (codes "swagger")
+versions None None = []
+versions None (Some v) = cond (begins (codes "3.0.") v) [] (version_at (codes "openapi"))
+
+-- a document of another version than 3.0.x: one with a text under `swagger`, or else one with another text under `openapi`
+abbrev pub version_in : Tree → List Statement
+version_in (object ms) = versions (text_at (codes "swagger") ms) (text_at (codes "openapi") ms)
+version_in t = []
+
+-- ---- faults
+
+-- the code of a cause; one that is none of the tables' has that of a value which is not allowed
+abbrev pub cause_code : Option Cause → Code
+cause_code (Some (missing n)) = code.MissingMember
+cause_code (Some (missing_either n m)) = code.MissingEither
+cause_code (Some (wrong_kind w)) = code.WrongType
+cause_code (Some not_allowed) = code.ValueNotAllowed
+cause_code (Some unknown_variant) = code.UnknownValue
+cause_code None = code.ValueNotAllowed
+
+abbrev pub fault_stated : Place × Cause → Statement
+fault_stated f = (f.0, cause_code (Some f.1))
+
+abbrev pub faults_in : Tree → List Statement
+faults_in t = each fault_stated (told final_tables (by open_api) t)
+
+-- ---- members that have no effect
+
+abbrev pub reason_code : DropReason → Code
+reason_code reason.UnknownMember = code.UnknownMember
+reason_code reason.SecondOfTwo = code.SecondOfTwo
+reason_code reason.BesideReference = code.BesideRef
+
+abbrev pub dropped_stated : Place × DropReason → Statement
+dropped_stated d = (d.0, reason_code d.1)
+
+abbrev pub losses_in : Tree → List Statement
+losses_in t = map dropped_stated (dropped_in (by open_api) t)
+
+-- ---- references
+
+-- that a reference leads to no value
+abbrev pub unresolved_at : Place → Statement
+unresolved_at p = (p, code.UnresolvedReference)
+
+-- ---- all that is to be reported
+
+-- what is to be reported of a document, beside the references that lead to no value
+abbrev pub stated_in : Tree → List Statement
+stated_in t = version_in t ++ faults_in t ++ losses_in t

@@ -529,7 +529,7 @@ class Runner:
         if "input" not in how:
             how.setdefault("stdin", subprocess.DEVNULL)
         ran = subprocess.run([self.program, *words], **how)
-        return ran.returncode, *(it and it.decode() for it in (ran.stdout, ran.stderr))
+        return ran.returncode, *(it if it is None else it.decode() for it in (ran.stdout, ran.stderr))
 
     def compare(self, what, came, wanted):
         if came == wanted:
@@ -572,8 +572,8 @@ def test_syntax(runner):
         source = others[0] if others else content.split(b"\n")[line - 1].decode(errors="ignore").removeprefix("\ufeff")
         if content.startswith(b"\xef\xbb\xbf"):
             source = "\ufeff" + source
-        if len(source) > 130:
-            # 127 characters before the mark: of these the last 80 are shown, and 60 from the mark on
+        if len(source) > 140:
+            # of a long line the last 80 characters before the mark are shown, and 60 from the mark on
             source = "..." + source[column - 81:column + 59] + "..."
         mark = 84 if source.startswith("...") else column
         output = shown("error", "not-json", message, file, line, column, source, help=help, mark=mark)
@@ -612,6 +612,12 @@ def test_lines(runner):
     at = long.index('"wat"')
     output = warning(file, "..." + long[at - 80:at + 60] + "...", 1, at + 1, 84)
     runner.check("a long line", ["check", file], 0, output, summary(0, 1))
+    # of 140 bytes a line is shown as a whole, and of one more it is not
+    for size in (140, 141):
+        line = '  "wat": "' + "x" * (size - 11) + '"'
+        file = runner.write(f"line{size}.json", document(line.strip()))
+        source = line if size == 140 else line[:62] + "..."
+        runner.check(f"a line of {size} bytes", ["check", file], 0, warning(file, source), summary(0, 1))
     # ten lines and more make the margin wider
     file = runner.write("lines.json", "\n" * 95 + wat)
     runner.check("a line with three digits", ["check", file], 0, warning(file, line=100), summary(0, 1))

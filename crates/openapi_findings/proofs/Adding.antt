@@ -48,11 +48,15 @@ pub faults_state : (fs : List Fault) (cs : List (Place × Cause)) → map fault_
     → map stated_of fs ≡ each fault_stated cs
 faults_state fs cs e = states_in fs ∙ ap (map (λ (p : Place × Option Cause). (p.0, cause_code p.1))) e ∙ states_known cs
 
--- and so do members that have no effect
+-- what a member that has no effect states
+abbrev pub loss_of : Dropped → Statement
+loss_of d = dropped_stated (dropped_of d)
+
+losses_in : (ds : List Dropped) → map loss_of ds ≡ map dropped_stated (map dropped_of ds)
+losses_in [] = refl
+losses_in (d ∷ ds) = ap (λ l. loss_of d ∷ l) (losses_in ds)
+
+-- members that have no effect state what the definitions say
 pub losses_state : (ds : List Dropped) (es : List (Place × DropReason)) → map dropped_of ds ≡ es
-    → map (λ d. dropped_stated (dropped_of d)) ds ≡ map dropped_stated es
-losses_state ds es e = states ds ∙ ap (map dropped_stated) e
-  where
-  states : (ds : List Dropped) → map (λ d. dropped_stated (dropped_of d)) ds ≡ map dropped_stated (map dropped_of ds)
-  states [] = refl
-  states (d ∷ ds) = ap (λ l. dropped_stated (dropped_of d) ∷ l) (states ds)
+    → map loss_of ds ≡ map dropped_stated es
+losses_state ds es e = losses_in ds ∙ ap (map dropped_stated) e

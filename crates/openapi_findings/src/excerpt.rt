@@ -3,7 +3,10 @@ ghost use Rattle.std.specs.Prelude.{◌≤◌, length};
 
 use crate::text_point::text_of;
 
-/// How many characters of a line are shown before a point, and from it on.
+/// A line of so many bytes is shown as a whole.
+const WIDTH: usize = 140;
+
+/// How many characters are shown of a longer line before a point, and from it on.
 const BEFORE: usize = 80;
 const AFTER: usize = 60;
 
@@ -22,8 +25,20 @@ impl Excerpt<'_> {
     /// Returns the part of a line around an offset of a text. The cost does not depend on how long the line is.
     pub(crate) fn around(bytes: &[u8], offset: usize) -> Excerpt<'_> {
         let offset = offset.min(bytes.len());
-        let start = start_of(bytes, offset);
-        let end = end_of(bytes, offset);
+        let wide = Excerpt::within(bytes, offset, WIDTH, WIDTH);
+        if wide.is_whole() && wide.before.len().saturating_add(wide.after.len()) <= WIDTH {
+            wide
+        } else {
+            Excerpt::within(bytes, offset, BEFORE, AFTER)
+        }
+    }
+
+    /// Returns the part of a line with so many characters before an offset, and from it on.
+    fn within(bytes: &[u8], offset: usize, before: usize, after: usize) -> Excerpt<'_>
+        requires { offset ≤ length bytes.now }
+    {
+        let start = start_of(bytes, offset, before);
+        let end = end_of(bytes, offset, after);
         Excerpt {
             before: text_of(&bytes[start..offset]),
             after: without_return(text_of(&bytes[offset..end])),
@@ -31,10 +46,15 @@ impl Excerpt<'_> {
             is_cut_after: end < bytes.len() && bytes[end] != b'\n',
         }
     }
+
+    /// Returns whether it is the whole line.
+    fn is_whole(&self) -> bool {
+        !self.is_cut_before && !self.is_cut_after
+    }
 }
 
-/// Returns where the part begins that is shown before an offset.
-fn start_of(bytes: &[u8], offset: usize) -> usize
+/// Returns where the last so many characters of a line before an offset begin.
+fn start_of(bytes: &[u8], offset: usize, limit: usize) -> usize
     requires { offset ≤ length bytes.now }
     ensures { result ≤ offset }
 {
@@ -42,7 +62,7 @@ fn start_of(bytes: &[u8], offset: usize) -> usize
     let mut count = 0;
     for i in 0..offset {
         let byte = bytes[offset - 1 - i];
-        if byte == b'\n' || count == BEFORE {
+        if byte == b'\n' || count == limit {
             return start;
         }
         start = offset - 1 - i;
@@ -53,8 +73,8 @@ fn start_of(bytes: &[u8], offset: usize) -> usize
     start
 }
 
-/// Returns where the part ends that is shown from an offset on.
-fn end_of(bytes: &[u8], offset: usize) -> usize
+/// Returns where the first so many characters of a line from an offset on end.
+fn end_of(bytes: &[u8], offset: usize, limit: usize) -> usize
     requires { offset ≤ length bytes.now }
     ensures { (offset ≤ result) × (result ≤ length bytes.now) }
 {
@@ -65,7 +85,7 @@ fn end_of(bytes: &[u8], offset: usize) -> usize
             return i;
         }
         if begins_character(byte) {
-            if count == AFTER {
+            if count == limit {
                 return i;
             }
             count += 1;

@@ -5,6 +5,7 @@ use std::alloc::{AllocError, Global};
 use strsim::osa_distance;
 
 /// The search for the name that is nearest to an unknown one.
+#[derive(Drop)]
 struct Search<'a> {
     unknown: &'a str,
     name: Option<&'static str>,

@@ -46,7 +46,7 @@ impl AsText<'_> {
             line,
             column,
         } = point;
-        let margin = digits(line) + 1;
+        let margin = digits(line).saturating_add(1);
         write_spaces(f, margin)?;
         f.write_str("--> ")?;
         Escape::Terminal.write(f, self.file)?;
@@ -147,14 +147,14 @@ fn write_spaces<W: fmt::Write>(f: &mut fmt::Formatter<W>, count: usize) -> fmt::
 
 /// Returns how many digits a number has.
 fn digits(number: usize) -> usize {
-    let mut digits = 1;
+    let mut digits = 1usize;
     let mut rest = number / 10;
     for _ in 0..20 {
         if rest == 0 {
             break;
         }
         rest /= 10;
-        digits += 1;
+        digits = digits.saturating_add(1);
     }
     digits
 }

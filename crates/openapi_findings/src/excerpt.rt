@@ -59,7 +59,7 @@ fn start_of(bytes: &[u8], offset: usize, limit: usize) -> usize
     ensures { result ≤ offset }
 {
     let mut start = offset;
-    let mut count = 0;
+    let mut count = 0usize;
     for i in 0..offset {
         let byte = bytes[offset - 1 - i];
         if byte == b'\n' || count == limit {
@@ -67,7 +67,7 @@ fn start_of(bytes: &[u8], offset: usize, limit: usize) -> usize
         }
         start = offset - 1 - i;
         if begins_character(byte) {
-            count += 1;
+            count = count.saturating_add(1);
         }
     }
     start
@@ -78,7 +78,7 @@ fn end_of(bytes: &[u8], offset: usize, limit: usize) -> usize
     requires { offset ≤ length bytes.now }
     ensures { (offset ≤ result) × (result ≤ length bytes.now) }
 {
-    let mut count = 0;
+    let mut count = 0usize;
     for i in offset..bytes.len() {
         let byte = bytes[i];
         if byte == b'\n' {
@@ -88,7 +88,7 @@ fn end_of(bytes: &[u8], offset: usize, limit: usize) -> usize
             if count == limit {
                 return i;
             }
-            count += 1;
+            count = count.saturating_add(1);
         }
     }
     bytes.len()

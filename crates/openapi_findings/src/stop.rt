@@ -1,4 +1,6 @@
 //! Where a text stops being JSON.
+ghost use Rattle.std.specs.Prelude.{◌≤◌, length};
+
 use crate::nesting::{Nesting, Open};
 use json::{Reader, Scratch};
 use std::alloc::{AllocError, Global};
@@ -92,7 +94,9 @@ fn last_colon(bytes: &[u8], end: usize) -> usize {
 }
 
 /// Returns how many bytes there are up to the last one that is no white space.
-pub(crate) fn trimmed_len(bytes: &[u8]) -> usize {
+pub(crate) fn trimmed_len(bytes: &[u8]) -> usize
+    ensures { result ≤ length bytes.now }
+{
     match bytes.iter().rposition(|byte| !is_space(*byte)) {
         Some(offset) => offset + 1,
         None => 0,

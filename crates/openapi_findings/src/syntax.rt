@@ -1,5 +1,5 @@
 //! The finding of a text that is no JSON.
-ghost use Rattle.std.specs.Prelude.{◌≡◌, None, IfOk};
+ghost use Rattle.std.specs.Prelude.{◌≡◌, ◌<◌, length, None, IfOk};
 ghost use Rattle.openapi_findings.specs.Findings.{finds};
 
 use crate::code::Code;
@@ -156,7 +156,9 @@ fn is_of_word(byte: u8) -> bool {
 }
 
 /// Returns the error in the text that begins at an offset.
-fn bad_text(alloc: Global, bytes: &[u8], offset: usize) -> Result<SyntaxError, AllocError> {
+fn bad_text(alloc: Global, bytes: &[u8], offset: usize) -> Result<SyntaxError, AllocError>
+    requires { offset < length bytes.now }
+{
     let mut is_escaped = false;
     for i in offset + 1..bytes.len() {
         match bytes[i] {

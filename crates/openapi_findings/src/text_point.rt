@@ -1,9 +1,13 @@
 //! The line and the column of an offset.
+ghost use Rattle.openapi_json.specs.Positions.{IsBehind};
+
 use openapi_json::Point;
 
 /// Returns the point behind the first bytes of a text, as an editor counts: a line ends with a line feed, and each character is one
 /// column.
-pub(crate) fn point_behind(bytes: &[u8]) -> Point {
+pub(crate) fn point_behind(bytes: &[u8]) -> Point
+    ensures { IsBehind bytes.now result }
+{
     let mut line = 1;
     let mut column = 1;
     for byte in bytes {

@@ -31,6 +31,12 @@ module _ {X Y : Type 0} (f : X → Y) where
       adds_then old mid new (map g done) (g e ∷ []) h (adds_one mid new x (g e) n s)
       ∙ ap (λ l. map f old ++ l) (sym (map-append g done (e ∷ [])))
 
+  -- what is appended to an empty list, in four steps
+  pub adds_all : (l r1 r2 r3 r4 : List X) (as' bs cs ds : List Y) → l ≡ [] → Adds f l r1 as' → Adds f r1 r2 bs → Adds f r2 r3 cs
+      → Adds f r3 r4 ds → map f r4 ≡ as' ++ bs ++ cs ++ ds
+  adds_all l r1 r2 r3 r4 as' bs cs ds e a b c d =
+      d ∙ ap (λ z. z ++ ds) (c ∙ ap (λ z. z ++ cs) (b ∙ ap (λ z. z ++ bs) (a ∙ ap (λ z. map f z ++ as') e)))
+
 -- what a fault states
 abbrev pub stated_of : Fault → Statement
 stated_of f = (place_of f, cause_code (cause_in f.cause))

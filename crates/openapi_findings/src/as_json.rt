@@ -27,7 +27,10 @@ impl fmt::Display for AsJson<'_> {
         self.write_pointer(f)?;
         let severity = finding.severity();
         let code = finding.code;
-        write!(f, ",\"severity\":\"{severity}\",\"code\":\"{code}\",\"message\":")?;
+        write!(
+            f,
+            ",\"severity\":\"{severity}\",\"code\":\"{code}\",\"message\":"
+        )?;
         write_string(f, finding.message.as_str())?;
         f.write_str(",\"help\":")?;
         match &finding.help {

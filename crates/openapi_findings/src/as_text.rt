@@ -121,11 +121,7 @@ fn mark_column(excerpt: &Excerpt<'_>) -> usize {
 }
 
 /// Writes the beginning of a line behind the lines of the text.
-fn write_note<W: fmt::Write>(
-    f: &mut fmt::Formatter<W>,
-    margin: usize,
-    label: &str,
-) -> fmt::Result {
+fn write_note<W: fmt::Write>(f: &mut fmt::Formatter<W>, margin: usize, label: &str) -> fmt::Result {
     write_spaces(f, margin)?;
     f.write_str(" = ")?;
     f.write_str(label)

@@ -32,11 +32,7 @@ use std::alloc::{AllocError, Global};
 /// # Errors
 ///
 /// `AllocError` when memory runs out.
-pub fn findings(
-    alloc: Global,
-    bytes: &[u8],
-    steps: &mut Steps,
-) -> Result<Vec<Finding>, AllocError>
+pub fn findings(alloc: Global, bytes: &[u8], steps: &mut Steps) -> Result<Vec<Finding>, AllocError>
     ensures { IfOk result (λ v. AreFindings bytes.now v.items) }
 {
     match read_node(alloc, bytes) {
@@ -111,11 +107,7 @@ fn not_whole(alloc: Global, fault: Fault) -> Result<Report, AllocError>
 }
 
 /// Returns what there is to report of a document.
-fn reports_of(
-    alloc: Global,
-    document: &Node,
-    steps: &mut Steps,
-) -> Result<Vec<Report>, AllocError>
+fn reports_of(alloc: Global, document: &Node, steps: &mut Steps) -> Result<Vec<Report>, AllocError>
     ensures { IfOk result (λ v. (ps : List Place)
         × (map statement_of v.items ≡ stated_in document.now ++ map unresolved_at ps)) }
 {
@@ -128,11 +120,7 @@ fn reports_of(
 }
 
 /// Returns each report as a finding at its position.
-fn placed(
-    alloc: Global,
-    bytes: &[u8],
-    reports: Vec<Report>,
-) -> Result<Vec<Finding>, AllocError>
+fn placed(alloc: Global, bytes: &[u8], reports: Vec<Report>) -> Result<Vec<Finding>, AllocError>
     ensures finds { IfOk result (λ v. map finds v.items ≡ map (λ r. found (statement_of r)) reports.items) }
     ensures placed { IfOk result (λ v. All (IsPlaced bytes.now) v.items) }
 {

@@ -77,10 +77,8 @@ impl Code {
         ensures { result ≡ severity_of self }
     {
         match self {
-            Code::UnknownMember
-            | Code::BesideRef
-            | Code::SecondOfTwo
-            | Code::UnresolvedReference => Severity::Warning,
+            Code::UnknownMember | Code::BesideRef | Code::SecondOfTwo | Code::UnresolvedReference =>
+                Severity::Warning,
             _ => Severity::Error,
         }
     }

@@ -99,7 +99,10 @@ fn help_for(
 ) -> Result<Option<String>, AllocError> {
     match why {
         DropReason::BesideReference => {
-            let help = String::from_str(alloc, "remove it, or move it to the value that `$ref` leads to")?;
+            let help = String::from_str(
+                alloc,
+                "remove it, or move it to the value that `$ref` leads to",
+            )?;
             Ok(Some(help))
         }
         DropReason::SecondOfTwo => other_help(alloc, fields, name),
@@ -143,7 +146,8 @@ fn unknown_help(
 /// Returns which names there may be beside those of the fields.
 fn class_help(class: Option<Class>) -> &'static str {
     match class {
-        Some(Class::PathNames) => "the name of a path begins with `/`, and that of an extension with `x-`",
+        Some(Class::PathNames) =>
+            "the name of a path begins with `/`, and that of an extension with `x-`",
         Some(Class::StatusNames) => {
             "the name of a response is a status code, a range such as `4XX`, or `default`"
         }

@@ -17,11 +17,7 @@ pub(crate) enum Escape {
 
 impl Escape {
     /// Writes a text.
-    pub(crate) fn write<W: fmt::Write>(
-        self,
-        f: &mut fmt::Formatter<W>,
-        text: &str,
-    ) -> fmt::Result {
+    pub(crate) fn write<W: fmt::Write>(self, f: &mut fmt::Formatter<W>, text: &str) -> fmt::Result {
         for c in text.chars() {
             self.write_char(f, c)?;
         }

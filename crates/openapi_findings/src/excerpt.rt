@@ -8,6 +8,7 @@ const WIDTH: usize = 140;
 
 /// How many characters are shown of a longer line before a point, and from it on.
 const BEFORE: usize = 80;
+
 const AFTER: usize = 60;
 
 /// The part of a line around a point of it.

@@ -156,10 +156,7 @@ fn kind_by(row: Row, name: &str) -> Option<Kind> {
         | Row::Listed(own, kind)
         | Row::Styled(own, _, kind)
         | Row::Format(own, kind)
-            if own == name =>
-        {
-            Some(kind)
-        }
+            if own == name => { Some(kind) }
         Row::Flag(own) if own == name => Some(Kind::Flag),
         Row::Either(first, kind, _, _) if first == name => Some(kind),
         Row::Either(_, _, second, kind) if second == name => Some(kind),

@@ -1,9 +1,7 @@
 //! Which value was found, and which ones are allowed in its place, in words.
 use openapi_faults::{Kind, Limits};
 use openapi_node::View;
-use openapi_values::{
-    APIKeyLocation, CookieStyle, HeaderStyle, PathStyle, QueryStyle, Word,
-};
+use openapi_values::{APIKeyLocation, CookieStyle, HeaderStyle, PathStyle, QueryStyle, Word};
 use std::fmt;
 
 /// How many characters are shown of a text.
@@ -47,9 +45,7 @@ impl fmt::Display for Allowed {
     fn fmt<W: fmt::Write>(&self, f: &mut fmt::Formatter<W>) -> fmt::Result {
         match self.0 {
             Kind::Number(limits) | Kind::NumberOrNull(limits) => write_limits(f, limits),
-            Kind::ParameterTag => {
-                write_words(f, &["query", "header", "path", "cookie"])
-            }
+            Kind::ParameterTag => { write_words(f, &["query", "header", "path", "cookie"]) }
             Kind::SecuritySchemeTag => write_words(
                 f,
                 &["apiKey", "http", "oauth2", "openIdConnect"],

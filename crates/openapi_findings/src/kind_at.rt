@@ -30,11 +30,7 @@ pub(crate) fn asked_at<'a>(
 }
 
 /// Returns the value one step below, with its kind.
-fn asked_below<'a>(
-    asked: Asked<'a>,
-    step: &PlaceStep,
-    steps: &mut Steps,
-) -> Option<Asked<'a>> {
+fn asked_below<'a>(asked: Asked<'a>, step: &PlaceStep, steps: &mut Steps) -> Option<Asked<'a>> {
     match (asked.node.open(steps), step) {
         (View::Object(members), PlaceStep::Name(name)) => Some(Asked {
             kind: member_kind(asked.kind, members, name.as_str(), steps)?,

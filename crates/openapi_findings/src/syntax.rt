@@ -62,7 +62,12 @@ fn syntax_error(alloc: Global, bytes: &[u8]) -> Result<SyntaxError, AllocError> 
     };
     if bytes.starts_with(BYTE_ORDER_MARK) {
         let help = "save the file in UTF-8 without a byte order mark";
-        return plain_error(alloc, 0, "expected a value, found a byte order mark", Some(help));
+        return plain_error(
+            alloc,
+            0,
+            "expected a value, found a byte order mark",
+            Some(help),
+        );
     }
     if trimmed_len(bytes) == 0 {
         return plain_error(alloc, 0, "the file is empty", None);
@@ -142,7 +147,11 @@ fn word_at(bytes: &[u8], offset: usize) -> &str {
     let start = offset.min(bytes.len());
     let end = trimmed_len(bytes).max(start).min(bytes.len());
     let rest = &bytes[start..end];
-    let len = match rest.iter().take(LONGEST).position(|byte| !is_of_word(*byte)) {
+    let len = match rest
+        .iter()
+        .take(LONGEST)
+        .position(|byte| !is_of_word(*byte))
+    {
         Some(0) => 1,
         Some(len) => len,
         None => rest.len().min(LONGEST),
@@ -164,7 +173,12 @@ fn bad_text(alloc: Global, bytes: &[u8], offset: usize) -> Result<SyntaxError, A
         match bytes[i] {
             b'\n' | b'\r' => {
                 let help = "close it with `\"`, or write the line break as `\\n`";
-                return plain_error(alloc, offset, "a string is not closed on its line", Some(help));
+                return plain_error(
+                    alloc,
+                    offset,
+                    "a string is not closed on its line",
+                    Some(help),
+                );
             }
             0..=0x1F => {
                 let help = "write it as an escape, such as `\\t` or `\\u001f`";
@@ -208,7 +222,9 @@ fn help_at(bytes: &[u8], offset: usize, expected: Expected) -> Option<&'static s
         }
         [b'/' | b'#', ..] => Some("JSON has no comments: remove it"),
         [b'\'', ..] => Some("write strings in double quotes"),
-        [byte, ..] if expected.is_name() && is_of_word(*byte) => Some("write names in double quotes"),
+        [byte, ..] if expected.is_name() && is_of_word(*byte) => Some(
+            "write names in double quotes",
+        ),
         _ => None,
     }
 }

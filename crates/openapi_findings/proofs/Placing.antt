@@ -1,5 +1,5 @@
 -- Findings at their positions, in the order in which they are shown.
-use Rattle.std.proofs.Common.{◌≡◌, ℕ, suc, ◌<◌, List, [], ◌∷◌, ◌++◌, All, Option, Some, length, get_or, map, sym, ap, ◌∙◌, subst, refl, arith}
+use Rattle.std.proofs.Common.{◌≡◌, ℕ, ◌<◌, ◌≤◌, List, [], ◌∷◌, ◌++◌, Option, Result, Ok, Err, IfOk, length, get_or, map, sym, ap, ◌∙◌, subst, refl, arith}
 use Rattle.std.proofs.lemmas.List.{length-map, map-append}
 use Rattle.std.proofs.lemmas.List.Sorted.{IsPermutation-map}
 use Rattle.std.specs.List.{AllZip}
@@ -10,6 +10,7 @@ use Rattle.openapi_json.specs.declared.position.Position.{Position}
 use Rattle.openapi_node.specs.Place.{Place}
 use Rattle.openapi_findings.specs.Findings.{IsPlaced, finds, found}
 use Rattle.openapi_findings.specs.Stated.{Statement, place_in_report, statement_of}
+use Rattle.openapi_findings.specs.declared.code.Code.{Code}
 use Rattle.openapi_findings.specs.declared.finding.Finding.{Finding}
 use Rattle.openapi_findings.specs.declared.report.Report.{Report}
 
@@ -45,11 +46,46 @@ module _ (bytes : List ℕ) (rs done left : List Report) (r : Report) (os : List
       (beside (IsPositionAt bytes) (map place_in_report done) (place_in_report r) (map place_in_report left) os d places)
 
 -- a report at its position is a finding that is placed
-pub placed_at : (bytes : List ℕ) (f : Finding) (r : Report) (o : Option Position) → finds f ≡ found (statement_of r)
+placed_at : (bytes : List ℕ) (f : Finding) (r : Report) (o : Option Position) → finds f ≡ found (statement_of r)
     → f.position ≡ o → IsPositionAt bytes (place_in_report r) o → IsPlaced bytes f
 placed_at bytes f r o e p h =
     subst (λ q. IfSome q (λ at. IsPositionAt bytes at f.position)) (sym (ap (λ s. s.0) e))
     (subst (λ q. IsPositionAt bytes (place_in_report r) q) (sym p) h)
+
+-- the next report, at the position beside it, is a finding that is placed
+pub next_placed : (bytes : List ℕ) (rs done left : List Report) (r : Report) (os : List (Option Position)) (f : Finding) (i : ℕ)
+    (d : Option Position) → rs ≡ done ++ r ∷ left → AllZip (IsPositionAt bytes) (map place_in_report rs) os → i ≡ length done
+    → finds f ≡ found (statement_of r) → f.position ≡ get_or os i d → IsPlaced bytes f
+next_placed bytes rs done left r os f i d split all e is at =
+    placed_at bytes f r (get_or os i d) is at
+    (subst (λ n. IsPositionAt bytes (place_in_report r) (get_or os n d)) (sym e) (next_beside bytes rs done left r os split all d))
+
+-- positions beside reports, where both are lent as slices
+pub in_slices : (bytes : List ℕ) (rs ss : List Report) (os ps : List (Option Position)) → ss ≡ rs → ps ≡ os
+    → AllZip (IsPositionAt bytes) (map place_in_report ss) os → AllZip (IsPositionAt bytes) (map place_in_report rs) ps
+in_slices bytes rs ss os ps e f h =
+    subst (λ l. AllZip (IsPositionAt bytes) (map place_in_report l) ps) e
+    (subst (λ l. AllZip (IsPositionAt bytes) (map place_in_report ss) l) (sym f) h)
+
+-- what a report states, as a finding does
+abbrev pub states : Report → Option Place × Code
+states r = found (statement_of r)
+
+-- with one more finding
+pub finds_next : (fs gs : List Finding) (f : Finding) (done : List Report) (r : Report) → gs ≡ fs ++ f ∷ []
+    → map finds fs ≡ map states done → finds f ≡ states r → map finds gs ≡ map states (done ++ r ∷ [])
+finds_next fs gs f done r n h s =
+    ap (map finds) n ∙ map-append finds fs (f ∷ []) ∙ ap (λ l. l ++ finds f ∷ []) h ∙ ap (λ y. map states done ++ y ∷ []) s
+    ∙ sym (map-append states done (r ∷ []))
+
+-- a finding that is the only one
+pub one_found : (fs : List Finding) (s : Option Place × Code) → map finds fs ≡ s ∷ [] → length fs ≤ 1
+one_found fs s e = omega (arith, sym (length-map fs finds) ∙ ap length e)
+
+-- two facts of a result lead to a third
+pub if_ok_both : {T E : Type 0} {P Q R : T → Type 0} (r : Result T E) → ((x : T) → P x → Q x → R x) → IfOk r P → IfOk r Q → IfOk r R
+if_ok_both (Ok x) f p q = f x p q
+if_ok_both (Err e) f p q = tt
 
 finds_each : (rs : List Report) → map (λ r. found (statement_of r)) rs ≡ map found (map statement_of rs)
 finds_each [] = refl

@@ -6,7 +6,6 @@ use Rattle.openapi_json.specs.Positions.{IsPositionAt}
 use Rattle.openapi_json.specs.Reading.{Explains}
 use Rattle.openapi_json.specs.declared.fault.JsonFault.TheVariants as unread
 use Rattle.openapi_json.specs.declared.position.Point.{Point}
-use Rattle.openapi_json.specs.declared.position.Position.{Position}
 use Rattle.openapi_node.specs.Fault.{place_of, step_of}
 use Rattle.openapi_node.specs.Place.{Place}
 use Rattle.openapi_node.specs.Tree.{Tree}

@@ -1,9 +1,22 @@
-use Rattle.std.proofs.Common.{◌++◌, map, inl}
+use Rattle.std.proofs.Common.{inl}
 use Rattle.std.proofs.lemmas.List.Sorted.{All-permutation}
 use Rattle.openapi_findings.specs.Findings.{IsPlaced}
-use Rattle.openapi_findings.specs.Stated.{stated_in, unresolved_at}
-use Rattle.openapi_findings.proofs.Placing.{all_found}
+use Rattle.openapi_findings.proofs.Placing.{all_found, if_ok_both}
 use Rattle.openapi_findings.proofs.check.of_document.Goals as goal
 
 pub returns : goal.returns
-returns c = ?
+returns c =
+    let stated = c.in_ok-reports.ensures in
+    let fs = c.in_ok-findings.findings.items in
+    if_ok_both c.sorted.result
+    (λ v p o. record {
+      stated = inl (record {
+        tree = c.args.document.now;
+        reads = c.requires;
+        unresolved = stated.0;
+        all = all_found _ c.in_ok-reports.reports.items fs v.items stated.1 c.in_ok-findings.ensures.finds p;
+      });
+      placed = All-permutation (IsPlaced c.args.bytes.now) fs v.items p c.in_ok-findings.ensures.placed;
+      in_order = o;
+    })
+    c.sorted.ensures.permutation c.sorted.ensures.order

@@ -1,4 +1,4 @@
-use Rattle.std.proofs.Common.{◌≡◌, List, map}
+use Rattle.std.proofs.Common.{List, map}
 use Rattle.openapi_node.specs.Place.{Place}
 use Rattle.openapi_faults.specs.Adds.{Adds}
 use Rattle.openapi_findings.specs.Stated.{statement_of, unresolved_at}

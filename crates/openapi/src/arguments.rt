@@ -54,7 +54,9 @@ fn check_command<'a>(alloc: Global) -> Result<Command<'a>, AllocError> {
                 .value_name("FORMAT")
                 .value_parser(ValueParser::Names(formats))
                 .default_value("text")
-                .help("How findings are printed: for people, as a line of JSON, or as a workflow command of GitHub"),
+                .help(
+                    "How findings are printed: for people, as a line of JSON, or as a workflow command of GitHub",
+                ),
         )?
         .arg(
             Arg::new(alloc, "deny-warnings")
@@ -63,9 +65,9 @@ fn check_command<'a>(alloc: Global) -> Result<Command<'a>, AllocError> {
                 .help("Exits with 1 if there are warnings"),
         )?
         .arg(
-            Arg::new(alloc, "FILE")
-                .num_args(0..)
-                .help("Files in JSON; standard input is `-`, and is read if there is none"),
+            Arg::new(alloc, "FILE").num_args(0..).help(
+                "Files in JSON; standard input is `-`, and is read if there is none",
+            ),
         )
 }
 

@@ -46,7 +46,14 @@ fn check_file(
     match findings(rt.alloc(), bytes.as_slice(), &mut steps) {
         Ok(findings) => {
             tally.add_file(findings.as_slice(), options.deny_warnings);
-            write_findings(rt, options, name, bytes.as_slice(), findings.as_slice(), tally)
+            write_findings(
+                rt,
+                options,
+                name,
+                bytes.as_slice(),
+                findings.as_slice(),
+                tally,
+            )
         }
         Err(AllocError) => {
             report_failure(rt, name, &io::Error::from(AllocError), tally);

@@ -6,6 +6,7 @@ use std::io::Read;
 
 /// The name of standard input as an argument, and in what is printed.
 pub const INPUT: &str = "-";
+
 const INPUT_SHOWN: &str = "<stdin>";
 
 /// Returns the name under which findings of a file are printed.

@@ -1,17 +1,21 @@
 -- What a loop appends to a list of reports.
-use Rattle.std.proofs.Common.{◌≡◌, List, [], ◌∷◌, ◌++◌, Option, map, refl, sym, ap, ◌∙◌, append_assoc}
+use Rattle.std.proofs.Common.{◌≡◌, ℕ, Bool, true, false, List, [], ◌∷◌, ◌++◌, Option, length, map, arith, refl, sym, ap, ◌∙◌, append_assoc}
 use Rattle.std.proofs.lemmas.List.{append-nil, map-append}
 use Rattle.openapi_node.specs.Fault.{place_of}
 use Rattle.openapi_node.specs.Place.{Place}
 use Rattle.openapi_node.specs.declared.fault.Fault.{Fault}
 use Rattle.openapi_tables.specs.Faults.{Cause}
+use Rattle.openapi_tables.specs.Kind.{Kind}
 use Rattle.openapi_tables.specs.Lists.{each}
 use Rattle.openapi_faults.specs.Adds.{Adds}
 use Rattle.openapi_faults.specs.Dropped.{dropped_of}
+use Rattle.openapi_faults.specs.References.{reference_of}
 use Rattle.openapi_faults.specs.Told.{cause_in, fault_in, known}
 use Rattle.openapi_faults.specs.declared.dropped.DropReason.{DropReason}
 use Rattle.openapi_faults.specs.declared.dropped.Dropped.{Dropped}
-use Rattle.openapi_findings.specs.Stated.{Statement, cause_code, dropped_stated, fault_stated}
+use Rattle.openapi_faults.specs.declared.reference.Reference.{Reference}
+use Rattle.openapi_findings.specs.declared.report.Report.{Report}
+use Rattle.openapi_findings.specs.Stated.{Statement, picked, statement_of, unresolved_at, cause_code, dropped_stated, fault_stated}
 
 module _ {X Y : Type 0} (f : X → Y) where
   pub adds_none : (xs : List X) → Adds f xs xs []
@@ -66,3 +70,44 @@ losses_in (d ∷ ds) = ap (λ l. loss_of d ∷ l) (losses_in ds)
 pub losses_state : (ds : List Dropped) (es : List (Place × DropReason)) → map dropped_of ds ≡ es
     → map loss_of ds ≡ map dropped_stated es
 losses_state ds es e = losses_in ds ∙ ap (map dropped_stated) e
+
+-- what a reference states that leads to no value
+abbrev pub unresolved_of : Reference → Statement
+unresolved_of r = unresolved_at (reference_of r)
+
+-- one more element is picked, or is not
+pub picked-more : {X : Type 0} → (bs : List Bool) (xs : List X) (x : X) → length bs ≡ length xs
+    → picked (bs ++ true ∷ []) (xs ++ x ∷ []) ≡ picked bs xs ++ x ∷ []
+picked-more [] [] x e = refl
+picked-more [] (y ∷ xs) x e = absurd (omega (arith, e))
+picked-more (b ∷ bs) [] x e = absurd (omega (arith, e))
+picked-more (true ∷ bs) (y ∷ xs) x e = ap (λ l. y ∷ l) (picked-more bs xs x (omega (arith, e)))
+picked-more (false ∷ bs) (y ∷ xs) x e = picked-more bs xs x (omega (arith, e))
+
+pub picked-same : {X : Type 0} → (bs : List Bool) (xs : List X) (x : X) → length bs ≡ length xs
+    → picked (bs ++ false ∷ []) (xs ++ x ∷ []) ≡ picked bs xs
+picked-same [] [] x e = refl
+picked-same [] (y ∷ xs) x e = absurd (omega (arith, e))
+picked-same (b ∷ bs) [] x e = absurd (omega (arith, e))
+picked-same (true ∷ bs) (y ∷ xs) x e = ap (λ l. y ∷ l) (picked-same bs xs x (omega (arith, e)))
+picked-same (false ∷ bs) (y ∷ xs) x e = picked-same bs xs x (omega (arith, e))
+
+-- what references state, with one more
+pub adds_picked : (old mid new : List Report) (bs : List Bool) (rs : List Reference) (r : Reference) (x : Report) → length bs ≡ length rs
+    → Adds statement_of old mid (map unresolved_of (picked bs rs)) → new ≡ mid ++ x ∷ [] → statement_of x ≡ unresolved_of r
+    → Adds statement_of old new (map unresolved_of (picked (bs ++ true ∷ []) (rs ++ r ∷ [])))
+adds_picked old mid new bs rs r x e h n s =
+    adds_next statement_of unresolved_of old mid new (picked bs rs) r x h n s
+    ∙ ap (λ l. map statement_of old ++ map unresolved_of l) (sym (picked-more bs rs r e))
+
+picked-each : (bs : List Bool) (rs : List Reference)
+    → map unresolved_of (picked bs rs) ≡ map unresolved_at (picked bs (map reference_of rs))
+picked-each [] rs = refl
+picked-each (b ∷ bs) [] = refl
+picked-each (true ∷ bs) (r ∷ rs) = ap (λ l. unresolved_of r ∷ l) (picked-each bs rs)
+picked-each (false ∷ bs) (r ∷ rs) = picked-each bs rs
+
+-- references state what the definitions say of those that are picked
+pub unresolved_state : (bs : List Bool) (rs : List Reference) (ks : List (Place × List ℕ × Kind)) → map reference_of rs ≡ ks
+    → map unresolved_of (picked bs rs) ≡ map unresolved_at (picked bs ks)
+unresolved_state bs rs ks e = picked-each bs rs ∙ ap (λ l. map unresolved_at (picked bs l)) e

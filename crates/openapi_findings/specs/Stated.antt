@@ -4,10 +4,11 @@ use Rattle.openapi_node.specs.Fault.{step_of}
 use Rattle.openapi_node.specs.Place.{Place, named}
 use Rattle.openapi_node.specs.Tree.{Tree, object, Members, find, text_in}
 use Rattle.openapi_tables.specs.Faults.{Cause, missing, missing_either, wrong_kind, not_allowed, unknown_variant}
-use Rattle.openapi_tables.specs.Kind.{begins, by, open_api}
+use Rattle.openapi_tables.specs.Kind.{Kind, begins, by, open_api}
 use Rattle.openapi_tables.specs.Lists.{each}
 use Rattle.openapi_tables.specs.Tables.{final_tables}
 use Rattle.openapi_faults.specs.Dropped.{dropped_in}
+use Rattle.openapi_faults.specs.References.{references_in}
 use Rattle.openapi_faults.specs.Told.{told}
 use Rattle.openapi_faults.specs.declared.dropped.DropReason.{DropReason}
 use Rattle.openapi_faults.specs.declared.dropped.DropReason.TheVariants as reason
@@ -95,9 +96,19 @@ losses_in t = map dropped_stated (dropped_in (by open_api) t)
 
 -- ---- references
 
--- that a reference leads to no value
-abbrev pub unresolved_at : Place → Statement
-unresolved_at p = (p, code.UnresolvedReference)
+-- the elements of a list that flags pick
+abbrev pub picked : {X : Type 0} → List Bool → List X → List X
+picked [] xs = []
+picked (b ∷ bs) [] = []
+picked (b ∷ bs) (x ∷ xs) = cond b (x ∷ picked bs xs) (picked bs xs)
+
+-- that a reference leads to no value, at its text
+abbrev pub unresolved_at : Place × List ℕ × Kind → Statement
+unresolved_at r = (r.0 ++ named (codes "$ref") ∷ [], code.UnresolvedReference)
+
+-- that those references of a document which flags pick lead to no value
+abbrev pub unresolved_in : List Bool → Tree → List Statement
+unresolved_in bs t = map unresolved_at (picked bs (references_in (by open_api) t))
 
 -- ---- all that is to be reported
 

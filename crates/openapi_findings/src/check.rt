@@ -1,5 +1,5 @@
 //! All findings of a text.
-ghost use Rattle.std.specs.Prelude.{◌≡◌, [], ◌∷◌, ◌++◌, All, List, None, IfErr, IfOk, map};
+ghost use Rattle.std.specs.Prelude.{◌≡◌, [], ◌∷◌, ◌++◌, All, Bool, List, None, IfErr, IfOk, map};
 ghost use Rattle.std.specs.List.{AllZip};
 ghost use Rattle.std.specs.List.Sorted.{IsNonDecreasingBy, IsPermutation};
 ghost use Rattle.openapi_json.specs.Ordered.{IsTreeInOrder};
@@ -7,10 +7,9 @@ ghost use Rattle.openapi_json.specs.Positions.{IsPositionAt};
 ghost use Rattle.openapi_json.specs.Reading.{Explains};
 ghost use Rattle.openapi_json.specs.declared.fault.JsonFault.TheVariants as unread;
 ghost use Rattle.openapi_node.specs.Fault.{place_of};
-ghost use Rattle.openapi_node.specs.Place.{Place};
 ghost use Rattle.openapi_findings.specs.Findings.{AreFindings, IsPlaced, finds, found};
 ghost use Rattle.openapi_findings.specs.Findings as spec;
-ghost use Rattle.openapi_findings.specs.Stated.{place_in_report, stated_in, statement_of, unresolved_at};
+ghost use Rattle.openapi_findings.specs.Stated.{place_in_report, stated_in, statement_of, unresolved_in};
 
 use crate::code::Code;
 use crate::dropped_reports::report_dropped;
@@ -108,8 +107,8 @@ fn not_whole(alloc: Global, fault: Fault) -> Result<Report, AllocError>
 
 /// Returns what there is to report of a document.
 fn reports_of(alloc: Global, document: &Node, steps: &mut Steps) -> Result<Vec<Report>, AllocError>
-    ensures { IfOk result (λ v. (ps : List Place)
-        × (map statement_of v.items ≡ stated_in document.now ++ map unresolved_at ps)) }
+    ensures { IfOk result (λ v. (bs : List Bool)
+        × (map statement_of v.items ≡ stated_in document.now ++ unresolved_in bs document.now)) }
 {
     let mut reports = Vec::new(alloc);
     report_version(alloc, document, &mut reports, steps)?;

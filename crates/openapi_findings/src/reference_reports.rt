@@ -1,8 +1,8 @@
 //! Reports of the references that lead to no value.
-ghost use Rattle.std.specs.Prelude.{◌≡◌, List, IfOk, OnOk, map};
-ghost use Rattle.openapi_node.specs.Place.{Place};
+ghost use Rattle.std.specs.Prelude.{◌≡◌, Bool, List, IfOk, OnOk};
 ghost use Rattle.openapi_faults.specs.Adds.{Adds};
-ghost use Rattle.openapi_findings.specs.Stated.{statement_of, unresolved_at};
+ghost use Rattle.openapi_faults.specs.References.{reference_of};
+ghost use Rattle.openapi_findings.specs.Stated.{statement_of, unresolved_at, unresolved_in};
 
 use crate::code::Code;
 use crate::kind_at::DOCUMENT;
@@ -19,8 +19,8 @@ pub(crate) fn report_references(
     reports: &mut Vec<Report>,
     steps: &mut Steps,
 ) -> Result<(), AllocError>
-    ensures { OnOk result ((ps : List Place)
-        × Adds statement_of reports.old.items reports.new.items (map unresolved_at ps)) }
+    ensures { OnOk result ((bs : List Bool)
+        × Adds statement_of reports.old.items reports.new.items (unresolved_in bs document.now)) }
 {
     for reference in references(alloc, DOCUMENT, document, steps)? {
         if !leads_to_value(alloc, document, reference.text.as_str(), steps)? {
@@ -33,7 +33,7 @@ pub(crate) fn report_references(
 
 /// Returns the report of a reference that leads to no value.
 fn report_of(alloc: Global, reference: Reference) -> Result<Report, AllocError>
-    ensures { IfOk result (λ r. (p : Place) × (statement_of r ≡ unresolved_at p)) }
+    ensures { IfOk result (λ r. statement_of r ≡ unresolved_at (reference_of reference)) }
 {
     let Reference {
         mut place,

@@ -1,13 +1,18 @@
-use Rattle.std.proofs.Common.{List, map}
-use Rattle.openapi_node.specs.Place.{Place}
+use Rattle.std.proofs.Common.{◌≡◌, Bool, List, ◌++◌, length, map}
+use Rattle.std.specs.Vec.Iter.{into_iter_items}
 use Rattle.openapi_faults.specs.Adds.{Adds}
-use Rattle.openapi_findings.specs.Stated.{statement_of, unresolved_at}
+use Rattle.openapi_faults.specs.declared.reference.Reference.{Reference}
+use Rattle.openapi_findings.specs.Stated.{picked, statement_of}
+use Rattle.openapi_findings.proofs.Adding.{unresolved_of}
 use Rattle.openapi_findings.proofs.reference_reports.report_references.Given as goal
 
--- for some of the references so far it was appended that they lead to no value
+-- of some of the references so far it was appended that they lead to no value
 abbrev pub invariant-loop-reference : goal.invariant-loop-reference
 invariant-loop-reference l =
     record {
-      places : List Place;
-      adds : Adds statement_of l.initial.reports.items l.reports.items (map unresolved_at places);
+      done : List Reference;
+      split : into_iter_items l.initial.reference-iterator ≡ done ++ into_iter_items l.reference-iterator;
+      flags : List Bool;
+      count : length flags ≡ length done;
+      adds : Adds statement_of l.initial.reports.items l.reports.items (map unresolved_of (picked flags done));
     }

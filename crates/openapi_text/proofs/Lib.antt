@@ -1,4 +1,12 @@
+pub mod CodesByName
 pub mod Kept
+pub mod KindsByName
+pub mod ObjectsByName
 pub mod Refusals
+pub mod RowsByName
+pub mod SameByName
+pub mod SchemasByName
 pub mod Settled
+pub mod Sorting
 pub mod Texts
+pub mod TextsByName

@@ -1,5 +1,5 @@
 -- The laws that the functions of `laws` carry.
-use Rattle.std.specs.Prelude.{◌≡◌, ◌≢◌, ◌≤◌, ℕ, List, true}
+use Rattle.std.specs.Prelude.{◌≡◌, ◌≤◌, ℕ, List, true}
 use Rattle.std.specs.Str.{IsUtf8}
 use Rattle.openapi_json.specs.Reading.{IsTreeOfText}
 use Rattle.openapi_json.specs.Writing.{nesting, tree_by_name}
@@ -24,10 +24,9 @@ abbrev pub IsSettledTo : Layout → List ℕ → List ℕ → Type 0
 IsSettledTo l bytes text =
     IsTextOf l bytes (λ t. (conforms final_tables (kind_of Settle) t ≡ true) × (text ≡ text_in l (rewritten Settle t)))
 
--- what `settle` writes in the order of the text, or prettily, is the text of a document, and for that it writes the same text
--- and no other
+-- what `settle` writes is the text of a document, and for that it writes the same text and no other
 abbrev pub SettledTextStays : Type 0
-SettledTextStays = (l : Layout) (bytes text : List ℕ) → l ≢ ByName → IsUtf8 text → IsSettledTo l bytes text
+SettledTextStays = (l : Layout) (bytes text : List ℕ) → IsUtf8 text → IsSettledTo l bytes text
     → IsSettledTo l text text × ((other : List ℕ) → IsSettledTo l text other → other ≡ text)
 
 -- what `settle` writes by name is read by name as the settled tree, with its members by name

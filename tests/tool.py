@@ -321,6 +321,21 @@ FINDINGS = [
         ],
     ),
     (
+        "names that come again",
+        '{\n"openapi": "3.0.3", "info": { "title": "a", "version": "1",\n"title": "b" },\n'
+        '"paths": {}, "x-a": [{ "n": { "k": 1 } , "n": { "k": 2, "k": 3,\n"\\u006b": 4 } }],\n"paths": {}\n}\n',
+        [
+            ("warning", "repeated-name", f"the name `{name}` comes again in its object", line, column, pointer,
+             "the earlier value has no effect: remove one of the two")
+            for name, line, column, pointer in (
+                ("title", 3, 1, "/info/title"),
+                ("n", 4, 42, "/x-a/0/n"),
+                ("k", 5, 1, "/x-a/0/n/k"),
+                ("paths", 6, 1, "/paths"),
+            )
+        ],
+    ),
+    (
         "version 2.0",
         '{\n  "swagger": "2.0",\n  "info": { "title": "t", "version": "1" },\n  "paths": {}\n}\n',
         [
@@ -725,7 +740,9 @@ BROKEN = [
     ("warning", "beside-ref", "member `description` has no effect beside `$ref`", 20, 66,
      "/paths/~1pets~1{petId}/get/responses/200/content/application~1json/schema/description",
      "remove it, or move it to the value that `$ref` leads to"),
-    ("error", "value-not-allowed", "invalid value", 30, 47, "/components/schemas/Pet/minLength",
+    ("warning", "repeated-name", "the name `Pet` comes again in its object", 31, 7, "/components/schemas/Pet",
+     "the earlier value has no effect: remove one of the two"),
+    ("error", "value-not-allowed", "invalid value", 31, 47, "/components/schemas/Pet/minLength",
      "found the number -1; allowed: whole numbers from 0 to 18446744073709551615"),
 ]
 

@@ -35,11 +35,17 @@ module _ {X Y : Type 0} (f : X → Y) where
       adds_then old mid new (map g done) (g e ∷ []) h (adds_one mid new x (g e) n s)
       ∙ ap (λ l. map f old ++ l) (sym (map-append g done (e ∷ [])))
 
-  -- what is appended to an empty list, in four steps
-  pub adds_all : (l r1 r2 r3 r4 : List X) (as' bs cs ds : List Y) → l ≡ [] → Adds f l r1 as' → Adds f r1 r2 bs → Adds f r2 r3 cs
-      → Adds f r3 r4 ds → map f r4 ≡ as' ++ bs ++ cs ++ ds
-  adds_all l r1 r2 r3 r4 as' bs cs ds e a b c d =
-      d ∙ ap (λ z. z ++ ds) (c ∙ ap (λ z. z ++ cs) (b ∙ ap (λ z. z ++ bs) (a ∙ ap (λ z. map f z ++ as') e)))
+  -- what is appended in two steps, each for elements of a list
+  pub adds_more : {E : Type 0} (g : E → Y) (old mid new : List X) (ps qs : List E) → Adds f old mid (map g ps)
+      → Adds f mid new (map g qs) → Adds f old new (map g (ps ++ qs))
+  adds_more g old mid new ps qs h k =
+      adds_then old mid new (map g ps) (map g qs) h k ∙ ap (λ l. map f old ++ l) (sym (map-append g ps qs))
+
+  -- what is appended to an empty list, in five steps
+  pub adds_all : (l r1 r2 r3 r4 r5 : List X) (as' bs cs ds es : List Y) → l ≡ [] → Adds f l r1 as' → Adds f r1 r2 bs
+      → Adds f r2 r3 cs → Adds f r3 r4 ds → Adds f r4 r5 es → map f r5 ≡ as' ++ bs ++ cs ++ ds ++ es
+  adds_all l r1 r2 r3 r4 r5 as' bs cs ds es n a b c d e =
+      e ∙ ap (λ z. z ++ es) (d ∙ ap (λ z. z ++ ds) (c ∙ ap (λ z. z ++ cs) (b ∙ ap (λ z. z ++ bs) (a ∙ ap (λ z. map f z ++ as') n))))
 
 -- what a fault states
 abbrev pub stated_of : Fault → Statement

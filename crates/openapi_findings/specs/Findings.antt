@@ -10,7 +10,7 @@ use Rattle.openapi_node.specs.Fault.{place_of, step_of}
 use Rattle.openapi_node.specs.Place.{Place}
 use Rattle.openapi_node.specs.Tree.{Tree}
 use Rattle.openapi_node.specs.declared.fault.Fault.{Fault}
-use Rattle.openapi_findings.specs.Stated.{Statement, is_about_member, stated_in, unresolved_in}
+use Rattle.openapi_findings.specs.Stated.{Statement, is_about_member, repeated_at, stated_in, unresolved_in}
 use Rattle.openapi_findings.specs.declared.code.Code.{Code}
 use Rattle.openapi_findings.specs.declared.code.Code.TheVariants as code
 use Rattle.openapi_findings.specs.declared.finding.Finding.{Finding}
@@ -48,12 +48,14 @@ offset_of f = offset_in (point_of f)
 abbrev pub IsPlaced : List ℕ → Finding → Type 0
 IsPlaced bytes f = IfSome (place_in f) (λ p. IsPositionAt bytes p f.position)
 
--- the findings of a document: they state what is to be reported of it, and which of its references lead to no value
+-- the findings of a document: they state what is to be reported of it, which of its references lead to
+-- no value, and which names come again
 pub record AreOfDocument (bytes : List ℕ) (fs : List Finding) : Type 0 where
   pub tree : Tree
   pub reads : IsTreeInOrder bytes tree
   pub unresolved : List Bool
-  pub all : IsPermutation (map found (stated_in tree ++ unresolved_in unresolved tree)) (map finds fs)
+  pub repeated : List Place
+  pub all : IsPermutation (map found (stated_in tree ++ unresolved_in unresolved tree ++ map repeated_at repeated)) (map finds fs)
 
 -- the one finding of a text that is no JSON
 pub record AreOfNoJson (bytes : List ℕ) (fs : List Finding) : Type 0 where

@@ -24,6 +24,7 @@ severity_of code.UnknownMember = severity.Warning
 severity_of code.BesideRef = severity.Warning
 severity_of code.SecondOfTwo = severity.Warning
 severity_of code.UnresolvedReference = severity.Warning
+severity_of code.RepeatedName = severity.Warning
 severity_of c = severity.Error
 
 -- whether the findings of a code are about a member as a whole, with its name
@@ -31,6 +32,7 @@ abbrev pub is_about_member : Code → Bool
 is_about_member code.UnknownMember = true
 is_about_member code.BesideRef = true
 is_about_member code.SecondOfTwo = true
+is_about_member code.RepeatedName = true
 is_about_member c = false
 
 -- a location, and what is to be reported there
@@ -110,8 +112,13 @@ unresolved_at r = (r.0 ++ named (codes "$ref") ∷ [], code.UnresolvedReference)
 abbrev pub unresolved_in : List Bool → Tree → List Statement
 unresolved_in bs t = map unresolved_at (picked bs (references_in (by open_api) t))
 
+-- ---- names that come again
+
+abbrev pub repeated_at : Place → Statement
+repeated_at p = (p, code.RepeatedName)
+
 -- ---- all that is to be reported
 
--- what is to be reported of a document, beside the references that lead to no value
+-- what is to be reported of a document, beside the references that lead to no value and the names that come again
 abbrev pub stated_in : Tree → List Statement
 stated_in t = version_in t ++ faults_in t ++ losses_in t

@@ -7,15 +7,17 @@ ghost use Rattle.openapi_json.specs.Positions.{IsPositionAt};
 ghost use Rattle.openapi_json.specs.Reading.{Explains};
 ghost use Rattle.openapi_json.specs.declared.fault.JsonFault.TheVariants as unread;
 ghost use Rattle.openapi_node.specs.Fault.{place_of};
+ghost use Rattle.openapi_node.specs.Place.{Place};
 ghost use Rattle.openapi_findings.specs.Findings.{AreFindings, IsPlaced, finds, found};
 ghost use Rattle.openapi_findings.specs.Findings as spec;
-ghost use Rattle.openapi_findings.specs.Stated.{place_in_report, stated_in, statement_of, unresolved_in};
+ghost use Rattle.openapi_findings.specs.Stated.{place_in_report, repeated_at, stated_in, statement_of, unresolved_in};
 
 use crate::code::Code;
 use crate::dropped_reports::report_dropped;
 use crate::fault_reports::report_faults;
 use crate::finding::Finding;
 use crate::reference_reports::report_references;
+use crate::repeated_reports::report_repeated;
 use crate::report::Report;
 use crate::syntax::syntax_finding;
 use crate::version_report::report_version;
@@ -60,7 +62,7 @@ fn of_document(
     requires { IsTreeInOrder bytes.now document.now }
     ensures { IfOk result (λ v. AreFindings bytes.now v.items) }
 {
-    let reports = reports_of(alloc, document, steps)?;
+    let reports = reports_of(alloc, bytes, document, steps)?;
     let findings = placed(alloc, bytes, reports)?;
     sorted(findings)
 }
@@ -106,15 +108,21 @@ fn not_whole(alloc: Global, fault: Fault) -> Result<Report, AllocError>
 }
 
 /// Returns what there is to report of a document.
-fn reports_of(alloc: Global, document: &Node, steps: &mut Steps) -> Result<Vec<Report>, AllocError>
-    ensures { IfOk result (λ v. (bs : List Bool)
-        × (map statement_of v.items ≡ stated_in document.now ++ unresolved_in bs document.now)) }
+fn reports_of(
+    alloc: Global,
+    bytes: &[u8],
+    document: &Node,
+    steps: &mut Steps,
+) -> Result<Vec<Report>, AllocError>
+    ensures { IfOk result (λ v. (bs : List Bool) × (ps : List Place)
+        × (map statement_of v.items ≡ stated_in document.now ++ unresolved_in bs document.now ++ map repeated_at ps)) }
 {
     let mut reports = Vec::new(alloc);
     report_version(alloc, document, &mut reports, steps)?;
     report_faults(alloc, document, &mut reports, steps)?;
     report_dropped(alloc, document, &mut reports, steps)?;
     report_references(alloc, document, &mut reports, steps)?;
+    report_repeated(alloc, bytes, &mut reports)?;
     Ok(reports)
 }
 

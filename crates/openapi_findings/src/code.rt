@@ -41,6 +41,8 @@ pub enum Code {
     SecondOfTwo,
     /// A reference within the document leads to no value.
     UnresolvedReference,
+    /// A name comes again in one object, so the earlier value has no effect.
+    RepeatedName,
 }
 
 impl Severity {
@@ -69,6 +71,7 @@ impl Code {
             Code::BesideRef => "beside-ref",
             Code::SecondOfTwo => "second-of-two",
             Code::UnresolvedReference => "unresolved-reference",
+            Code::RepeatedName => "repeated-name",
         }
     }
 
@@ -77,8 +80,11 @@ impl Code {
         ensures { result ≡ severity_of self }
     {
         match self {
-            Code::UnknownMember | Code::BesideRef | Code::SecondOfTwo | Code::UnresolvedReference =>
-                Severity::Warning,
+            Code::UnknownMember
+            | Code::BesideRef
+            | Code::SecondOfTwo
+            | Code::UnresolvedReference
+            | Code::RepeatedName => Severity::Warning,
             _ => Severity::Error,
         }
     }
@@ -89,7 +95,7 @@ impl Code {
     {
         matches!(
             self,
-            Code::UnknownMember | Code::BesideRef | Code::SecondOfTwo
+            Code::UnknownMember | Code::BesideRef | Code::SecondOfTwo | Code::RepeatedName
         )
     }
 }

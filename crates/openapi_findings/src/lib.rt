@@ -22,6 +22,7 @@ mod nearest;
 mod nesting;
 mod pointer;
 mod reference_reports;
+mod repeated_reports;
 mod report;
 mod stop;
 mod syntax;

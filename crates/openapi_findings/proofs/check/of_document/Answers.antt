@@ -14,7 +14,8 @@ returns c =
         tree = c.args.document.now;
         reads = c.requires;
         unresolved = stated.0;
-        all = all_found _ c.in_ok-reports.reports.items fs v.items stated.1 c.in_ok-findings.ensures.finds p;
+        repeated = stated.1;
+        all = all_found _ c.in_ok-reports.reports.items fs v.items stated.2 c.in_ok-findings.ensures.finds p;
       });
       placed = All-permutation (IsPlaced c.args.bytes.now) fs v.items p c.in_ok-findings.ensures.placed;
       in_order = o;

@@ -1,5 +1,5 @@
-use Rattle.std.proofs.Common.{◌≡◌, ◌+◌, true, false, [], ◌∷◌, ◌++◌, length, map, sym, ap, ◌∙◌, subst, append_assoc, append-nil, refl, rules}
-use Rattle.std.proofs.lemmas.List.{length_push, map-append, nil_from_length}
+use Rattle.std.proofs.Common.{◌≡◌, ◌+◌, true, false, [], ◌∷◌, ◌++◌, map, sym, ap, ◌∙◌, subst, append_assoc, append-nil, refl, rules}
+use Rattle.std.proofs.lemmas.List.{length_push, nil_from_length}
 use Rattle.std.specs.Vec.Iter.{into_iter_items}
 use Rattle.openapi_faults.specs.Adds.{Adds}
 use Rattle.openapi_findings.specs.Stated.{picked, statement_of}

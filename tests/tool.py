@@ -723,6 +723,30 @@ def test_words(runner):
     runner.compare("no words", (status, output, "Usage: openapi" in error), (2, "", True))
 
 
+def test_memory(runner):
+    """Each request for memory is refused in turn: a run says so, or answers as ever."""
+    library = f"{runner.folder}/refuse.so"
+    subprocess.run(["cc", "-shared", "-fPIC", "-O1", "-o", library, f"{TOP}/tests/refuse.c", "-ldl"], check=True)
+    no_json, fraction = runner.write("no.json", '{"a": [1,'), runner.write("fraction.json", document('"x-a": 0.5'))
+    for file in (f"{TOP}/examples/small.json", f"{TOP}/examples/broken.json", no_json, fraction):
+        wanted, strange, refused = runner.run("check", file), [], 0
+        for number in range(1, 10_000):
+            reads, writes = os.pipe()
+            # (the library says on descriptor 9 that it refused the request of this number)
+            status, output, error = runner.run("check", file, env={**os.environ, "REFUSE": str(number), "LD_PRELOAD": library},
+                                               preexec_fn=lambda: os.dup2(writes, 9), pass_fds=(9, writes))
+            os.close(writes)
+            met = os.read(reads, 100)
+            os.close(reads)
+            if not met:
+                break
+            refused += 1
+            is_said = status == 3 and output == "" and error.startswith("error: ") and "out of memory" in error.split("\n")[0]
+            if not is_said and (status, output, error) != wanted:
+                strange.append((number, status, error))
+        runner.compare(f"memory is refused to {file}", (strange, refused > 50), ([], True))
+
+
 # The findings of examples/broken.json.
 BROKEN = [
     ("error", "version", "version `3.1.0` is not supported, expected `3.0.x`", 2, 14, "/openapi",
@@ -764,7 +788,8 @@ def main():
         return 1
     with tempfile.TemporaryDirectory(prefix="tool-") as folder:
         runner = Runner(program, folder)
-        for test in (test_findings, test_syntax, test_lines, test_formats, test_statuses, test_streams, test_words, test_examples):
+        for test in (test_findings, test_syntax, test_lines, test_formats, test_statuses, test_streams, test_words, test_memory,
+                     test_examples):
             test(runner)
     print(f"{runner.passed} passed, {runner.failed} failed")
     return 1 if runner.failed else 0

@@ -466,8 +466,8 @@ YAML = "this looks like YAML: convert it, as by `yq -o=json . api.yaml > api.jso
 # Each row: what is tested, the bytes of the file, and its one finding: message, line, column, help, and the source line if it is
 # not that line of the file.
 SYNTAX = [
-    ("an empty file", b"", "the file is empty", 1, 1, None),
-    ("white space alone", b" \n\t", "the file is empty", 1, 1, None),
+    ("an empty file", b"", "the file is empty", 1, 1, "a document is one JSON object"),
+    ("white space alone", b" \n\t", "the file is empty", 1, 1, "a document is one JSON object"),
     ("a comma at the end of an object", b'{\n  "a": 1,\n}', "expected a name, found `}`", 3, 1, "remove the comma before it"),
     ("a comma at the end of an array", b"[1, 2, ]", "expected a value, found `]`", 1, 8, "remove the comma before it"),
     ("a comma too many", b"[1,, 2]", "expected a value, found `,`", 1, 4, None),
@@ -509,7 +509,14 @@ SYNTAX = [
     ),
     ("an unknown escape", b'["a\\x"]', "an unknown escape in a string", 1, 4, "write a backslash as `\\\\`"),
     ("half of a surrogate pair", b'["\\ud800"]', "half of a surrogate pair in a string", 1, 2, None),
-    ("128 levels", b"[" * 128 + b"]" * 128, "arrays and objects are nested deeper than 127 levels", 1, 128, None),
+    (
+        "128 levels",
+        b"[" * 128 + b"]" * 128,
+        "arrays and objects are nested deeper than 127 levels",
+        1,
+        128,
+        "look for a bracket that is not closed",
+    ),
     (
         "a byte order mark",
         b"\xef\xbb\xbf" + GOOD.encode(),

@@ -70,7 +70,8 @@ fn syntax_error(alloc: Global, bytes: &[u8]) -> Result<SyntaxError, AllocError> 
         );
     }
     if trimmed_len(bytes) == 0 {
-        return plain_error(alloc, 0, "the file is empty", None);
+        let help = "a document is one JSON object";
+        return plain_error(alloc, 0, "the file is empty", Some(help));
     }
     match stop_of(alloc, text)? {
         Some(stopped) => error_at(alloc, bytes, stopped),
@@ -109,7 +110,7 @@ fn error_at(alloc: Global, bytes: &[u8], stopped: Stopped) -> Result<SyntaxError
             alloc,
             offset,
             "arrays and objects are nested deeper than 127 levels",
-            None,
+            Some("look for a bracket that is not closed"),
         ),
         Stop::TooLarge => plain_error(alloc, offset, "the number is out of range", None),
         Stop::NoColon => unexpected(alloc, bytes, offset, "`:`", None),

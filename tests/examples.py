@@ -5,7 +5,8 @@ usage: tests/examples.py [--unproved [NAME ..]]
            (runs what `bin/prove.py` built; of these crates, or of all if none is named, what `bin/unproved.py` built)
 
 A run in the README is a line `    $ COMMAND`. The lines below it, up to an empty one or the next run, are what a terminal shows:
-standard output and standard error. Its exit status is 0, unless the next run of the same block is `echo $?`, which prints it.
+standard output and standard error. What is printed with empty lines is in a block that begins with "```console", whose lines are
+not indented. The exit status is 0, unless the next run of the same block is `echo $?`, which prints it.
 
 A crate of a program has files `stdin`, `args` (a word a line), `stdout` and `status` (0 by default), which `rt ci` compares too.
 
@@ -18,10 +19,10 @@ import sys
 import tempfile
 
 TOP = os.path.dirname(os.path.dirname(os.path.realpath(__file__)))
-BLOCK = re.compile(r"(?:^    .*\n)+", re.M)
+BLOCK = re.compile(r"((?:^    [^\n]*\n)+)|^```console\n(.*?)^```$", re.M | re.S)
 RUN = re.compile(r"^\$ (.*)\n((?:(?!\$ ).*\n)*)", re.M)
 # What the README calls the programs; `./example NAME` runs example_NAME.
-SCRIPTS = {"openapi_clean": "openapi_clean", "openapi_order": "openapi_order", "example": "example_$1"}
+SCRIPTS = {"openapi": "openapi", "openapi_clean": "openapi_clean", "openapi_order": "openapi_order", "example": "example_$1"}
 
 
 def programs():
@@ -69,7 +70,7 @@ class Tests:
     def run_readme(self):
         """Runs what the README shows, in a folder with the programs and the examples as the top of the repository has them."""
         with open(f"{TOP}/README.md") as it:
-            blocks = [RUN.findall(re.sub("^    ", "", block, flags=re.M)) for block in BLOCK.findall(it.read())]
+            blocks = [RUN.findall(re.sub("^    ", "", indented, flags=re.M) + fenced) for indented, fenced in BLOCK.findall(it.read())]
         shown = [command for block in blocks for command, _ in block]
         for name in programs():
             call = name.replace("example_", "example ")
@@ -80,7 +81,8 @@ class Tests:
             os.symlink(f"{TOP}/examples", f"{room}/examples")
             for script, name in SCRIPTS.items():
                 with open(f"{room}/{script}", "w") as it:
-                    ending = ".unproved" if script in self.unproved or any(it.startswith(f"{script}_") for it in self.unproved) else ""
+                    is_unproved = name in self.unproved or "$1" in name and any(it.startswith(name[:-2]) for it in self.unproved)
+                    ending = ".unproved" if is_unproved else ""
                     it.write(f"#!/bin/sh\nname={name}\n{'shift' if '$1' in name else ''}\nexec {TOP}/crates/$name/out/$name{ending} \"$@\"\n")
                 os.chmod(f"{room}/{script}", 0o755)
             for block in blocks:

@@ -6,6 +6,12 @@ pub mod Dropping
 pub mod Folding
 pub mod Gather
 pub mod Ignored
+pub mod IgnoredReferences
+pub mod IgnoredRows
+pub mod IgnoredSchemas
+pub mod IgnoredTables
+pub mod IgnoredTags
+pub mod IgnoredValues
 pub mod Inside
 pub mod Listing
 pub mod Locations

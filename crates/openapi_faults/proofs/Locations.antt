@@ -28,13 +28,14 @@ pub inside_none : (s : Step) (ps : List Place) → Each (λ p. behind_step s p �
 inside_none s [] h = refl
 inside_none s (p ∷ ps) h = ap (λ l. join l (inside s ps)) h.0 ∙ inside_none s ps h.1
 
+-- three tests in a row are the same, whichever two are taken first
+pub or_group : (a b c : Bool) → (a || (b || c)) ≡ ((a || b) || c)
+or_group true b c = refl
+or_group false b c = refl
+
 pub root_join : (ps qs : List Place) → has_root (join ps qs) ≡ (has_root ps || has_root qs)
 root_join [] qs = refl
-root_join (p ∷ ps) qs = ap (λ b. is_root p || b) (root_join ps qs) ∙ regroup (is_root p) (has_root ps) (has_root qs)
-  where
-    regroup : (a b c : Bool) → (a || (b || c)) ≡ ((a || b) || c)
-    regroup true b c = refl
-    regroup false b c = refl
+root_join (p ∷ ps) qs = ap (λ b. is_root p || b) (root_join ps qs) ∙ or_group (is_root p) (has_root ps) (has_root qs)
 
 pub no_root : (ps : List Place) → Each (λ p. is_root p ≡ false) ps → has_root ps ≡ false
 no_root [] h = refl

@@ -47,7 +47,7 @@ Fine ps (either a j b k) (e ∷ l) = Stays ps (cond (same_text a e.name) j k) e
 Fine ps (class c k) l = Each (Stays ps k) l
 Fine ps (constant n v) l = Unit {0}
 
-and_false : (b : Bool) → (b && false) ≡ false
+pub and_false : (b : Bool) → (b && false) ≡ false
 and_false true = refl
 and_false false = refl
 

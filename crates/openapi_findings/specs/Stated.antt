@@ -27,6 +27,26 @@ severity_of code.UnresolvedReference = severity.Warning
 severity_of code.RepeatedName = severity.Warning
 severity_of c = severity.Error
 
+-- the words that are printed
+abbrev pub severity_word : Severity → List ℕ
+severity_word severity.Error = codes "error"
+severity_word severity.Warning = codes "warning"
+
+abbrev pub code_word : Code → List ℕ
+code_word code.NotJson = codes "not-json"
+code_word code.NotWhole = codes "not-whole"
+code_word code.Version = codes "version"
+code_word code.MissingMember = codes "missing-member"
+code_word code.MissingEither = codes "missing-either"
+code_word code.WrongType = codes "wrong-type"
+code_word code.ValueNotAllowed = codes "value-not-allowed"
+code_word code.UnknownValue = codes "unknown-value"
+code_word code.UnknownMember = codes "unknown-member"
+code_word code.BesideRef = codes "beside-ref"
+code_word code.SecondOfTwo = codes "second-of-two"
+code_word code.UnresolvedReference = codes "unresolved-reference"
+code_word code.RepeatedName = codes "repeated-name"
+
 -- whether the findings of a code are about a member as a whole, with its name
 abbrev pub is_about_member : Code → Bool
 is_about_member code.UnknownMember = true

@@ -1,6 +1,6 @@
 //! What a finding is about, as one word.
 ghost use Rattle.std.specs.Prelude.{◌≡◌};
-ghost use Rattle.openapi_findings.specs.Stated.{severity_of};
+ghost use Rattle.openapi_findings.specs.Stated.{code_word, severity_of, severity_word};
 ghost use Rattle.openapi_findings.specs.Stated as stated;
 
 use std::fmt;
@@ -47,7 +47,9 @@ pub enum Code {
 
 impl Severity {
     /// Returns `error` or `warning`.
-    pub fn as_str(self) -> &'static str {
+    pub fn as_str(self) -> &'static str
+        ensures { result.now ≡ severity_word self }
+    {
         match self {
             Severity::Error => "error",
             Severity::Warning => "warning",
@@ -57,7 +59,9 @@ impl Severity {
 
 impl Code {
     /// Returns the word of the code.
-    pub fn as_str(self) -> &'static str {
+    pub fn as_str(self) -> &'static str
+        ensures { result.now ≡ code_word self }
+    {
         match self {
             Code::NotJson => "not-json",
             Code::NotWhole => "not-whole",

@@ -731,7 +731,7 @@ def test_words(runner):
 
 
 def test_memory(runner):
-    """Each request for memory is refused in turn: a run says so, or answers as ever."""
+    """Refuses each request for memory, one after another: a run reports it, or answers as it does otherwise."""
     library = f"{runner.folder}/refuse.so"
     subprocess.run(["cc", "-shared", "-fPIC", "-O1", "-o", library, f"{TOP}/tests/refuse.c", "-ldl"], check=True)
     no_json, fraction = runner.write("no.json", '{"a": [1,'), runner.write("fraction.json", document('"x-a": 0.5'))

@@ -1,4 +1,4 @@
--- No cause is told twice of one location.
+-- No cause is reported twice at one location.
 use Rattle.std.proofs.Common.{◌≡◌, ℕ, suc, pos, Bool, true, false, not, cond, ◌&&◌, ◌||◌, List, [], ◌∷◌, Option, Some, None}
 use Rattle.std.proofs.Common.{refl, sym, ap, ◌∙◌, subst, inl, inr, nat_le}
 use Rattle.std.proofs.lemmas.Bool.{and_parts, both_ways, not-true}
@@ -126,7 +126,7 @@ tag_few : (n : List ℕ) (l : List (Entry Tree)) → AreFew (tag_misses n l)
 tag_few n [] = tt
 tag_few n (e ∷ l) = tt
 
--- ---- what is told of all that is asked
+-- ---- what is reported of all that is asked
 
 abbrev tail : Place → Place
 tail [] = []
@@ -174,9 +174,9 @@ module _ (T : Tables) (W : tables_sound T ≡ true) where
       subst (λ l. AreDistinct l) (sym (gather_below (told_at T) (told_moves T) s as'))
       (distinct_each (one_below s) (below_same s) (tell as') d)
 
-  -- ---- that it is told once
+  -- ---- that it is reported once
 
-  -- of a value nothing is told twice, whatever is asked of it
+  -- of a value nothing is reported twice, whatever is asked of it
   abbrev OnceOf : Tree → Type 0
   OnceOf t = (k : Kind) → sound T k ≡ true → AreDistinct (tell (asked T k t))
 

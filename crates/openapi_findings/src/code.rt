@@ -105,12 +105,22 @@ impl Code {
 }
 
 impl fmt::Display for Severity {
+    ghost use Rattle.std.specs.Prelude.{Some};
+    ghost use Rattle.openapi_findings.specs.Stated.{severity_word};
+
+    ghost output = { λ s. Some (severity_word s) };
+
     fn fmt<W: fmt::Write>(&self, f: &mut fmt::Formatter<W>) -> fmt::Result {
         f.write_str(self.as_str())
     }
 }
 
 impl fmt::Display for Code {
+    ghost use Rattle.std.specs.Prelude.{Some};
+    ghost use Rattle.openapi_findings.specs.Stated.{code_word};
+
+    ghost output = { λ c. Some (code_word c) };
+
     fn fmt<W: fmt::Write>(&self, f: &mut fmt::Formatter<W>) -> fmt::Result {
         f.write_str(self.as_str())
     }

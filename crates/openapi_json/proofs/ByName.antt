@@ -193,6 +193,14 @@ named_line t whole =
     ap (λ l. tokens (l ++ 10 ∷ [])) (sym (print-outline d))
     ∙ compact_line (data_tokens d) (ArePrintable-json_tokens (outline d) (again t (nesting t) whole (omega arith)).numbers)
 
+-- what was made of these tokens is read as the tree by name
+pub read_again_by_name : {E : Type 0} (r : Result (String Global) E) (t : Tree)
+    → IfOk r (λ s. tokens (string_bytes s) ≡ data_tokens (data_of t)) → AreWhole t
+    → IfOk r (λ s. nesting t ≤ max_depth → IsTreeOfText (string_bytes s) (tree_by_name t))
+read_again_by_name (Ok s) t is whole =
+    λ shallow. read_by_name (string_bytes s) t (IsUtf8-string_bytes s) is whole shallow
+read_again_by_name (Err e) t is whole = tt
+
 -- what was made of the text of a tree is read as that tree by name
 pub named_again : {E : Type 0} (r : Result (String Global) E) (t : Tree) → IfOk r (λ s. string_bytes s ≡ compact_text (data_of t))
     → OnOk r (AreWhole t) → IfOk r (λ s. nesting t ≤ max_depth → IsTreeOfText (string_bytes s) (tree_by_name t))

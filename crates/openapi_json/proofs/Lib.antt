@@ -14,3 +14,4 @@ pub mod Scanned
 pub mod Shuffled
 pub mod Sorted
 pub mod Turns
+pub mod Unheld

@@ -19,7 +19,7 @@ use Rattle.openapi_node.specs.Tree as tree
 use Rattle.openapi_node.specs.Tree.{Tree, items_of, members_of}
 use Rattle.openapi_node.proofs.DataOrder.{InOrder, InOrder-put, fits}
 use Rattle.openapi_json.specs.Ordered.{put_in_place, in_order, items_in_order, members_in_order, by_name, items_by_name}
-use Rattle.openapi_json.specs.Ordered.{members_by_name, tree_of_any, tree_of, trees_of, entries_of, holds_whole}
+use Rattle.openapi_json.specs.Ordered.{members_by_name, tree_of_any, tree_or_zero, tree_of, trees_of, entries_of, holds_whole}
 use Rattle.openapi_json.specs.Ordered.{all_whole, items_whole, members_whole, parsed, IsTreeInOrder}
 use Rattle.openapi_json.proofs.Order.{both, none}
 
@@ -295,49 +295,91 @@ mutual
       (members_plain ms (put k (by_name d) acc) (c.0.1, c.1.1) (InOrder-put k (by_name d) acc o) h)
 
 -- ---- the tree of what is read
+-- the tree of data, with 0 in place of each number that is not whole
+abbrev mutual
+  pub filled : Data → Tree
+  filled null = tree.null
+  filled (boolean b) = tree.flag b
+  filled (number n) = tree_or_zero n
+  filled (string s) = tree.text s
+  filled (array ds) = tree.list (items_filled ds)
+  filled (object ms) = tree.object (members_filled ms)
+
+  pub items_filled : Items → tree.Items
+  items_filled no_items = tree.no_items
+  items_filled (item d ds) = tree.item (filled d) (items_filled ds)
+
+  pub members_filled : Members → tree.Members
+  members_filled no_members = tree.no_members
+  members_filled (member k d ms) = tree.member k (filled d) (members_filled ms)
+
+mutual
+  -- without a float it is the tree of the data
+  pub filled_plain : (d : Data) → has_float d ≡ false → filled d ≡ tree_of_data d
+  filled_plain null h = refl
+  filled_plain (boolean b) h = refl
+  filled_plain (number (unsigned n)) h = refl
+  filled_plain (number (negative z)) h = refl
+  filled_plain (number (float x)) h = absurd (true≢false h)
+  filled_plain (string s) h = refl
+  filled_plain (array ds) h = ap tree.list (items_filled_plain ds h)
+  filled_plain (object ms) h = ap tree.object (members_filled_plain ms h)
+
+  items_filled_plain : (ds : Items) → items_have_float ds ≡ false → items_filled ds ≡ items_of_data ds
+  items_filled_plain no_items h = refl
+  items_filled_plain (item d ds) h =
+      let parts = none (has_float d) (items_have_float ds) h in
+      λ i. tree.item (filled_plain d parts.0 i) (items_filled_plain ds parts.1 i)
+
+  members_filled_plain : (ms : Members) → members_have_float ms ≡ false → members_filled ms ≡ members_of_data ms
+  members_filled_plain no_members h = refl
+  members_filled_plain (member k d ms) h =
+      let parts = none (has_float d) (members_have_float ms) h in
+      λ i. tree.member k (filled_plain d parts.0 i) (members_filled_plain ms parts.1 i)
+
 abbrev members_entries : Members → Entries Tree
 members_entries no_members = []
-members_entries (member k d ms) = (k, tree_of_data d) ∷ members_entries ms
+members_entries (member k d ms) = (k, filled d) ∷ members_entries ms
 
-entries_members : (ms : Members) → members_of (members_entries ms) ≡ members_of_data ms
+entries_members : (ms : Members) → members_of (members_entries ms) ≡ members_filled ms
 entries_members no_members = refl
-entries_members (member k d ms) = ap (tree.member k (tree_of_data d)) (entries_members ms)
+entries_members (member k d ms) = ap (tree.member k (filled d)) (entries_members ms)
 
 entry_put : (k : List ℕ) (d : Data) (ms : Members)
-    → insert_entry (members_entries ms) k (tree_of_data d) ≡ members_entries (put_in_place k d ms)
+    → insert_entry (members_entries ms) k (filled d) ≡ members_entries (put_in_place k d ms)
 entry_put k d no_members = refl
 entry_put k d (member l e ms) = by (bytes_eq k l) (entry_put k d ms)
   where
-    by : (b : Bool) → insert_entry (members_entries ms) k (tree_of_data d) ≡ members_entries (put_in_place k d ms)
-        → cond b ((l, tree_of_data d) ∷ members_entries ms)
-        ((l, tree_of_data e) ∷ insert_entry (members_entries ms) k (tree_of_data d))
+    by : (b : Bool) → insert_entry (members_entries ms) k (filled d) ≡ members_entries (put_in_place k d ms)
+        → cond b ((l, filled d) ∷ members_entries ms)
+        ((l, filled e) ∷ insert_entry (members_entries ms) k (filled d))
         ≡ members_entries (cond b (member l d ms) (member l e (put_in_place k d ms)))
     by true rest = refl
-    by false rest = ap (λ es. (l, tree_of_data e) ∷ es) rest
+    by false rest = ap (λ es. (l, filled e) ∷ es) rest
 
-number_made : (o : Option Num) → IfSome (option_map number o) (λ d. tree_of_any o ≡ tree_of_data d)
+number_made : (o : Option Num) → IfSome (option_map number o) (λ d. tree_of_any o ≡ filled d)
 number_made None = tt
 number_made (Some n) = refl
 
-array_made : (js : json.Items) (o : Option Items) → IfSome o (λ ds. items_of (trees_of js) ≡ items_of_data ds)
-    → IfSome (option_map array o) (λ d. tree.list (items_of (trees_of js)) ≡ tree_of_data d)
+array_made : (js : json.Items) (o : Option Items) → IfSome o (λ ds. items_of (trees_of js) ≡ items_filled ds)
+    → IfSome (option_map array o) (λ d. tree.list (items_of (trees_of js)) ≡ filled d)
 array_made js None h = tt
 array_made js (Some ds) h = ap tree.list h
 
 object_made : (ms : json.Members) (o : Option Members) → IfSome o (λ ds. entries_of ms [] ≡ members_entries ds)
-    → IfSome (option_map object o) (λ d. tree.object (members_of (entries_of ms [])) ≡ tree_of_data d)
+    → IfSome (option_map object o) (λ d. tree.object (members_of (entries_of ms [])) ≡ filled d)
 object_made ms None h = tt
 object_made ms (Some ds) h = ap (λ es. tree.object (members_of es)) h ∙ ap tree.object (entries_members ds)
 
-item_made : (j : json.Json) (js : json.Items) (o : Option Data) (p : Option Items) → IfSome o (λ d. tree_of j ≡ tree_of_data d)
-    → IfSome p (λ ds. items_of (trees_of js) ≡ items_of_data ds)
-    → IfSome (option_and_then (λ d. option_map (item d) p) o) (λ ds. items_of (trees_of (json.item j js)) ≡ items_of_data ds)
+item_made : (j : json.Json) (js : json.Items) (o : Option Data) (p : Option Items) → IfSome o (λ d. tree_of j ≡ filled d)
+    → IfSome p (λ ds. items_of (trees_of js) ≡ items_filled ds)
+    → IfSome (option_and_then (λ d. option_map (item d) p) o) (λ ds. items_of (trees_of (json.item j js)) ≡ items_filled ds)
 item_made j js None p c h = tt
 item_made j js (Some d) None c h = tt
 item_made j js (Some d) (Some ds) c h = λ i. tree.item (c i) (h i)
 
 member_made : (k : List ℕ) (j : json.Json) (ms : json.Members) (es : Members) (o : Option Data)
-    → IfSome o (λ d. tree_of j ≡ tree_of_data d)
+    → IfSome o (λ d. tree_of j ≡ filled d)
     → ((fs : Members) → IfSome (members_in_order ms fs) (λ ds. entries_of ms (members_entries fs) ≡ members_entries ds))
     → IfSome (option_and_then (λ d. members_in_order ms (put_in_place k d es)) o)
     (λ ds. entries_of ms (insert_entry (members_entries es) k (tree_of j)) ≡ members_entries ds)
@@ -349,7 +391,7 @@ member_made k j ms es (Some d) h rest =
 
 mutual
   -- what is made of a value is the tree of its data in order
-  made : (j : json.Json) → IfSome (in_order j) (λ d. tree_of j ≡ tree_of_data d)
+  pub made : (j : json.Json) → IfSome (in_order j) (λ d. tree_of j ≡ filled d)
   made json.null = refl
   made (json.boolean b) = refl
   made (json.number s) = number_made (number_of s)
@@ -357,7 +399,7 @@ mutual
   made (json.array js) = array_made js (items_in_order js) (items_made js)
   made (json.object ms) = object_made ms (members_in_order ms no_members) (members_made ms no_members)
 
-  items_made : (js : json.Items) → IfSome (items_in_order js) (λ ds. items_of (trees_of js) ≡ items_of_data ds)
+  items_made : (js : json.Items) → IfSome (items_in_order js) (λ ds. items_of (trees_of js) ≡ items_filled ds)
   items_made json.no_items = refl
   items_made (json.item j js) = item_made j js (in_order j) (items_in_order js) (made j) (items_made js)
 
@@ -367,7 +409,7 @@ mutual
   members_made (json.member k j ms) es = member_made k j ms es (in_order j) (made j) (members_made ms)
 
 -- ---- where all numbers are whole, there is data without a float
-abbrev IsPlain : Option Data → Type 0
+abbrev pub IsPlain : Option Data → Type 0
 IsPlain None = ⊥
 IsPlain (Some d) = has_float d ≡ false
 
@@ -452,10 +494,11 @@ pub record IsReadInOrder (j : json.Json) : Type 0 where
   pub reads : in_order j ≡ Some value
   pub is : IsTreeOf value (tree_of j)
 
-in_order_from : (j : json.Json) (o : Option Data) → in_order j ≡ o → IsPlain o → IfSome o (λ d. tree_of j ≡ tree_of_data d)
+pub in_order_from : (j : json.Json) (o : Option Data) → in_order j ≡ o → IsPlain o → IfSome o (λ d. tree_of j ≡ filled d)
     → IsReadInOrder j
 in_order_from j None e p h = absurd p
-in_order_from j (Some d) e p h = record { value = d; reads = e; is = record { whole_numbers = p; same = h } }
+in_order_from j (Some d) e p h =
+    record { value = d; reads = e; is = record { whole_numbers = p; same = h ∙ filled_plain d p } }
 
 -- where all numbers are whole
 pub read_whole : (j : json.Json) → all_whole j ≡ true → IsReadInOrder j

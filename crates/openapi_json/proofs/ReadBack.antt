@@ -27,13 +27,13 @@ use Rattle.openapi_node.specs.Named.{lacks, well_named, items_named, members_nam
 use Rattle.openapi_node.specs.Tree as tree
 use Rattle.openapi_node.specs.Tree.{Tree, items_of, members_of}
 use Rattle.openapi_node.specs.Whole.{IsWhole}
-use Rattle.openapi_json.specs.Ordered.{all_whole, entries_of, holds_whole, is_whole, IsTreeInOrder, items_whole, members_whole, parsed}
+use Rattle.openapi_json.specs.Ordered.{all_whole, entries_of, holds_whole, IsTreeInOrder, items_whole, members_whole, parsed}
 use Rattle.openapi_json.specs.Ordered.{tree_of, tree_of_any, trees_of}
 use Rattle.openapi_json.specs.Writing.{AreWhole, data_in_order, data_tokens, items_in, ItemsAreWhole, items_nesting, members_in, MembersAreWhole}
 use Rattle.openapi_json.specs.Writing.{members_nesting, nesting}
 use Rattle.openapi_json.specs.declared.write.Order.TheVariants.{AsTheyStand}
 use Rattle.openapi_json.proofs.Lines.{compact_line, pretty_line}
-use Rattle.openapi_json.proofs.Numbers.{whole_tree}
+use Rattle.openapi_json.proofs.Numbers.{integer_whole, whole_kept}
 use Rattle.openapi_json.proofs.Ordered.{in_order_of, read_whole}
 use Rattle.openapi_json.proofs.Sorted.{some_same}
 
@@ -49,10 +49,6 @@ number_again (negsuc n) h = number_of-negative n (omega (arith, ints, h.0))
 pub number_spelled : (z : ℤ) → IsWhole z → IsNumber (number_text (of_integer z))
 number_spelled (pos n) h = IsNumber-decimal n (omega (arith, ints, h.1))
 number_spelled (negsuc n) h = IsNumber-signed_decimal (negsuc n) (omega (arith, ints, h.0))
-
-integer_whole : (z : ℤ) → is_whole (of_integer z) ≡ true
-integer_whole (pos n) = refl
-integer_whole (negsuc n) = refl
 
 -- ---- members whose names differ stay in their order
 -- the members with these before them
@@ -131,7 +127,7 @@ mutual
   written (tree.flag b) h w = record { tree = refl; whole = refl; numbers = tt; nests = refl }
   written (tree.whole z) h w =
       record {
-        tree = ap tree_of_any (number_again z w) ∙ whole_tree z;
+        tree = ap tree_of_any (number_again z w) ∙ whole_kept z;
         whole = ap holds_whole (number_again z w) ∙ integer_whole z;
         numbers = number_spelled z w;
         nests = refl;

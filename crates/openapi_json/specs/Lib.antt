@@ -6,3 +6,4 @@ pub mod Positions
 pub mod Reading
 pub mod Scanned
 pub mod Writing
+pub mod Zeros

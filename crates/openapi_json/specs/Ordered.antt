@@ -1,5 +1,5 @@
 -- The tree of a JSON text whose members stand in the order of the text, beside the tree by name.
-use Rattle.std.specs.Prelude.{◌≡◌, ℕ, List, [], ◌∷◌, cond, Bool, ◌&&◌, true, false, Option, Some, None, option_map, option_and_then}
+use Rattle.std.specs.Prelude.{◌≡◌, ℕ, pos, List, [], ◌∷◌, cond, Bool, ◌&&◌, true, false, Option, Some, None, option_map, option_and_then}
 use Rattle.std.specs.Str.{bytes_eq, IsUtf8}
 use Rattle.json.specs.Json as json
 use Rattle.json.specs.Lex.{tokens}
@@ -65,12 +65,17 @@ pub record IsTreeInOrder (text : List ℕ) (t : Tree) : Type 0 where
   pub is : IsTreeOf value t
   pub sorted : read text ≡ Some (by_name value)
 
--- ---- for private clauses: what is made of a value, whether its numbers are whole or not
+-- ---- what is made of a value whose numbers may not be whole
 
--- the tree of a number, where there is one and it is whole
+-- the tree of a number if it is whole, and else that of 0
+abbrev pub tree_or_zero : Num → Tree
+tree_or_zero (float x) = tree.whole (pos 0)
+tree_or_zero n = number_tree n
+
+-- the same where there may be no number
 abbrev pub tree_of_any : Option Num → Tree
-tree_of_any None = tree.null
-tree_of_any (Some n) = number_tree n
+tree_of_any None = tree.whole (pos 0)
+tree_of_any (Some n) = tree_or_zero n
 
 -- the tree of the text of a number
 abbrev pub tree_of_number : List ℕ → Tree
@@ -90,6 +95,8 @@ holds_whole (Some n) = is_whole n
 abbrev pub writes_whole : List ℕ → Bool
 writes_whole s = holds_whole (number_of s)
 
+-- The tree of a JSON value, with 0 in place of each number that is not whole. Of a name that comes again the last value counts, in the
+-- first place.
 abbrev mutual
   pub tree_of : json.Json → Tree
   tree_of json.null = tree.null

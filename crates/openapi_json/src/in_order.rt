@@ -12,7 +12,7 @@ use crate::read::MAX_DEPTH;
 use crate::unread::Unread;
 use json::{Error, Reader, Scratch, Value};
 use openapi_map::OrderedMap;
-use openapi_node::Node;
+use openapi_node::{Node, Whole};
 use std::alloc::{AllocError, Global};
 
 /// The node of bytes that are JSON text, with the members of each object in the order of the text. Of a name that comes
@@ -69,7 +69,7 @@ pub(crate) fn read_value<'a>(
     Ok(value)
 }
 
-/// The node of the text of a number. `Null` stands for one that is not whole, and then `whole` becomes false.
+/// Returns the node of the text of a number. If the number is not whole, it is 0, and `whole` becomes false.
 fn node_of_number(text: &str, whole: &mut bool) -> Node
     ensures node { result ≡ tree_of_number text.now }
     ensures whole { whole.new ≡ (whole.old && writes_whole text.now) }
@@ -78,14 +78,18 @@ fn node_of_number(text: &str, whole: &mut bool) -> Node
         Some(value) => Node::whole(value),
         None => {
             *whole = false;
-            Node::null()
+            Node::whole(Whole::from(0u64))
         }
     }
 }
 
-/// The node of a value. `whole` becomes false where a number in it is not whole.
+/// Returns the node of a value, with 0 in place of each number that is not whole. `whole` becomes false if there is one.
 #[cycle(make)]
-fn node_of(alloc: Global, value: &Value<'_>, whole: &mut bool) -> Result<Node, AllocError>
+pub(crate) fn node_of(
+    alloc: Global,
+    value: &Value<'_>,
+    whole: &mut bool,
+) -> Result<Node, AllocError>
     ensures node { IfOk result (λ n. n ≡ tree_of (value_view value.now)) }
     ensures whole { OnOk result (whole.new ≡ (whole.old && all_whole (value_view value.now))) }
 {

@@ -2,6 +2,7 @@
 //! Nodes from JSON text, and JSON text from nodes, with no value of `serde_json` between the two.
 mod batch;
 mod by_value;
+mod copy;
 mod fault;
 mod first_tokens;
 mod in_order;
@@ -15,11 +16,14 @@ mod read;
 mod scan;
 mod unread;
 mod write;
+mod zeros;
 
 pub use batch::positions_of;
 pub use by_value::node_from_json;
+pub use copy::copied_place;
 pub use fault::JsonFault;
 pub use in_order::node_from_json_in_order;
 pub use position::{Point, Position, position_of};
-pub use pretty::pretty_from_node_in_order;
+pub use pretty::{pretty_from_node, pretty_from_node_in_order};
 pub use write::{json_from_node, json_from_node_in_order};
+pub use zeros::{ReplacedNumber, WithZeros, node_with_zeros_in_order};

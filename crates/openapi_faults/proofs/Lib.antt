@@ -23,4 +23,5 @@ pub mod Shown
 pub mod SoundKinds
 pub mod Telling
 pub mod Trimmed
+pub mod Unlimited
 pub mod Walking

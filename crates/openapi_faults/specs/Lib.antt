@@ -1,6 +1,7 @@
 pub mod Adds
 pub mod Dropped
 pub mod Laws
+pub mod Limited
 pub mod Meaning
 pub mod References
 pub mod Told

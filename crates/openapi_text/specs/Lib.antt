@@ -1,3 +1,4 @@
 pub mod Laws
+pub mod Located
 pub mod Status
 pub mod Texts

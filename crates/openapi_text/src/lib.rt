@@ -6,9 +6,11 @@ mod fault;
 pub mod laws;
 mod layout;
 mod pipes;
+mod refusal;
 mod rewriting;
 
 pub use fault::RunFault;
 pub use layout::{Layout, read_tree, text_of};
-pub use pipes::{read_all, write_all};
-pub use rewriting::{Rewriting, read_object, rewrite};
+pub use pipes::{ReadFault, read_all, read_bytes, write_all, write_bytes};
+pub use refusal::Refusal;
+pub use rewriting::{Rewriting, cleaned_tree, read_object, rewrite, settled_tree};

@@ -71,8 +71,17 @@ pub fn rewrite(
     }
 }
 
-/// The cleaned tree.
-fn cleaned_tree<T: IntoNode>(alloc: Global, node: Node, steps: &mut Steps) -> Result<Node, RunFault>
+/// Returns the value that is written of the object which a value holds: cleaned once.
+///
+/// # Errors
+///
+/// [`RunFault::Refused`] if the value does not conform, with the location and the rule that it breaks, and
+/// [`RunFault::Memory`] if an allocation fails.
+pub fn cleaned_tree<T: IntoNode>(
+    alloc: Global,
+    node: Node,
+    steps: &mut Steps,
+) -> Result<Node, RunFault>
     ensures ok { IfOk result (λ n. (conforms final_tables T.FromNode.kind node ≡ true)
         × (n ≡ clean final_tables T.FromNode.kind node)) }
     ensures err { IfErr result (IsFaultOf T.FromNode.kind node) }
@@ -81,9 +90,14 @@ fn cleaned_tree<T: IntoNode>(alloc: Global, node: Node, steps: &mut Steps) -> Re
     tree_of_object(alloc, object)
 }
 
-/// The settled tree.
+/// Returns the value of an object in stable form: cleaned twice, after which cleaning changes nothing.
+///
+/// # Errors
+///
+/// [`RunFault::Refused`] if the value does not conform, with the location and the rule that it breaks, and
+/// [`RunFault::Memory`] if an allocation fails.
 #[tactic(auto, using(crate::proofs::Refusals::not_conforming))]
-fn settled_tree<T: ToNode + Drop>(
+pub fn settled_tree<T: ToNode + Drop>(
     alloc: Global,
     node: Node,
     steps: &mut Steps,

@@ -15,7 +15,8 @@ use Rattle.openapi_faults.specs.declared.dropped.DropReason.{DropReason}
 use Rattle.openapi_faults.specs.declared.dropped.Dropped.{Dropped}
 use Rattle.openapi_faults.specs.declared.reference.Reference.{Reference}
 use Rattle.openapi_findings.specs.declared.report.Report.{Report}
-use Rattle.openapi_findings.specs.Stated.{Statement, picked, statement_of, unresolved_at, cause_code, dropped_stated, fault_stated}
+use Rattle.openapi_findings.specs.Numbers.{places_of}
+use Rattle.openapi_findings.specs.Stated.{Statement, picked, place_in_report, statement_of, unresolved_at, cause_code, dropped_stated, fault_stated}
 
 module _ {X Y : Type 0} (f : X → Y) where
   pub adds_none : (xs : List X) → Adds f xs xs []
@@ -41,11 +42,15 @@ module _ {X Y : Type 0} (f : X → Y) where
   adds_more g old mid new ps qs h k =
       adds_then old mid new (map g ps) (map g qs) h k ∙ ap (λ l. map f old ++ l) (sym (map-append g ps qs))
 
-  -- what is appended to an empty list, in five steps
-  pub adds_all : (l r1 r2 r3 r4 r5 : List X) (as' bs cs ds es : List Y) → l ≡ [] → Adds f l r1 as' → Adds f r1 r2 bs
-      → Adds f r2 r3 cs → Adds f r3 r4 ds → Adds f r4 r5 es → map f r5 ≡ as' ++ bs ++ cs ++ ds ++ es
-  adds_all l r1 r2 r3 r4 r5 as' bs cs ds es n a b c d e =
-      e ∙ ap (λ z. z ++ es) (d ∙ ap (λ z. z ++ ds) (c ∙ ap (λ z. z ++ cs) (b ∙ ap (λ z. z ++ bs) (a ∙ ap (λ z. map f z ++ as') n))))
+  -- what is appended to an empty list, in two steps
+  pub adds_two : (l r1 r2 : List X) (as' bs : List Y) → l ≡ [] → Adds f l r1 as' → Adds f r1 r2 bs → map f r2 ≡ as' ++ bs
+  adds_two l r1 r2 as' bs n a b = b ∙ ap (λ z. z ++ bs) (a ∙ ap (λ z. map f z ++ as') n)
+
+  -- and in four more
+  pub adds_all : (r2 r3 r4 r5 r6 : List X) (bs cs ds es fs : List Y) → map f r2 ≡ bs → Adds f r2 r3 cs → Adds f r3 r4 ds
+      → Adds f r4 r5 es → Adds f r5 r6 fs → map f r6 ≡ bs ++ cs ++ ds ++ es ++ fs
+  adds_all r2 r3 r4 r5 r6 bs cs ds es fs b c d e g =
+      g ∙ ap (λ z. z ++ fs) (e ∙ ap (λ z. z ++ es) (d ∙ ap (λ z. z ++ ds) (c ∙ ap (λ z. z ++ cs) b)))
 
 -- what a fault states
 abbrev pub stated_of : Fault → Statement
@@ -63,6 +68,11 @@ states_in (f ∷ fs) = ap (λ l. stated_of f ∷ l) (states_in fs)
 pub faults_state : (fs : List Fault) (cs : List (Place × Cause)) → map fault_in fs ≡ each known cs
     → map stated_of fs ≡ each fault_stated cs
 faults_state fs cs e = states_in fs ∙ ap (map (λ (p : Place × Option Cause). (p.0, cause_code p.1))) e ∙ states_known cs
+
+-- the locations of reports are those of what they state
+pub report_places-same : (rs : List Report) → map place_in_report rs ≡ places_of (map statement_of rs)
+report_places-same [] = refl
+report_places-same (r ∷ rs) = ap (λ l. place_in_report r ∷ l) (report_places-same rs)
 
 -- what a member that has no effect states
 abbrev pub loss_of : Dropped → Statement

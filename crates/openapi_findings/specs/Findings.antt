@@ -1,16 +1,16 @@
 -- The findings of a text: what is to be reported of it, each at its position, in the order of the text.
 use Rattle.std.specs.Prelude.{◌≡◌, ◌⊎◌, ℕ, Bool, cond, List, [], ◌∷◌, ◌++◌, All, Option, Some, None, IfSome, map, option_map}
 use Rattle.std.specs.List.Sorted.{IsNonDecreasingBy, IsPermutation}
-use Rattle.openapi_json.specs.Ordered.{IsTreeInOrder}
 use Rattle.openapi_json.specs.Positions.{IsPositionAt}
 use Rattle.openapi_json.specs.Reading.{Explains}
+use Rattle.openapi_json.specs.Zeros.{IsTreeWithZeros, NumberAt}
 use Rattle.openapi_json.specs.declared.fault.JsonFault.TheVariants as unread
 use Rattle.openapi_json.specs.declared.position.Point.{Point}
-use Rattle.openapi_node.specs.Fault.{place_of, step_of}
+use Rattle.openapi_node.specs.Fault.{step_of}
 use Rattle.openapi_node.specs.Place.{Place}
 use Rattle.openapi_node.specs.Tree.{Tree}
-use Rattle.openapi_node.specs.declared.fault.Fault.{Fault}
-use Rattle.openapi_findings.specs.Stated.{Statement, is_about_member, repeated_at, stated_in, unresolved_in}
+use Rattle.openapi_findings.specs.Numbers.{numbers_stated}
+use Rattle.openapi_findings.specs.Stated.{Statement, errors_in, is_about_member, losses_in, repeated_at, unresolved_in}
 use Rattle.openapi_findings.specs.declared.code.Code.{Code}
 use Rattle.openapi_findings.specs.declared.code.Code.TheVariants as code
 use Rattle.openapi_findings.specs.declared.finding.Finding.{Finding}
@@ -48,28 +48,28 @@ offset_of f = offset_in (point_of f)
 abbrev pub IsPlaced : List ℕ → Finding → Type 0
 IsPlaced bytes f = IfSome (place_in f) (λ p. IsPositionAt bytes p f.position)
 
+-- what is to be reported of a document with these numbers that no tree holds, beside the references that lead to no value and the
+-- names that come again
+abbrev pub stated_in : Tree → List NumberAt → List Statement
+stated_in t ns = errors_in t ++ numbers_stated t ns ++ losses_in t
+
 -- the findings of a document: they state what is to be reported of it, which of its references lead to
 -- no value, and which names come again
 pub record AreOfDocument (bytes : List ℕ) (fs : List Finding) : Type 0 where
   pub tree : Tree
-  pub reads : IsTreeInOrder bytes tree
+  pub numbers : List NumberAt
+  pub reads : IsTreeWithZeros bytes tree numbers
   pub unresolved : List Bool
   pub repeated : List Place
-  pub all : IsPermutation (map found (stated_in tree ++ unresolved_in unresolved tree ++ map repeated_at repeated)) (map finds fs)
+  pub all : IsPermutation (map found (stated_in tree numbers ++ unresolved_in unresolved tree ++ map repeated_at repeated)) (map finds fs)
 
 -- the one finding of a text that is no JSON
 pub record AreOfNoJson (bytes : List ℕ) (fs : List Finding) : Type 0 where
   pub unread : Explains bytes unread.NotJson
   pub one : map finds fs ≡ (None, code.NotJson) ∷ []
 
--- the one finding of a text with a number that is not whole
-pub record AreOfFraction (bytes : List ℕ) (fs : List Finding) : Type 0 where
-  pub fault : Fault
-  pub unread : Explains bytes (unread.NotWhole fault)
-  pub one : map finds fs ≡ (Some (place_of fault), code.NotWhole) ∷ []
-
 -- the findings of a text, each at its position, and none before another one that is shown before it
 pub record AreFindings (bytes : List ℕ) (fs : List Finding) : Type 0 where
-  pub stated : AreOfDocument bytes fs ⊎ AreOfNoJson bytes fs ⊎ AreOfFraction bytes fs
+  pub stated : AreOfDocument bytes fs ⊎ AreOfNoJson bytes fs
   pub placed : All (IsPlaced bytes) fs
   pub in_order : IsNonDecreasingBy offset_of fs

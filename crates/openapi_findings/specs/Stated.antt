@@ -3,13 +3,15 @@ use Rattle.std.specs.Prelude.{ℕ, Bool, true, false, cond, List, [], ◌∷◌,
 use Rattle.openapi_node.specs.Fault.{step_of}
 use Rattle.openapi_node.specs.Place.{Place, named}
 use Rattle.openapi_node.specs.Tree.{Tree, object, Members, find, text_in}
+use Rattle.openapi_node.specs.declared.fault.Cause as declared
+use Rattle.openapi_node.specs.declared.fault.Cause.TheVariants as refused
 use Rattle.openapi_tables.specs.Faults.{Cause, missing, missing_either, wrong_kind, not_allowed, unknown_variant}
 use Rattle.openapi_tables.specs.Kind.{Kind, begins, by, open_api}
 use Rattle.openapi_tables.specs.Lists.{each}
 use Rattle.openapi_tables.specs.Tables.{final_tables}
 use Rattle.openapi_faults.specs.Dropped.{dropped_in}
 use Rattle.openapi_faults.specs.References.{references_in}
-use Rattle.openapi_faults.specs.Told.{told}
+use Rattle.openapi_faults.specs.Told.{cause_in, told}
 use Rattle.openapi_faults.specs.declared.dropped.DropReason.{DropReason}
 use Rattle.openapi_faults.specs.declared.dropped.DropReason.TheVariants as reason
 use Rattle.openapi_findings.specs.declared.code.Code.{Code}
@@ -25,12 +27,14 @@ severity_of code.BesideRef = severity.Warning
 severity_of code.SecondOfTwo = severity.Warning
 severity_of code.UnresolvedReference = severity.Warning
 severity_of code.RepeatedName = severity.Warning
+severity_of code.Fraction = severity.Note
 severity_of c = severity.Error
 
 -- the words that are printed
 abbrev pub severity_word : Severity → List ℕ
 severity_word severity.Error = codes "error"
 severity_word severity.Warning = codes "warning"
+severity_word severity.Note = codes "note"
 
 abbrev pub code_word : Code → List ℕ
 code_word code.NotJson = codes "not-json"
@@ -46,6 +50,7 @@ code_word code.BesideRef = codes "beside-ref"
 code_word code.SecondOfTwo = codes "second-of-two"
 code_word code.UnresolvedReference = codes "unresolved-reference"
 code_word code.RepeatedName = codes "repeated-name"
+code_word code.Fraction = codes "fraction"
 
 -- whether the findings of a code are about a member as a whole, with its name
 abbrev pub is_about_member : Code → Bool
@@ -97,11 +102,22 @@ cause_code (Some not_allowed) = code.ValueNotAllowed
 cause_code (Some unknown_variant) = code.UnknownValue
 cause_code None = code.ValueNotAllowed
 
+-- the code of a refusal: a number that is not whole is refused where no table is asked
+abbrev pub refusal_code : declared.Cause → Code
+refusal_code refused.NotWhole = code.NotWhole
+refusal_code c = cause_code (cause_in c)
+
 abbrev pub fault_stated : Place × Cause → Statement
 fault_stated f = (f.0, cause_code (Some f.1))
 
 abbrev pub faults_in : Tree → List Statement
 faults_in t = each fault_stated (told final_tables (by open_api) t)
+
+-- ---- errors
+
+-- the errors of a document, beside those of numbers that are not whole
+abbrev pub errors_in : Tree → List Statement
+errors_in t = version_in t ++ faults_in t
 
 -- ---- members that have no effect
 
@@ -136,9 +152,3 @@ unresolved_in bs t = map unresolved_at (picked bs (references_in (by open_api) t
 
 abbrev pub repeated_at : Place → Statement
 repeated_at p = (p, code.RepeatedName)
-
--- ---- all that is to be reported
-
--- what is to be reported of a document, beside the references that lead to no value and the names that come again
-abbrev pub stated_in : Tree → List Statement
-stated_in t = version_in t ++ faults_in t ++ losses_in t

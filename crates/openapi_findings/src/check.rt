@@ -1,34 +1,37 @@
 //! All findings of a text.
-ghost use Rattle.std.specs.Prelude.{◌≡◌, [], ◌∷◌, ◌++◌, All, Bool, List, None, IfErr, IfOk, map};
+ghost use Rattle.std.specs.Prelude.{◌≡◌, ◌++◌, All, Bool, List, IfOk, map};
 ghost use Rattle.std.specs.List.{AllZip};
 ghost use Rattle.std.specs.List.Sorted.{IsNonDecreasingBy, IsPermutation};
-ghost use Rattle.openapi_json.specs.Ordered.{IsTreeInOrder};
 ghost use Rattle.openapi_json.specs.Positions.{IsPositionAt};
 ghost use Rattle.openapi_json.specs.Reading.{Explains};
+ghost use Rattle.openapi_json.specs.Zeros.{IsTreeWithZeros, replaced_of};
 ghost use Rattle.openapi_json.specs.declared.fault.JsonFault.TheVariants as unread;
-ghost use Rattle.openapi_node.specs.Fault.{place_of};
 ghost use Rattle.openapi_node.specs.Place.{Place};
-ghost use Rattle.openapi_findings.specs.Findings.{AreFindings, IsPlaced, finds, found};
+ghost use Rattle.openapi_findings.specs.Findings.{AreFindings, IsPlaced, finds, found, stated_in};
 ghost use Rattle.openapi_findings.specs.Findings as spec;
-ghost use Rattle.openapi_findings.specs.Stated.{place_in_report, repeated_at, stated_in, statement_of, unresolved_in};
+ghost use Rattle.openapi_findings.specs.Stated.{place_in_report, repeated_at, statement_of, unresolved_in};
 
-use crate::code::Code;
 use crate::dropped_reports::report_dropped;
 use crate::fault_reports::report_faults;
 use crate::finding::Finding;
+use crate::number_reports::report_numbers;
 use crate::reference_reports::report_references;
 use crate::repeated_reports::report_repeated;
-use crate::report::Report;
+use crate::report::{Report, report_places};
 use crate::syntax::syntax_finding;
 use crate::version_report::report_version;
-use openapi_json::{JsonFault, Position, node_from_json_in_order, positions_of};
-use openapi_node::{Fault, Node, PlaceStep, Steps};
+use openapi_json::{JsonFault, Position, WithZeros, node_with_zeros_in_order, positions_of};
+use openapi_node::Steps;
 use std::alloc::{AllocError, Global};
 
 /// Returns the findings of a text that is to be an OpenAPI document in JSON, in the order of the text.
 ///
-/// A text that is no JSON has one finding, [`Code::NotJson`]. One with a number that is not whole has one as well,
-/// [`Code::NotWhole`], and is not checked otherwise.
+/// A text that is no JSON has one finding, [`Code::NotJson`]. A number that no node holds is [`Code::NotWhole`] or
+/// [`Code::Fraction`], and 0 takes its place in all other checks.
+///
+/// [`Code::NotJson`]: crate::Code::NotJson
+/// [`Code::NotWhole`]: crate::Code::NotWhole
+/// [`Code::Fraction`]: crate::Code::Fraction
 ///
 /// # Errors
 ///
@@ -36,33 +39,24 @@ use std::alloc::{AllocError, Global};
 pub fn findings(alloc: Global, bytes: &[u8], steps: &mut Steps) -> Result<Vec<Finding>, AllocError>
     ensures { IfOk result (λ v. AreFindings bytes.now v.items) }
 {
-    match read_node(alloc, bytes) {
-        Ok(node) => of_document(alloc, bytes, &node, steps),
-        Err(JsonFault::Memory) => Err(AllocError),
+    match node_with_zeros_in_order(alloc, bytes) {
+        Ok(read) => of_document(alloc, bytes, &read, steps),
         Err(JsonFault::NotJson) => of_no_json(alloc, bytes),
-        Err(JsonFault::NotWhole(fault)) => of_fraction(alloc, bytes, fault),
+        Err(JsonFault::Memory | JsonFault::NotWhole(_)) => Err(AllocError),
     }
-}
-
-/// Reads the value of a text.
-fn read_node(alloc: Global, bytes: &[u8]) -> Result<Node, JsonFault>
-    ensures ok { IfOk result (IsTreeInOrder bytes.now) }
-    ensures err { IfErr result (Explains bytes.now) }
-{
-    node_from_json_in_order(alloc, bytes)
 }
 
 /// Returns the findings of a document that was read of a text.
 fn of_document(
     alloc: Global,
     bytes: &[u8],
-    document: &Node,
+    read: &WithZeros,
     steps: &mut Steps,
 ) -> Result<Vec<Finding>, AllocError>
-    requires { IsTreeInOrder bytes.now document.now }
+    requires { IsTreeWithZeros bytes.now read.now.node (map replaced_of read.now.numbers.items) }
     ensures { IfOk result (λ v. AreFindings bytes.now v.items) }
 {
-    let reports = reports_of(alloc, bytes, document, steps)?;
+    let reports = reports_of(alloc, bytes, read, steps)?;
     let findings = placed(alloc, bytes, reports)?;
     sorted(findings)
 }
@@ -78,48 +72,23 @@ fn of_no_json(alloc: Global, bytes: &[u8]) -> Result<Vec<Finding>, AllocError>
     Ok(findings)
 }
 
-/// Returns the one finding of a text with a number that is not whole.
-fn of_fraction(alloc: Global, bytes: &[u8], fault: Fault) -> Result<Vec<Finding>, AllocError>
-    requires { Explains bytes.now (unread.NotWhole fault) }
-    ensures { IfOk result (λ v. AreFindings bytes.now v.items) }
-{
-    let report = not_whole(alloc, fault)?;
-    let mut reports = Vec::new(alloc);
-    reports.push(report)?;
-    placed(alloc, bytes, reports)
-}
-
-/// Returns the report of a number that is not whole.
-fn not_whole(alloc: Global, fault: Fault) -> Result<Report, AllocError>
-    ensures { IfOk result (λ r. statement_of r ≡ (place_of fault, Code.NotWhole)) }
-{
-    let Fault { place, cause } = fault;
-    let message = cause.to_string(alloc)?;
-    let help = String::from_str(
-        alloc,
-        "no other check was run: it needs a document whose numbers are whole",
-    )?;
-    Ok(Report {
-        code: Code::NotWhole,
-        message,
-        help: Some(help),
-        place,
-    })
-}
-
 /// Returns what there is to report of a document.
 fn reports_of(
     alloc: Global,
     bytes: &[u8],
-    document: &Node,
+    read: &WithZeros,
     steps: &mut Steps,
 ) -> Result<Vec<Report>, AllocError>
     ensures { IfOk result (λ v. (bs : List Bool) × (ps : List Place)
-        × (map statement_of v.items ≡ stated_in document.now ++ unresolved_in bs document.now ++ map repeated_at ps)) }
+        × (map statement_of v.items ≡ stated_in read.now.node (map replaced_of read.now.numbers.items)
+        ++ unresolved_in bs read.now.node ++ map repeated_at ps)) }
 {
+    let document = &read.node;
+    let numbers = read.numbers.as_slice();
     let mut reports = Vec::new(alloc);
     report_version(alloc, document, &mut reports, steps)?;
-    report_faults(alloc, document, &mut reports, steps)?;
+    report_faults(alloc, document, numbers, &mut reports, steps)?;
+    report_numbers(alloc, document, numbers, &mut reports, steps)?;
     report_dropped(alloc, document, &mut reports, steps)?;
     report_references(alloc, document, &mut reports, steps)?;
     report_repeated(alloc, bytes, &mut reports)?;
@@ -151,10 +120,7 @@ fn positions_for(
 ) -> Result<Vec<Option<Position>>, AllocError>
     ensures { IfOk result (λ v. AllZip (IsPositionAt bytes.now) (map place_in_report reports.now) v.items) }
 {
-    let mut places: Vec<&[PlaceStep]> = Vec::with_capacity(alloc, reports.len())?;
-    for report in reports {
-        places.push(report.place.as_slice())?;
-    }
+    let places = report_places(alloc, reports)?;
     positions_of(alloc, bytes, places.as_slice())
 }
 

@@ -12,6 +12,8 @@ pub enum Severity {
     Error,
     /// A part of the document has no effect.
     Warning,
+    /// The document is valid, but a command can't do something with it.
+    Note,
 }
 
 /// The kind of a finding. It prints as a word, such as `wrong-type`.
@@ -19,7 +21,7 @@ pub enum Severity {
 pub enum Code {
     /// The bytes are no JSON text (RFC 8259).
     NotJson,
-    /// A number is not whole, or not within 64 bits.
+    /// A number is not whole, or not within 64 bits, where a length, a count or a limit of an integer is expected.
     NotWhole,
     /// The document is of another version than OpenAPI 3.0.x.
     Version,
@@ -43,16 +45,19 @@ pub enum Code {
     UnresolvedReference,
     /// A name comes again in one object, so the earlier value has no effect.
     RepeatedName,
+    /// A number is not whole, or not within 64 bits, where any number may be.
+    Fraction,
 }
 
 impl Severity {
-    /// Returns `error` or `warning`.
+    /// Returns `error`, `warning` or `note`.
     pub fn as_str(self) -> &'static str
         ensures { result.now ≡ severity_word self }
     {
         match self {
             Severity::Error => "error",
             Severity::Warning => "warning",
+            Severity::Note => "note",
         }
     }
 }
@@ -76,6 +81,7 @@ impl Code {
             Code::SecondOfTwo => "second-of-two",
             Code::UnresolvedReference => "unresolved-reference",
             Code::RepeatedName => "repeated-name",
+            Code::Fraction => "fraction",
         }
     }
 
@@ -89,6 +95,7 @@ impl Code {
             | Code::SecondOfTwo
             | Code::UnresolvedReference
             | Code::RepeatedName => Severity::Warning,
+            Code::Fraction => Severity::Note,
             _ => Severity::Error,
         }
     }

@@ -1,5 +1,7 @@
 //! The part of a line that is shown of a text.
-ghost use Rattle.std.specs.Prelude.{◌≤◌, length};
+ghost use Rattle.std.specs.Prelude.{◌≡◌, ◌≤◌, length};
+ghost use Rattle.std.specs.Fmt.{is_char_start};
+ghost use Rattle.openapi_findings.specs.Excerpts as spec;
 
 use crate::text_point::text_of;
 
@@ -24,7 +26,10 @@ pub(crate) struct Excerpt<'a> {
 
 impl Excerpt<'_> {
     /// Returns the part of a line around an offset of a text. The cost does not depend on how long the line is.
-    pub(crate) fn around(bytes: &[u8], offset: usize) -> Excerpt<'_> {
+    #[tactic(auto, unfolding(crate::specs::Excerpts::part_around))]
+    pub(crate) fn around(bytes: &[u8], offset: usize) -> Excerpt<'_>
+        ensures { spec.part_in result ≡ spec.part_around bytes.now offset }
+    {
         let offset = offset.min(bytes.len());
         let wide = Excerpt::within(bytes, offset, WIDTH, WIDTH);
         if wide.is_whole() && wide.before.len().saturating_add(wide.after.len()) <= WIDTH {
@@ -35,8 +40,10 @@ impl Excerpt<'_> {
     }
 
     /// Returns the part of a line with so many characters before an offset, and from it on.
+    #[tactic(auto, unfolding(crate::specs::Excerpts::part_within))]
     fn within(bytes: &[u8], offset: usize, before: usize, after: usize) -> Excerpt<'_>
         requires { offset ≤ length bytes.now }
+        ensures { spec.part_in result ≡ spec.part_within bytes.now offset before after }
     {
         let start = start_of(bytes, offset, before);
         let end = end_of(bytes, offset, after);
@@ -49,7 +56,9 @@ impl Excerpt<'_> {
     }
 
     /// Returns whether it is the whole line.
-    fn is_whole(&self) -> bool {
+    fn is_whole(&self) -> bool
+        ensures { result ≡ spec.is_whole (spec.part_in self.now) }
+    {
         !self.is_cut_before && !self.is_cut_after
     }
 }
@@ -57,7 +66,8 @@ impl Excerpt<'_> {
 /// Returns where the last so many characters of a line before an offset begin.
 fn start_of(bytes: &[u8], offset: usize, limit: usize) -> usize
     requires { offset ≤ length bytes.now }
-    ensures { result ≤ offset }
+    ensures within { result ≤ offset }
+    ensures start { result ≡ spec.start_of bytes.now offset limit }
 {
     let mut start = offset;
     let mut count = 0usize;
@@ -77,7 +87,8 @@ fn start_of(bytes: &[u8], offset: usize, limit: usize) -> usize
 /// Returns where the first so many characters of a line from an offset on end.
 fn end_of(bytes: &[u8], offset: usize, limit: usize) -> usize
     requires { offset ≤ length bytes.now }
-    ensures { (offset ≤ result) × (result ≤ length bytes.now) }
+    ensures within { (offset ≤ result) × (result ≤ length bytes.now) }
+    ensures end { result ≡ spec.end_of bytes.now offset limit }
 {
     let mut count = 0usize;
     for i in offset..bytes.len() {
@@ -96,11 +107,18 @@ fn end_of(bytes: &[u8], offset: usize, limit: usize) -> usize
 }
 
 /// Returns whether a byte of text in UTF-8 is the first of its character.
-fn begins_character(byte: u8) -> bool {
+fn begins_character(byte: u8) -> bool
+    ensures { result ≡ is_char_start byte }
+{
     !matches!(byte, 0x80..=0xBF)
 }
 
 /// Returns a line without the carriage return at its end.
-fn without_return(line: &str) -> &str {
-    line.strip_suffix('\r').unwrap_or(line)
+fn without_return(line: &str) -> &str
+    ensures { result.now ≡ spec.without_return line.now }
+{
+    match line.as_bytes() {
+        [.., b'\r'] => &line[..line.len() - 1],
+        _ => line,
+    }
 }

@@ -25,16 +25,33 @@ impl fmt::Display for Found<'_> {
     }
 }
 
-/// Writes the beginning of a text, in quotes.
+/// Writes a text in quotes, or its beginning.
 fn write_text<W: fmt::Write>(f: &mut fmt::Formatter<W>, text: &str) -> fmt::Result {
     f.write_str("the text \"")?;
+    write_start(f, text)?;
+    f.write_str("\"")
+}
+
+/// Writes the beginning of a text.
+fn write_start<W: fmt::Write>(f: &mut fmt::Formatter<W>, text: &str) -> fmt::Result {
     for c in text.chars().take(LONGEST) {
         f.write_char(c)?;
     }
     if text.chars().nth(LONGEST).is_some() {
         f.write_str("..")?;
     }
-    f.write_str("\"")
+    Ok(())
+}
+
+/// A number that no node holds, as the document writes it. It prints in a few words, whatever its length.
+#[derive(Clone, Copy)]
+pub(crate) struct NumberText<'a>(pub &'a str);
+
+impl fmt::Display for NumberText<'_> {
+    fn fmt<W: fmt::Write>(&self, f: &mut fmt::Formatter<W>) -> fmt::Result {
+        f.write_str("the number ")?;
+        write_start(f, self.0)
+    }
 }
 
 /// What may be in the place of a value of a kind. It prints as nothing where no words or limits say it.

@@ -8,6 +8,7 @@ ghost use Rattle.openapi_findings.specs.Stated.{repeated_at, statement_of};
 use crate::code::Code;
 use crate::report::Report;
 use json::{Error, Scratch, Value};
+use openapi_json::copied_place;
 use openapi_node::PlaceStep;
 use std::alloc::{AllocError, Global};
 use std::collections::BTreeMap;
@@ -192,35 +193,11 @@ fn report_of(alloc: Global, name: &str, place: &[PlaceStep]) -> Result<Report, A
         alloc,
         "the earlier value has no effect: remove one of the two",
     )?;
-    let place = copied(alloc, place)?;
+    let place = copied_place(alloc, place)?;
     Ok(Report {
         code: Code::RepeatedName,
         message,
         help: Some(help),
         place,
     })
-}
-
-/// Copies a location.
-fn copied(alloc: Global, place: &[PlaceStep]) -> Result<Vec<PlaceStep>, AllocError>
-    ensures { IfOk result (λ p. map step_of p.items ≡ map step_of place.now) }
-{
-    let mut copy = Vec::with_capacity(alloc, place.len())?;
-    for step in place {
-        copy.push(copied_step(alloc, step)?)?;
-    }
-    Ok(copy)
-}
-
-/// Copies a step of a location.
-fn copied_step(alloc: Global, step: &PlaceStep) -> Result<PlaceStep, AllocError>
-    ensures { IfOk result (λ s. step_of s ≡ step_of step.now) }
-{
-    match step {
-        PlaceStep::Name(name) => {
-            let name = String::from_str(alloc, name.as_str())?;
-            Ok(PlaceStep::Name(name))
-        }
-        PlaceStep::Index(index) => Ok(PlaceStep::Index(*index)),
-    }
 }

@@ -1,5 +1,7 @@
 //! The line and the column of an offset.
+ghost use Rattle.std.specs.Prelude.{◌≡◌};
 ghost use Rattle.openapi_json.specs.Positions.{IsBehind};
+ghost use Rattle.openapi_findings.specs.Excerpts.{valid_text};
 
 use openapi_json::Point;
 
@@ -28,7 +30,9 @@ pub(crate) fn point_behind(bytes: &[u8]) -> Point
 }
 
 /// Returns the longest beginning of some bytes that is text in UTF-8.
-pub(crate) fn text_of(bytes: &[u8]) -> &str {
+pub(crate) fn text_of(bytes: &[u8]) -> &str
+    ensures { result.now ≡ valid_text bytes.now }
+{
     match simdutf8::compat::from_utf8(bytes) {
         Ok(text) => text,
         Err(error) => {

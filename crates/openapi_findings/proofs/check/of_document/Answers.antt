@@ -1,5 +1,6 @@
-use Rattle.std.proofs.Common.{inl}
+use Rattle.std.proofs.Common.{inl, map}
 use Rattle.std.proofs.lemmas.List.Sorted.{All-permutation}
+use Rattle.openapi_json.specs.Zeros.{replaced_of}
 use Rattle.openapi_findings.specs.Findings.{IsPlaced}
 use Rattle.openapi_findings.proofs.Placing.{all_found, if_ok_both}
 use Rattle.openapi_findings.proofs.check.of_document.Goals as goal
@@ -11,7 +12,8 @@ returns c =
     if_ok_both c.sorted.result
     (λ v p o. record {
       stated = inl (record {
-        tree = c.args.document.now;
+        tree = c.args.read.now.node;
+        numbers = map replaced_of c.args.read.now.numbers.items;
         reads = c.requires;
         unresolved = stated.0;
         repeated = stated.1;

@@ -1,5 +1,13 @@
-use Rattle.std.proofs.Common.{◌≤◌}
+use Rattle.std.proofs.Common.{◌≡◌, ◌+◌, ◌-◌, ◌≤◌, drop, reverse, take}
+use Rattle.openapi_findings.specs.Excerpts.{back_len}
 use Rattle.openapi_findings.proofs.excerpt.start_of.Given as goal
 
+-- how far the line goes back before the bytes so far
 abbrev pub invariant-loop-i : goal.invariant-loop-i
-invariant-loop-i l = l.start ≤ l.offset
+invariant-loop-i l =
+    record {
+      start : l.start + l.i ≡ l.offset;
+      count : l.count ≤ l.limit;
+      len : back_len l.limit (reverse (take l.offset l.bytes))
+          ≡ l.i + back_len (l.limit - l.count) (drop l.i (reverse (take l.offset l.bytes)));
+    }

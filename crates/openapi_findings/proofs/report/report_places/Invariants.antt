@@ -1,7 +1,7 @@
 use Rattle.std.proofs.Common.{◌≡◌, map, take}
 use Rattle.openapi_node.specs.Fault.{step_of}
 use Rattle.openapi_findings.specs.Stated.{place_in_report}
-use Rattle.openapi_findings.proofs.check.positions_for.Given as goal
+use Rattle.openapi_findings.proofs.report.report_places.Given as goal
 
 -- the locations so far
 abbrev pub invariant-loop-report : goal.invariant-loop-report

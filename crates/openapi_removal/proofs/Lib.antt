@@ -1,0 +1,6 @@
+mod Comparing
+mod Cutting
+mod Grouping
+mod Planning
+mod Reported
+mod Trees

@@ -1,0 +1,2 @@
+pub mod Indent
+pub mod Normalized

@@ -1,7 +1,7 @@
 #!/usr/bin/env python3
 """Times `openapi_clean` on inputs that it makes itself, and tells the peak memory of each run.
 
-usage: bench/run.py [--sizes 1,4,16] [--runs N] [--command tag] [--only NAME] [--order | --other PROGRAM [--straight]]
+usage: bench/run.py [--sizes 1,4,16] [--runs N] [--command tag] [--only NAME] [--tool | --other PROGRAM [--straight]]
                     [--instructions] [PROGRAM]
 
 PROGRAM is the program to measure, by default the one that `./openapi_clean` built. For each shape of input and each
@@ -10,9 +10,9 @@ byte read, and how straight the time grew: the time for each byte at the largest
 `--instructions` and valgrind it counts the instructions for each byte too, at the two smallest sizes. A second program
 may be given by `--other`: it is run with the same argument on the same inputs, in turn with the first, and a line gives
 the time, the memory and the instructions of the first as shares of those of the second. With `--straight` it is run
-once more, with the word `--direct` before the argument, and has a line for each of its two ways. With `--order` the
-second program is the one that `openapi_order` is built as, so the line gives by name as shares of in order. It needs a C
-compiler.
+once more, with the word `--direct` before the argument, and has a line for each of its two ways. With `--tool` the
+second program is `openapi normalize --compact`, on tags, schemas and documents, so the line gives by name as shares of in order. It
+needs a C compiler.
 """
 import argparse
 import os
@@ -24,7 +24,7 @@ import time
 
 TOP = os.path.dirname(os.path.dirname(os.path.abspath(__file__)))
 BUILT = os.path.join(TOP, "crates", "openapi_clean", "out", "openapi_clean")
-ORDER = os.path.join(TOP, "crates", "openapi_order", "out", "openapi_order")
+TOOL = os.path.join(TOP, "crates", "openapi", "out", "openapi")
 MEGABYTE = 1_000_000
 
 
@@ -247,7 +247,7 @@ def report(launch, programs, arguments, shape, folder):
 def main():
     parser = argparse.ArgumentParser(description="times openapi_clean")
     parser.add_argument("program", nargs="?", default=BUILT)
-    parser.add_argument("--order", dest="other", action="store_const", const=ORDER)
+    parser.add_argument("--tool", action="store_true")
     parser.add_argument("--other")
     parser.add_argument("--straight", action="store_true")
     parser.add_argument("--command", default="tag", choices=sorted(SHAPES))
@@ -259,6 +259,8 @@ def main():
     if not os.access(arguments.program, os.X_OK):
         sys.exit(f"no program at {arguments.program}: run ./openapi_clean once, which builds it")
     programs = [("this", [arguments.program])]
+    if arguments.tool:
+        programs.append(("tool", [TOOL, "normalize", "--compact", "--as"]))
     if arguments.other:
         programs.append(("other", [arguments.other]))
         if arguments.straight:

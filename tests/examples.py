@@ -22,7 +22,7 @@ TOP = os.path.dirname(os.path.dirname(os.path.realpath(__file__)))
 BLOCK = re.compile(r"((?:^    [^\n]*\n)+)|^```console\n(.*?)^```$", re.M | re.S)
 RUN = re.compile(r"^\$ (.*)\n((?:(?!\$ ).*\n)*)", re.M)
 # What the README calls the programs; `./example NAME` runs example_NAME.
-SCRIPTS = {"openapi": "openapi", "openapi_clean": "openapi_clean", "openapi_order": "openapi_order", "example": "example_$1"}
+SCRIPTS = {"openapi": "openapi", "openapi_clean": "openapi_clean", "example": "example_$1"}
 
 
 def programs():

@@ -1,7 +1,7 @@
 #!/usr/bin/env python3
-"""Runs the built programs as a person does, and compares their exit status, standard output and standard error.
+"""Runs `openapi_clean` as a person does, and compares its exit status, standard output and standard error.
 
-usage: tests/program.py [PROGRAM [ORDER]]      (by default `openapi_clean` and `openapi_order` as `bin/prove.py` built them)
+usage: tests/program.py [PROGRAM]      (by default `openapi_clean` as `bin/prove.py` built it)
 
 The contracts say what is written for which bytes, which words are a command, and which status each end of a run has.
 What they can't say stands here: that `main` hands the real arguments and streams on and ends with that status, what is
@@ -13,7 +13,7 @@ import subprocess
 import sys
 
 TOP = os.path.dirname(os.path.dirname(os.path.realpath(__file__)))
-BUILT = [f"{TOP}/crates/{it}/out/{it}" for it in ("openapi_clean", "openapi_order")]
+BUILT = f"{TOP}/crates/openapi_clean/out/openapi_clean"
 USAGE = b"usage: openapi_clean tag|schema|document|settle|operations\n"
 TAG = b'{"name":"a","wat":1,"x-q":[]}'
 CLEAN_TAG = b'{"name":"a","x-q":[]}\n'
@@ -131,72 +131,16 @@ ROWS = [
     ("a word that is no UTF-8", [b"\xff"], TAG, 2, b"", USAGE),
 ]
 
-# The same of `openapi_order`, which is told by what stands before the first line feed of standard error.
-UNORDERED = b'{"x-b":1,"name":"t","wat":0,"x-a":{"z":1,"a":2}}'
-ORDERED = b'{"name":"t","x-b":1,"x-a":{"z":1,"a":2}}\n'
-PRETTY = b'{\n  "name": "t",\n  "x-b": 1,\n  "x-a": {\n    "z": 1,\n    "a": 2\n  }\n}\n'
-EXAMPLE = f"{TOP}/examples/tag.json".encode()
-EXAMPLE_IN_ORDER = (
-    b'{"name":"pets","description":"Everything about pets","externalDocs":{"url":"https://example.com/pets","x-reviewed":true},'
-    b'"x-order":[3,1,2]}\n'
-)
-ORDER_ROWS = [
-    ("a tag in order", ["tag"], UNORDERED, 0, ORDERED, b""),
-    ("a tag in order, by its name", ["tag", "-"], UNORDERED, 0, ORDERED, b""),
-    ("a tag with a line for each value", ["tag", "--pretty"], UNORDERED, 0, PRETTY, b""),
-    ("the option before the command", ["--pretty", "tag"], UNORDERED, 0, PRETTY, b""),
-    ("a file", ["tag", EXAMPLE], b"", 0, EXAMPLE_IN_ORDER, b""),
-    ("two inputs", ["tag", EXAMPLE, "-"], UNORDERED, 0, EXAMPLE_IN_ORDER + ORDERED, b""),
-    # (the Rust crate writes what every schema can say first, its extensions with it, and then what its kind says)
-    ("a schema in order", ["schema"], b'{"type":"string","enum":[],"x-b":0,"x-a":[]}', 0, b'{"x-b":0,"x-a":[],"type":"string"}\n', b""),
-    (
-        "paths in order",
-        ["document"],
-        b'{"paths":{"/b":{},"/a":{}},"info":{"version":"1","title":"t"},"openapi":"3.0.3"}',
-        0,
-        b'{"openapi":"3.0.3","info":{"title":"t","version":"1"},"paths":{"/b":{},"/a":{}}}\n',
-        b"",
-    ),
-    (
-        "a document settled in order",
-        ["settle"],
-        b'{"openapi":"3.0.3","info":{"title":"t","version":"1"},"paths":{},"components":{"schemas":'
-        b'{"S":{"type":"integer","exclusiveMinimum":false,"required":[]}}}}',
-        0,
-        b'{"openapi":"3.0.3","info":{"title":"t","version":"1"},"paths":{},"components":{"schemas":{"S":{"type":"integer"}}}}\n',
-        b"",
-    ),
-    (
-        "a refusal further on",
-        ["tag"],
-        '{\n  "name": "é", "externalDocs": {"x-a": [1]}\n}'.encode(),
-        1,
-        b"",
-        b"<stdin>:2:32: missing field `url` at #/externalDocs",
-    ),
-    ("a refusal of the root", ["tag"], b" []", 1, b"", b"<stdin>:1:2: invalid type, expected object at #"),
-    ("a number that is not whole", ["tag"], b'{"name":"t",\n"x":1.5}', 1, b"", b"<stdin>:2:5: number not whole at #/x"),
-    ("no JSON", ["tag"], b"{", 2, b"", b"<stdin>: not JSON"),
-    ("a file that is not there", ["tag", "/none"], b"", 3, b"", b"/none: read failed"),
-    ("of several statuses the highest", ["tag", "-", EXAMPLE], b"{}", 1, EXAMPLE_IN_ORDER, b"<stdin>:1:1: missing field `name` at #"),
-    ("no command", [], UNORDERED, 2, b"", b"error: the following required arguments were not provided:"),
-    ("another command", ["operations"], UNORDERED, 2, b"", b"error: invalid value 'operations' for '<COMMAND>'"),
-    ("another option", ["tag", "--prety"], UNORDERED, 2, b"", b"error: unexpected argument '--prety' found"),
-    ("the version", ["--version"], b"", 0, b"openapi_order 2.2.0\n", b""),
-]
-
-
 def outcome(program, arguments, **streams):
     ran = subprocess.run([program, *arguments], stderr=subprocess.PIPE, timeout=300, **streams)
     return ran.returncode, ran.stdout, ran.stderr
 
 
 def main():
-    program, order = (os.path.realpath(it) for it in [*sys.argv[1:], *BUILT[len(sys.argv) - 1:]])
-    for it in (program, order):
-        if not os.access(it, os.X_OK):
-            print(f"FAILED: {it} is not built\n0 passed, 1 failed")
-            return 1
+    program = os.path.realpath([*sys.argv[1:], BUILT][0])
+    if not os.access(program, os.X_OK):
+        print(f"FAILED: {program} is not built\n0 passed, 1 failed")
+        return 1
     passed = failed = 0
 
     def compare(what, came, wanted):
@@ -209,19 +153,12 @@ def main():
 
     for what, arguments, given, *wanted in ROWS:
         compare(what, outcome(program, arguments, input=given, stdout=subprocess.PIPE), tuple(wanted))
-    for what, arguments, given, *wanted in ORDER_ROWS:
-        status, written, said = outcome(order, arguments, input=given, stdout=subprocess.PIPE)
-        compare(what, (status, written, said.split(b"\n")[0]), tuple(wanted))
-    status, written, said = outcome(order, ["--help"], stdin=subprocess.DEVNULL, stdout=subprocess.PIPE)
-    compare("help names the option", (status, b"--pretty" in written, said), (0, True, b""))
     # a folder can be opened and not read, and a full disk takes no byte
     folder = os.open(TOP, os.O_RDONLY)
     compare("an input that fails", outcome(program, ["tag"], stdin=folder, stdout=subprocess.PIPE), (3, b"", b"read failed\n"))
     os.close(folder)
     with open("/dev/full", "wb") as full, open(f"{TOP}/examples/tag.json", "rb") as given:
         compare("an output that fails", outcome(program, ["tag"], stdin=given, stdout=full), (3, None, b"write failed\n"))
-        wanted = (3, None, f"{EXAMPLE.decode()}: write failed\n".encode())
-        compare("an output in order that fails", outcome(order, ["tag", EXAMPLE], stdin=given, stdout=full), wanted)
     # where standard error is closed, nothing can be told, and the status is as ever
     for what, arguments, given, status in (
         ("no JSON", ["tag"], b"{", 2),

@@ -43,7 +43,7 @@ echo "7 passed, $failed failed"
 exit $failed
 """
 BELOW = {"openapi_map", "openapi_node", "openapi_tables"}
-ABOVE = {"openapi_order", "openapi_cases", "openapi_vectors", "example_linter"}
+ABOVE = {"openapi", "openapi_cases", "openapi_vectors", "example_linter"}
 
 
 def main():
@@ -112,7 +112,7 @@ def main():
         answers("an unproved build", "without its hash, the proved program is older than that source")
         run("bin/prove.py", "openapi_clean")
         change("crates.txt", "# a comment\n")
-        change("crates/openapi_order/src/main.rt", "// a comment\n")
+        change("crates/openapi/src/main.rt", "// a comment\n")
         change("crates/openapi_clean/args", "more\n")
         answers("the proved build answers", "a proved program does not depend on a crate above or beside it")
         change("crates/openapi_tables/specs/Kind.antt", "-- a comment\n")

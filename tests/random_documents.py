@@ -1,14 +1,14 @@
 #!/usr/bin/env python3
 """Makes random documents from OpenAPI's own tables, and compares the programs' output with what their maker knows.
 
-usage: tests/random_documents.py [--seed N] [--count N] [PROGRAM [ORDER]]
-       (without PROGRAM: `openapi_clean` and `openapi_order` as `bin/prove.py` built them)
+usage: tests/random_documents.py [--seed N] [--count N] [PROGRAM [TOOL]]
+       (without PROGRAM: `openapi_clean` and `openapi` as `bin/prove.py` built them)
 
 Each round makes a document that conforms, with members that OpenAPI does not know, nulls where a member may be missing,
 empty lists and maps, flags that are false, names and texts of all sorts, and numbers up to the limits. The maker knows the
 normalized document, the one in stable form and the operations, and compares each with the program's output; what is in stable
 form has to stay as it is. Then it plants one fault, of which it knows the cause and the location, and compares the message. The
-same is done with `openapi_order`: its output has to be the same but for the order of members, with the entries of each map, the
+same is done with `openapi normalize`: its output has to be the same but for the order of members, with the entries of each map, the
 extensions and what is in these in the order of the text; and a fault has to be reported at the line and the column of its value.
 The tables are in `tests/openapi_fields.py`.
 
@@ -22,17 +22,21 @@ import copy
 import json
 import os
 import random
+import re
 import subprocess
 import sys
 
 from openapi_fields import KEYWORDS, METHODS, OF_TYPE, TABLES, TAGGED
 
 TOP = os.path.dirname(os.path.dirname(os.path.realpath(__file__)))
-BUILT = [f"{TOP}/crates/{it}/out/{it}" for it in ("openapi_clean", "openapi_order")]
+BUILT = [f"{TOP}/crates/{it}/out/{it}" for it in ("openapi_clean", "openapi")]
 
 SORTS = [*OF_TYPE, "oneOf", "allOf", "anyOf", "not", "any"]
 LETTERS = ["a", "b", "Z", "0", " ", "/", "~", "{", "}", '"', "\\", ".", "-", "é", "ß", "日", "😀", "\n", "\t", "\x01", "\x7f"]
 LEAST, MOST = -(2**63), 2**64 - 1
+# What `openapi normalize` prints to standard error: what it left out, or a refusal.
+LEFT_OUT = re.compile(r"(warning: <stdin>: [1-9]\d* members? without effect (was|were) left out\n)?")
+REFUSAL = re.compile(r"error\[[a-z-]+\]: (.*)\n +--> <stdin>:(\d+:\d+)\n(?: .*\n){3} += pointer: (.*)\n")
 
 # A tree as it is given, as it is cleaned, and as it is settled.
 Made = collections.namedtuple("Made", "given cleaned settled")
@@ -460,15 +464,26 @@ def is_exactly(*wanted):
 
 def is_in_order(kind, wanted):
     def compare(ran):
-        came = json.loads(ran.stdout) if ran.returncode == 0 else None
-        both = (ran.returncode, came, ran.stderr), (0, wanted, b"")
+        came, said = json.loads(ran.stdout) if ran.returncode == 0 else None, ran.stderr.decode()
+        both = (ran.returncode, came, "" if LEFT_OUT.fullmatch(said) else said), (0, wanted, "")
         return both if both[0] != both[1] else (disorder(kind, wanted, came), None)
+    return compare
+
+
+def is_refused_at(point, said):
+    """Whether a refusal is reported with its message, its position and its JSON Pointer."""
+    message, pointer = said.split(" at #", 1)
+    shown = "".join("\ufffd" if ord(it) < 32 or ord(it) == 127 else it for it in pointer.replace("\t", "    ")) or "(root)"
+
+    def compare(ran):
+        found = REFUSAL.match(ran.stderr.decode())
+        return (ran.returncode, ran.stdout, found and found.groups()), (1, b"", (message, point, shown))
     return compare
 
 
 def checks(seed, programs, dropped=()):
     """Yields all that a round compares."""
-    clean, order = programs
+    clean, tool = programs
     for kind, commands in [("OpenAPI", ["document", "settle", "operations"]), ("Schema", ["schema"])]:
         dice = random.Random(f"{seed} {kind}")
         maker = Maker(dice, dropped)
@@ -482,21 +497,21 @@ def checks(seed, programs, dropped=()):
             yield Check("a document", clean, command, given, is_exactly(0, wanted[command], b""), made.given)
         # (a line for each value)
         lines = json.dumps(made.given, indent=1, ensure_ascii=False).encode()
-        yield Check("in order", order, commands[0], lines, is_in_order(kind, made.cleaned), made.given)
-        if kind == "OpenAPI":
-            yield Check("settled in order", order, "settle", lines, is_in_order(kind, made.settled), made.given)
+        normalize = "normalize" if kind == "OpenAPI" else "normalize --as schema"
+        yield Check("in order", tool, normalize, lines, is_in_order(kind, made.cleaned), made.given)
+        yield Check("settled in order", tool, f"{normalize} --settle", lines, is_in_order(kind, made.settled), made.given)
         for planted in dice.sample(maker.faults, min(3, len(maker.faults))):
             broken = with_fault(made.given, planted)
             wanted = is_exactly(1, b"", planted.said.encode() + b"\n")
             yield Check("a fault", clean, dice.choice(commands), text_of(broken, dice), wanted, made.given)
             lines = json.dumps(broken, indent=1, ensure_ascii=False).encode()
-            wanted = is_exactly(1, b"", f"<stdin>:{point_of(lines, planted)}: {planted.said}\n".encode())
-            yield Check("a fault in order", order, commands[0], lines, wanted, made.given)
+            wanted = is_refused_at(point_of(lines, planted), planted.said)
+            yield Check("a fault in order", tool, normalize, lines, wanted, made.given)
 
 
 def difference(check):
     """Returns what came and what was wanted, if these differ."""
-    ran = subprocess.run([check.program, check.command], input=check.given, capture_output=True, timeout=60)
+    ran = subprocess.run([check.program, *check.command.split()], input=check.given, capture_output=True, timeout=60)
     came, wanted = check.compare(ran)
     return None if came == wanted else (came, wanted)
 

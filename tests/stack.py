@@ -14,7 +14,7 @@ import subprocess
 import sys
 
 TOP = os.path.dirname(os.path.dirname(os.path.realpath(__file__)))
-BUILT = [f"{TOP}/crates/{it}/out/{it}" for it in ("openapi_clean", "openapi_order")]
+BUILT = [f"{TOP}/crates/{it}/out/{it}" for it in ("openapi_clean", "openapi")]
 LEVELS, STEP, MOST = 127, 16, 1000
 
 
@@ -62,20 +62,37 @@ def shapes():
         yield command, "callbacks", document(paths={"/p": nested(CALLBACKS, {}, LEVELS - 2)})
 
 
-def runs(program, command, given, stack):
+# What `openapi` is asked on the same shapes.
+TOOL_WORDS = {
+    "tag": ["normalize --as tag"],
+    "schema": ["normalize --as schema --settle"],
+    "document": ["normalize --sort", "check"],
+    "settle": ["normalize --settle --compact"],
+    "operations": ["operations", "references"],
+}
+
+
+def asked(name):
+    """The words for a program, the shape's name and the tree."""
+    for command, shape, tree in shapes():
+        for words in [command] if name.startswith("openapi_clean") else TOOL_WORDS[command]:
+            yield words, shape, tree
+
+
+def runs(program, words, given, stack):
     def limit():
         resource.setrlimit(resource.RLIMIT_STACK, (stack * 1024, stack * 1024))
-    return subprocess.run([program, command], input=given, capture_output=True, preexec_fn=limit).returncode == 0
+    return subprocess.run([program, *words], input=given, capture_output=True, preexec_fn=limit).returncode == 0
 
 
-def least(program, command, given):
+def least(program, words, given):
     """The least stack in kB; None where the program does not end well with 64 MB either."""
     low, high = 0, 65536 // STEP
-    if not runs(program, command, given, high * STEP):
+    if not runs(program, words, given, high * STEP):
         return None
     while high - low > 1:
         middle = (low + high) // 2
-        if runs(program, command, given, middle * STEP):
+        if runs(program, words, given, middle * STEP):
             high = middle
         else:
             low = middle
@@ -90,14 +107,12 @@ def main():
         if not os.access(program, os.X_OK):
             print(f"FAILED: {program} is not built\n0 passed, 1 failed")
             return 1
-        for command, shape, tree in shapes():
-            if command == "operations" and name.startswith("openapi_order"):
-                continue
-            needs = least(program, command, json.dumps(tree).encode())
+        for words, shape, tree in asked(name):
+            needs = least(program, words.split(), json.dumps(tree).encode())
             good = needs is not None and needs <= allowed
             passed, failed, most = passed + good, failed + (not good), max(most, needs or 0)
             told = "refused, or needs more than 64 MB" if needs is None else f"{needs:6} kB"
-            print(f"{name} {command:10} {shape:22} {depth(tree):3} levels  {told}{'' if good else '  FAILED'}", flush=True)
+            print(f"{name} {words:30} {shape:22} {depth(tree):3} levels  {told}{'' if good else '  FAILED'}", flush=True)
     print(f"at most {most} kB\n{passed} passed, {failed} failed")
     return failed != 0
 

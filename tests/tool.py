@@ -43,12 +43,21 @@ def shown(severity, code, message, file, line, column, source, pointer=None, hel
     return "\n".join(rows) + "\n\n"
 
 
-def summary(errors, warnings, files=1):
+def summary(errors, warnings, files=1, notes=0):
     def count(number, word):
         return f"{number} {word}{'' if number == 1 else 's'}"
 
-    return f"{count(errors, 'error')}, {count(warnings, 'warning')} in {count(files, 'file')}\n"
+    more = f", {count(notes, 'note')}" if notes else ""
+    return f"{count(errors, 'error')}, {count(warnings, 'warning')}{more} in {count(files, 'file')}\n"
 
+
+def summary_of(findings):
+    """Returns the summary of a file with these findings."""
+    counts = [sum(it[0] == severity for it in findings) for severity in ("error", "warning", "note")]
+    return summary(counts[0], counts[1], notes=counts[2])
+
+
+FRACTION_HELP = "`openapi normalize` can't write it; `check` and `clean` can"
 
 # Each row: what is tested, the text of the file, and its findings: severity, code, message, line, column, pointer, help.
 # Unless a row says otherwise the source line is that line of the file.
@@ -400,17 +409,155 @@ FINDINGS = [
         ],
     ),
     (
-        "a number that is not whole keeps the rest from being checked",
-        document('"x-a": 0.5,', '"wat": 1').replace(",,\n", ",\n"),
+        "a number that is not whole, where any number may be",
+        document('"x-a": 0.5', '"wat": 1'),
+        [
+            ("note", "fraction", "the number 0.5 is not written as a whole number", 5, 10, "/x-a", FRACTION_HELP),
+            (
+                "warning",
+                "unknown-member",
+                "unknown member `wat`",
+                6,
+                3,
+                "/wat",
+                "remove it, or begin its name with `x-` to make it an extension",
+            ),
+        ],
+    ),
+    (
+        "a number that is not whole in place of a length",
+        document('"components": { "schemas": { "S": { "type": "string", "minLength": 0.5 } } }'),
         [
             (
                 "error",
                 "not-whole",
-                "number not whole",
+                "the number 0.5 is not written as a whole number",
+                5,
+                70,
+                "/components/schemas/S/minLength",
+                "found the number 0.5; allowed: whole numbers from 0 to 18446744073709551615",
+            )
+        ],
+    ),
+    (
+        "a number that is not whole as a limit of a schema",
+        document('"components": { "schemas": { "S": { "type": "number", "minimum": 0.5, "minItems": 1e3 } } }'),
+        [
+            (
+                "note",
+                "fraction",
+                "the number 0.5 is not written as a whole number",
+                5,
+                68,
+                "/components/schemas/S/minimum",
+                FRACTION_HELP,
+            ),
+            (
+                "error",
+                "not-whole",
+                "the number 1e3 is not written as a whole number",
+                5,
+                85,
+                "/components/schemas/S/minItems",
+                "found the number 1e3; allowed: whole numbers from 0 to 18446744073709551615",
+            ),
+        ],
+    ),
+    (
+        "a number that is not whole in place of a text",
+        document('"tags": [{ "name": 0.5 }]'),
+        [("error", "wrong-type", "invalid type, expected text", 5, 22, "/tags/0/name", "found the number 0.5")],
+    ),
+    (
+        "a number that is not whole in place of an object",
+        document('"externalDocs": -1.5e-7'),
+        [("error", "wrong-type", "invalid type, expected object", 5, 19, "/externalDocs", "found the number -1.5e-7")],
+    ),
+    (
+        "numbers that are whole, but can't be held",
+        document('"x-a": [1e3, 18446744073709551616, -0, 18446744073709551615, -9223372036854775809]'),
+        [
+            ("note", "fraction", "the number 1e3 is not written as a whole number", 5, 11, "/x-a/0", FRACTION_HELP),
+            (
+                "note",
+                "fraction",
+                "the number 18446744073709551616 is out of the range of 64 bits",
+                5,
+                16,
+                "/x-a/1",
+                FRACTION_HELP,
+            ),
+            ("note", "fraction", "the number -0 is a negative zero", 5, 38, "/x-a/2", FRACTION_HELP),
+            (
+                "note",
+                "fraction",
+                "the number -9223372036854775809 is out of the range of 64 bits",
+                5,
+                64,
+                "/x-a/4",
+                FRACTION_HELP,
+            ),
+        ],
+    ),
+    (
+        "a number that is not whole in a value that doesn't count",
+        document('"x-a": [0.5]', '"x-a": 1'),
+        [
+            (
+                "warning",
+                "repeated-name",
+                "the name `x-a` comes again in its object",
+                6,
+                3,
+                "/x-a",
+                "the earlier value has no effect: remove one of the two",
+            )
+        ],
+    ),
+    (
+        "a number that is not whole in a value that counts",
+        document('"x-a": 1', '"x-a": [0.5]'),
+        [
+            (
+                "warning",
+                "repeated-name",
+                "the name `x-a` comes again in its object",
+                6,
+                3,
+                "/x-a",
+                "the earlier value has no effect: remove one of the two",
+            ),
+            ("note", "fraction", "the number 0.5 is not written as a whole number", 6, 11, "/x-a/0", FRACTION_HELP),
+        ],
+    ),
+    (
+        "a number that is not whole in a member that has no effect",
+        document('"wat": 0.5'),
+        [
+            (
+                "warning",
+                "unknown-member",
+                "unknown member `wat`",
+                5,
+                3,
+                "/wat",
+                "remove it, or begin its name with `x-` to make it an extension",
+            ),
+            ("note", "fraction", "the number 0.5 is not written as a whole number", 5, 10, "/wat", FRACTION_HELP),
+        ],
+    ),
+    (
+        "a number with many digits",
+        document('"x-a": 0.%s' % ("1" * 60)),
+        [
+            (
+                "note",
+                "fraction",
+                "the number 0.%s.. is not written as a whole number" % ("1" * 38),
                 5,
                 10,
                 "/x-a",
-                "no other check was run: it needs a document whose numbers are whole",
+                FRACTION_HELP,
             )
         ],
     ),
@@ -578,7 +725,7 @@ def test_findings(runner):
         file = runner.write("api.json", content)
         output = "".join(text_of(it, file, content) for it in findings)
         errors = sum(it[0] == "error" for it in findings)
-        said = summary(errors, len(findings) - errors)
+        said = summary_of(findings)
         runner.check(what, ["check", file], 1 if errors else 0, output, said)
         # the same as JSON, one object a line, with these members in this order
         names = ("file", "line", "column", "pointer", "severity", "code", "message", "help")
@@ -650,6 +797,9 @@ def test_formats(runner):
     output = (f"::error file=a%2Cb%3Ac%25.json,line=3,col=22::invalid type, expected text\n"
               f"::warning file=a%2Cb%3Ac%25.json,line=5,col=3::unknown member `w%25t`\n")
     runner.check("as workflow commands", ["check", "--format", "github", file], 1, output, summary(1, 1))
+    file = runner.write("half.json", document('"x-a": 0.5'))
+    output = "::notice file=half.json,line=5,col=10::the number 0.5 is not written as a whole number\n"
+    runner.check("a note as a workflow command", ["check", "--format", "github", file], 0, output, summary(0, 0, notes=1))
     file = runner.write("no.json", "[")
     output = "::error file=no.json,line=1,col=2::expected a value or `]`, found the end of the file\n"
     runner.check("no JSON as a workflow command", ["check", "--format", "github", file], 2, output, summary(1, 0))
@@ -662,6 +812,12 @@ def test_statuses(runner):
     not_json = shown("error", "not-json", "expected a value or `]`, found the end of the file", no, 1, 2, "[")
     runner.check("a warning is no error", ["check", wat], 0, warning(wat), summary(0, 1))
     runner.check("a warning that is denied", ["check", "--deny-warnings", wat], 1, warning(wat), summary(0, 1))
+    half = runner.write("half.json", document('"x-a": 0.5', '"x-b": 1.5'))
+    notes = "".join(text_of(("note", "fraction", f"the number {number} is not written as a whole number", line, 10, pointer,
+                             FRACTION_HELP), half, document('"x-a": 0.5', '"x-b": 1.5'))
+                    for number, line, pointer in (("0.5", 5, "/x-a"), ("1.5", 6, "/x-b")))
+    runner.check("a note is no warning", ["check", "--deny-warnings", half], 0, notes, summary(0, 0, notes=2))
+    runner.check("notes and a warning", ["check", half, wat], 0, notes + warning(wat), summary(0, 1, 2, notes=2))
     runner.check("no warning that is denied", ["check", "--deny-warnings", good], 0, "", summary(0, 0))
     runner.check("several files", ["check", good, wat, bad, no], 2, warning(wat) + error + not_json, summary(2, 1, 4))
     runner.check("several files the other way round", ["check", no, bad, good], 2, not_json + error, summary(2, 0, 3))
@@ -730,28 +886,33 @@ def test_words(runner):
     runner.compare("no words", (status, output, "Usage: openapi" in error), (2, "", True))
 
 
-def test_memory(runner):
-    """Refuses each request for memory, one after another: a run reports it, or answers as it does otherwise."""
+def refuse_each(runner, words):
+    """Refuses each request for memory of a run, one after another: it reports that, or answers as it does otherwise."""
     library = f"{runner.folder}/refuse.so"
-    subprocess.run(["cc", "-shared", "-fPIC", "-O1", "-o", library, f"{TOP}/tests/refuse.c", "-ldl"], check=True)
+    if not os.path.exists(library):
+        subprocess.run(["cc", "-shared", "-fPIC", "-O1", "-o", library, f"{TOP}/tests/refuse.c", "-ldl"], check=True)
+    wanted, strange, refused = runner.run(*words), [], 0
+    for number in range(1, 10_000):
+        reads, writes = os.pipe()
+        # (the library says on descriptor 9 that it refused the request of this number)
+        status, output, error = runner.run(*words, env={**os.environ, "REFUSE": str(number), "LD_PRELOAD": library},
+                                           preexec_fn=lambda: os.dup2(writes, 9), pass_fds=(9, writes))
+        os.close(writes)
+        met = os.read(reads, 100)
+        os.close(reads)
+        if not met:
+            break
+        refused += 1
+        is_said = status == 3 and output == "" and error.startswith("error: ") and "out of memory" in error.split("\n")[0]
+        if not is_said and (status, output, error) != wanted:
+            strange.append((number, status, error))
+    runner.compare(f"memory is refused to {words}", (strange, refused > 50), ([], True))
+
+
+def test_memory(runner):
     no_json, fraction = runner.write("no.json", '{"a": [1,'), runner.write("fraction.json", document('"x-a": 0.5'))
     for file in (f"{TOP}/examples/small.json", f"{TOP}/examples/broken.json", no_json, fraction):
-        wanted, strange, refused = runner.run("check", file), [], 0
-        for number in range(1, 10_000):
-            reads, writes = os.pipe()
-            # (the library says on descriptor 9 that it refused the request of this number)
-            status, output, error = runner.run("check", file, env={**os.environ, "REFUSE": str(number), "LD_PRELOAD": library},
-                                               preexec_fn=lambda: os.dup2(writes, 9), pass_fds=(9, writes))
-            os.close(writes)
-            met = os.read(reads, 100)
-            os.close(reads)
-            if not met:
-                break
-            refused += 1
-            is_said = status == 3 and output == "" and error.startswith("error: ") and "out of memory" in error.split("\n")[0]
-            if not is_said and (status, output, error) != wanted:
-                strange.append((number, status, error))
-        runner.compare(f"memory is refused to {file}", (strange, refused > 50), ([], True))
+        refuse_each(runner, ["check", file])
 
 
 # The findings of examples/broken.json.
@@ -785,7 +946,7 @@ def test_examples(runner):
         file = runner.write(f"{name}.json", content)
         output = "".join(text_of(it, file, content) for it in findings)
         errors = sum(it[0] == "error" for it in findings)
-        runner.check(f"examples/{name}.json", ["check", file], 1 if errors else 0, output, summary(errors, len(findings) - errors))
+        runner.check(f"examples/{name}.json", ["check", file], 1 if errors else 0, output, summary_of(findings))
 
 
 def main():

@@ -1,13 +1,21 @@
 //! The command `check`.
-use crate::arguments::CheckOptions;
 use crate::input::{INPUT, read_input, shown_name};
-use crate::output::printed;
+use crate::output::{Format, printed, write_output};
+use crate::report;
 use crate::tally::Tally;
 use openapi_findings::{Finding, findings};
 use openapi_node::Steps;
 use std::alloc::AllocError;
 use std::io;
-use std::io::Write;
+
+/// How `check` runs.
+#[derive(Clone, Copy, Debug, PartialEq, Eq)]
+pub struct CheckOptions {
+    /// How findings are printed.
+    pub format: Format,
+    /// Whether a warning makes the status 1.
+    pub deny_warnings: bool,
+}
 
 /// Checks files, or standard input if there is none, and returns the exit status. Findings go to standard output, and what fails
 /// and a summary to standard error.
@@ -78,18 +86,15 @@ fn write_findings(
             return Ok(());
         }
     };
-    let mut writer = io::writer(rt);
-    match writer.write_all(text.as_bytes()) {
-        Ok(()) => Ok(()),
-        Err(error) => {
-            report_failure(rt, "<stdout>", &error, tally);
-            Err(error)
-        }
+    let written = write_output(rt, text.as_str());
+    if written.is_err() {
+        tally.add_failure();
     }
+    written
 }
 
 /// Reports on standard error what failed.
 fn report_failure(rt: &HostRuntime, name: &str, error: &io::Error, tally: &mut Tally) {
-    let _printed = eprintln!(rt; "error: {name}: {error}");
+    report::report_failure(rt, name, error);
     tally.add_failure();
 }

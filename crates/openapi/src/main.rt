@@ -1,26 +1,34 @@
-//! Checks OpenAPI 3.0 documents in JSON.
+//! Checks, rewrites and lists OpenAPI 3.0 documents in JSON.
 //!
-//! `openapi check` prints every finding of each file to standard output, in the order of the text, and how many there are to
-//! standard error. Exit statuses: 0, there is no error; 1, there are errors, or warnings with `--deny-warnings`; 2, a file is no
-//! JSON, or the arguments are wrong; 3, reading, writing or memory failed. Of several files the highest counts.
+//! `openapi check` prints every finding of each file, `clean` its text without what has no effect, `normalize` its serialized value, and `operations` and `references`
+//! list what there is in it. Exit statuses: 0, all is well; 1, a file breaks a rule, has warnings that are denied, or would change
+//! with `--check`; 2, a file is no JSON, or the arguments are wrong; 3, reading, writing or memory failed. Of several files the
+//! highest counts.
 #![tactic(auto)]
 
 mod arguments;
 mod check;
+mod clean;
 mod input;
+mod listing;
+mod normalize;
 mod output;
+mod replace;
+mod report;
+mod status;
 mod tally;
+mod target;
 
-use arguments::{check_options, command_line};
+use arguments::{check_options, command_line, list_format, normalize_options, target_of};
 use check::check_files;
 use clap::ArgMatches;
 use clap::error::ErrorKind;
+use clean::clean_files;
+use listing::{Listing, list_files};
+use normalize::normalize_files;
+use status::{FAILED, WRONG_ARGUMENTS};
 use std::process::ExitCode;
 use std::{env, io};
-use tally::FAILED;
-
-/// The status if the arguments are wrong.
-const WRONG_ARGUMENTS: u8 = 2;
 
 /// Returns the words of the command line, the name of the program first.
 fn words_of(rt: &HostRuntime) -> io::Result<Vec<String>> {
@@ -33,11 +41,16 @@ fn words_of(rt: &HostRuntime) -> io::Result<Vec<String>> {
 
 /// Runs the command that the words name, and returns the exit status.
 fn run_command(rt: &HostRuntime, matches: &ArgMatches<'_>) -> u8 {
-    match matches.subcommand() {
-        Some(("check", matches)) => {
-            let files = matches.get_strs("FILE").unwrap_or(&[]);
-            check_files(rt, check_options(matches), files)
-        }
+    let Some((name, matches)) = matches.subcommand() else {
+        return WRONG_ARGUMENTS;
+    };
+    let files = matches.get_strs("FILE").unwrap_or(&[]);
+    match name {
+        "check" => check_files(rt, check_options(matches), files),
+        "clean" => clean_files(rt, target_of(matches), files),
+        "normalize" => normalize_files(rt, normalize_options(matches), files),
+        "operations" => list_files(rt, Listing::Operations, list_format(matches), files),
+        "references" => list_files(rt, Listing::References, list_format(matches), files),
         _ => WRONG_ARGUMENTS,
     }
 }

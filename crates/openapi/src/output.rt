@@ -1,6 +1,12 @@
-//! Findings as they are printed.
+//! What goes to standard output.
+ghost use Rattle.std.specs.Prelude.{◌≡◌, ◌++◌, IfOk, string_bytes};
+ghost use Rattle.openapi.specs.Lines.{finding_line, findings_text};
+
+use crate::report::{OUTPUT_SHOWN, report_failure};
 use openapi_findings::{AsGithub, AsJson, AsText, Finding};
 use std::alloc::{AllocError, Global};
+use std::io;
+use std::io::Write;
 use std::str::FromStr;
 
 /// How findings are printed.
@@ -39,27 +45,55 @@ pub fn printed(
     file: &str,
     bytes: &[u8],
     findings: &[Finding],
-) -> Result<String, AllocError> {
+) -> Result<String, AllocError>
+    ensures { IfOk result (λ s. string_bytes s ≡ findings_text format file.now bytes.now findings.now) }
+{
     let mut text = String::new(alloc);
     for finding in findings {
-        match format {
-            Format::Text => {
-                let shown = AsText {
-                    finding,
-                    file,
-                    bytes,
-                };
-                writeln!(text, "{shown}")?;
-            }
-            Format::Json => {
-                let shown = AsJson { finding, file };
-                writeln!(text, "{shown}")?;
-            }
-            Format::Github => {
-                let shown = AsGithub { finding, file };
-                writeln!(text, "{shown}")?;
-            }
-        }
+        push_finding(&mut text, format, file, bytes, finding)?;
     }
     Ok(text)
+}
+
+/// Appends a finding as it is printed, with a line feed.
+fn push_finding(
+    text: &mut String,
+    format: Format,
+    file: &str,
+    bytes: &[u8],
+    finding: &Finding,
+) -> Result<(), AllocError>
+    ensures { IfOk result (λ _. string_bytes text.new ≡ string_bytes text.old ++ finding_line format file.now bytes.now finding.now) }
+{
+    match format {
+        Format::Text => {
+            let shown = AsText {
+                finding,
+                file,
+                bytes,
+            };
+            writeln!(text, "{shown}")
+        }
+        Format::Json => {
+            let shown = AsJson { finding, file };
+            writeln!(text, "{shown}")
+        }
+        Format::Github => {
+            let shown = AsGithub { finding, file };
+            writeln!(text, "{shown}")
+        }
+    }
+}
+
+/// Writes a text to standard output.
+///
+/// # Errors
+///
+/// The error of the system, which is reported here.
+pub fn write_output(rt: &HostRuntime, text: &str) -> io::Result<()> {
+    let written = io::writer(rt).write_all(text.as_bytes());
+    if let Err(error) = &written {
+        report_failure(rt, OUTPUT_SHOWN, error);
+    }
+    written
 }

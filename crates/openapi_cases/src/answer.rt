@@ -8,7 +8,7 @@ use crate::row::Row;
 use crate::sorts::{operations, sort};
 use crate::table::{expected_of, full_object, other_objects};
 use crate::taken::{given, taken};
-use crate::texts::{by_name, in_order, ordered_text, position, positions, pretty};
+use crate::texts::{by_name, in_order, ordered_text, position, positions, pretty, with_zeros};
 use crate::types::of_type;
 use openapi_test_support::trees::tree;
 use openapiv3::{Fault, Node, Settle, Steps, ToNode, json_from_node, node_from_json};
@@ -30,12 +30,17 @@ pub enum Ask<'a> {
 }
 
 /// The answer to a case.
+///
+/// # Errors
+///
+/// `Fail` when memory runs out.
 pub fn answer(rt: &HostRuntime, case: &Case<'_>) -> Result<String, Fail> {
     let (command, rest) = case.request.split_once(' ').unwrap_or((case.request, ""));
     match command {
         "json" => by_name(rt, rest),
         "order" => in_order(rt, rest),
         "pretty" => pretty(rt, rest),
+        "zeros" => with_zeros(rt, rest),
         "position" => position(rt, rest),
         "positions" => positions(rt, rest),
         "sort" => sort(rt, &tree(rt, rest)?),
@@ -84,6 +89,10 @@ fn clean(rt: &HostRuntime, name: &str, node: &Node) -> Result<String, Fail> {
 }
 
 /// The answer of a tree or a fault.
+///
+/// # Errors
+///
+/// `Fail` when memory runs out.
 pub fn told(rt: &HostRuntime, answer: Result<Node, Fault>) -> Result<String, Fail> {
     match answer {
         Ok(node) => Ok(format!(in rt.alloc(); "= {}\n", ordered_text(rt, &node)?.as_str())?),
@@ -101,6 +110,10 @@ fn told_if_known(rt: &HostRuntime, answer: Option<Result<Node, Fault>>) -> Resul
 
 /// The answer to a line of standard input: a type, a tab and a JSON text; or a command and a type, a tab and a JSON text, of
 /// which the answer ends with an empty line.
+///
+/// # Errors
+///
+/// `Fail` when memory runs out.
 pub fn answer_line(rt: &HostRuntime, line: &str) -> Result<String, Fail> {
     let Some((request, text)) = line.split_once('\t') else {
         return Ok(String::from_str(rt.alloc(), "! no tab\n")?);
@@ -119,6 +132,10 @@ pub fn answer_line(rt: &HostRuntime, line: &str) -> Result<String, Fail> {
 }
 
 /// What a type answers.
+///
+/// # Errors
+///
+/// `Fail` when memory runs out.
 pub fn answer_as<T: ToNode + Clone + PartialEq + Drop>(
     rt: &HostRuntime,
     ask: Ask<'_>,

@@ -10,6 +10,10 @@ use std::alloc::{AllocError, Global};
 use std::test::Fail;
 
 /// What comes of a call that is made on no sample.
+///
+/// # Errors
+///
+/// `Fail` when memory runs out, or when the text of the sample is not read.
 pub fn alone(rt: &HostRuntime, call: &str) -> Result<Told, Fail> {
     match call {
         "ref_" => reference(rt.alloc()),
@@ -23,6 +27,10 @@ pub fn alone(rt: &HostRuntime, call: &str) -> Result<Told, Fail> {
 }
 
 /// What comes of a call that is made on a sample.
+///
+/// # Errors
+///
+/// `Fail` when memory runs out, or when the text of the sample is not read.
 pub fn on_sample(rt: &HostRuntime, call: &str, sample: Sample) -> Result<Told, Fail> {
     match call {
         "from_value" => nodes::from_value(rt, sample.text()),
@@ -34,6 +42,7 @@ pub fn on_sample(rt: &HostRuntime, call: &str, sample: Sample) -> Result<Told, F
         "json_from_node" => nodes::json_from_node(rt, sample.text()),
         "node_from_json_in_order" => nodes::node_from_json_in_order(rt, sample.text()),
         "json_from_node_in_order" => nodes::json_from_node_in_order(rt, sample.text()),
+        "pretty_from_node" => nodes::pretty_from_node(rt, sample.text()),
         "pretty_from_node_in_order" => nodes::pretty_from_node_in_order(rt, sample.text()),
         "position_of" => nodes::position_of(rt, sample.text()),
         "position_below" => nodes::position_below(rt, sample),

@@ -47,6 +47,10 @@ fn is_below(line: &str) -> bool {
 }
 
 /// The cases of a text, in their order. Empty lines and those that begin with `#` say nothing.
+///
+/// # Errors
+///
+/// `Fail` when memory runs out, or when an answer is before the first case.
 pub fn cases_of(alloc: Global, text: &str) -> Result<Vec<Case<'_>>, Fail> {
     let mut cases = Vec::new(alloc);
     for (place, line) in text.lines().enumerate() {

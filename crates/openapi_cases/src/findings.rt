@@ -10,6 +10,10 @@ use openapiv3::{Node, Pointer, Steps};
 use std::test::Fail;
 
 /// Returns all faults of a value of a type, a line each.
+///
+/// # Errors
+///
+/// `Fail` when memory runs out.
 pub fn all_faults(rt: &HostRuntime, name: &str, node: &Node) -> Result<String, Fail> {
     let Some(kind) = kind_of(name) else {
         return no_such_type(rt);
@@ -23,6 +27,10 @@ pub fn all_faults(rt: &HostRuntime, name: &str, node: &Node) -> Result<String, F
 }
 
 /// Returns all members that reading a value of a type drops, a line each.
+///
+/// # Errors
+///
+/// `Fail` when memory runs out.
 pub fn all_dropped(rt: &HostRuntime, name: &str, node: &Node) -> Result<String, Fail> {
     let Some(kind) = kind_of(name) else {
         return no_such_type(rt);
@@ -42,6 +50,10 @@ pub fn all_dropped(rt: &HostRuntime, name: &str, node: &Node) -> Result<String, 
 }
 
 /// Returns all references of a value of a type, a line each.
+///
+/// # Errors
+///
+/// `Fail` when memory runs out.
 pub fn all_references(rt: &HostRuntime, name: &str, node: &Node) -> Result<String, Fail> {
     let Some(kind) = kind_of(name) else {
         return no_such_type(rt);
@@ -74,6 +86,10 @@ fn no_such_type(rt: &HostRuntime) -> Result<String, Fail> {
 
 /// Returns whether the faults of a value agree with what reading it answers: none if it answers with a value, and if it answers
 /// with a fault that one among them.
+///
+/// # Errors
+///
+/// `Fail` when memory runs out.
 pub fn agree_with(rt: &HostRuntime, name: &str, node: &Node, answer: &str) -> Result<bool, Fail> {
     if kind_of(name).is_none() {
         return Ok(true);
@@ -92,6 +108,10 @@ pub fn agree_with(rt: &HostRuntime, name: &str, node: &Node, answer: &str) -> Re
 }
 
 /// Makes the list of all faults of a sample as a Security Requirement Object, whose members are lists.
+///
+/// # Errors
+///
+/// `Fail` when memory runs out, or when the text of the sample is not read.
 pub fn faults_of(rt: &HostRuntime, sample: Sample) -> Result<Told, Fail> {
     let alloc = rt.alloc();
     let node = tree(rt, sample.text())?;
@@ -105,6 +125,10 @@ pub fn faults_of(rt: &HostRuntime, sample: Sample) -> Result<Told, Fail> {
 }
 
 /// Makes the list of all members that reading a sample as a Contact Object drops.
+///
+/// # Errors
+///
+/// `Fail` when memory runs out, or when the text of the sample is not read.
 pub fn dropped_of(rt: &HostRuntime, sample: Sample) -> Result<Told, Fail> {
     let alloc = rt.alloc();
     let node = tree(rt, sample.text())?;
@@ -118,6 +142,10 @@ pub fn dropped_of(rt: &HostRuntime, sample: Sample) -> Result<Told, Fail> {
 }
 
 /// Makes the list of all references of a document.
+///
+/// # Errors
+///
+/// `Fail` when memory runs out, or when the text of the sample is not read.
 pub fn references_of(rt: &HostRuntime, sample: Sample) -> Result<Told, Fail> {
     let alloc = rt.alloc();
     let node = tree(rt, sample.text())?;

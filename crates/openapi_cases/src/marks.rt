@@ -28,6 +28,10 @@ impl Moment {
 }
 
 /// Asks for memory of the size of the moment, and lets go of it.
+///
+/// # Errors
+///
+/// `AllocError` when memory runs out.
 pub fn mark(alloc: Global, moment: Moment) -> Result<(), AllocError> {
     drop(room(alloc, moment.size())?);
     Ok(())

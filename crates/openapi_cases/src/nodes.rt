@@ -10,6 +10,10 @@ use std::alloc::{AllocError, Global};
 use std::test::Fail;
 
 /// Makes a node of a value.
+///
+/// # Errors
+///
+/// `Fail` when memory runs out, or when the text of the sample is not read.
 pub fn from_value(rt: &HostRuntime, text: &str) -> Result<Told, Fail> {
     let alloc = rt.alloc();
     let value = Value::from_slice(alloc, text.as_bytes())?;
@@ -22,6 +26,10 @@ pub fn from_value(rt: &HostRuntime, text: &str) -> Result<Told, Fail> {
 }
 
 /// Makes a value of a node.
+///
+/// # Errors
+///
+/// `Fail` when memory runs out, or when the text of the sample is not read.
 pub fn to_value(rt: &HostRuntime, text: &str) -> Result<Told, Fail> {
     let alloc = rt.alloc();
     let node = tree(rt, text)?;
@@ -35,6 +43,10 @@ pub fn to_value(rt: &HostRuntime, text: &str) -> Result<Told, Fail> {
 }
 
 /// Makes a value of a node, which is taken for it.
+///
+/// # Errors
+///
+/// `Fail` when memory runs out, or when the text of the sample is not read.
 pub fn into_value(rt: &HostRuntime, text: &str) -> Result<Told, Fail> {
     let alloc = rt.alloc();
     let node = tree(rt, text)?;
@@ -47,6 +59,10 @@ pub fn into_value(rt: &HostRuntime, text: &str) -> Result<Told, Fail> {
 }
 
 /// Reads a node of JSON text.
+///
+/// # Errors
+///
+/// `Fail` when memory runs out, or when the text of the sample is not read.
 pub fn node_from_json(rt: &HostRuntime, text: &str) -> Result<Told, Fail> {
     let alloc = rt.alloc();
     let wanted = tree(rt, text)?;
@@ -68,6 +84,10 @@ pub fn told_by_json_fault(fault: &JsonFault) -> Told {
 }
 
 /// Writes a node as JSON text.
+///
+/// # Errors
+///
+/// `Fail` when memory runs out, or when the text of the sample is not read.
 pub fn json_from_node(rt: &HostRuntime, text: &str) -> Result<Told, Fail> {
     let alloc = rt.alloc();
     let node = tree(rt, text)?;
@@ -81,6 +101,10 @@ pub fn json_from_node(rt: &HostRuntime, text: &str) -> Result<Told, Fail> {
 }
 
 /// Reads a node of JSON text in order.
+///
+/// # Errors
+///
+/// `Fail` when memory runs out, or when the text of the sample is not read.
 pub fn node_from_json_in_order(rt: &HostRuntime, text: &str) -> Result<Told, Fail> {
     let alloc = rt.alloc();
     let wanted = tree(rt, text)?;
@@ -94,6 +118,10 @@ pub fn node_from_json_in_order(rt: &HostRuntime, text: &str) -> Result<Told, Fai
 }
 
 /// Writes a node as JSON text in order, which is to be read as that node again.
+///
+/// # Errors
+///
+/// `Fail` when memory runs out, or when the text of the sample is not read.
 pub fn json_from_node_in_order(rt: &HostRuntime, text: &str) -> Result<Told, Fail> {
     let alloc = rt.alloc();
     let node = tree(rt, text)?;
@@ -106,6 +134,10 @@ pub fn json_from_node_in_order(rt: &HostRuntime, text: &str) -> Result<Told, Fai
 }
 
 /// The same with a line for each item and each member.
+///
+/// # Errors
+///
+/// `Fail` when memory runs out, or when the text of the sample is not read.
 pub fn pretty_from_node_in_order(rt: &HostRuntime, text: &str) -> Result<Told, Fail> {
     let alloc = rt.alloc();
     let node = tree(rt, text)?;
@@ -113,6 +145,22 @@ pub fn pretty_from_node_in_order(rt: &HostRuntime, text: &str) -> Result<Told, F
     let mut steps = Steps::new(rt);
     mark(alloc, Moment::CallBegins)?;
     let answer = openapiv3::pretty_from_node_in_order(alloc, &node, &mut steps);
+    mark(alloc, Moment::CallEnds)?;
+    Ok(told_by_text(rt, answer, &node)?.if_kept(&node, &before))
+}
+
+/// The same with the members of each object in the order of their names. The node has them in that order already.
+///
+/// # Errors
+///
+/// `Fail` when memory runs out, or when the text of the sample is not read.
+pub fn pretty_from_node(rt: &HostRuntime, text: &str) -> Result<Told, Fail> {
+    let alloc = rt.alloc();
+    let node = tree(rt, text)?;
+    let before = node.clone()?;
+    let mut steps = Steps::new(rt);
+    mark(alloc, Moment::CallBegins)?;
+    let answer = openapiv3::pretty_from_node(alloc, &node, &mut steps);
     mark(alloc, Moment::CallEnds)?;
     Ok(told_by_text(rt, answer, &node)?.if_kept(&node, &before))
 }
@@ -130,6 +178,10 @@ fn told_by_text(
 }
 
 /// Looks for the position of a text's root.
+///
+/// # Errors
+///
+/// `Fail` when memory runs out, or when the text of the sample is not read.
 pub fn position_of(rt: &HostRuntime, text: &str) -> Result<Told, Fail> {
     let alloc = rt.alloc();
     let wanted = Some(Position {
@@ -143,6 +195,10 @@ pub fn position_of(rt: &HostRuntime, text: &str) -> Result<Told, Fail> {
 }
 
 /// Looks for the position of a member's value below a text's root.
+///
+/// # Errors
+///
+/// `Fail` when memory runs out, or when the text of the sample is not read.
 pub fn position_below(rt: &HostRuntime, sample: Sample) -> Result<Told, Fail> {
     let alloc = rt.alloc();
     let (names, member) = sample.inner();
@@ -155,6 +211,10 @@ pub fn position_below(rt: &HostRuntime, sample: Sample) -> Result<Told, Fail> {
 }
 
 /// Looks for the positions of a text's root, of a member's value below it, and of a value that is not there.
+///
+/// # Errors
+///
+/// `Fail` when memory runs out, or when the text of the sample is not read.
 pub fn positions_of(rt: &HostRuntime, sample: Sample) -> Result<Told, Fail> {
     let alloc = rt.alloc();
     let (names, member) = sample.inner();
@@ -220,6 +280,10 @@ fn point_at(offset: usize) -> Point {
 }
 
 /// Copies a node, with its looks counted.
+///
+/// # Errors
+///
+/// `Fail` when memory runs out, or when the text of the sample is not read.
 pub fn copy(rt: &HostRuntime, text: &str) -> Result<Told, Fail> {
     let alloc = rt.alloc();
     let node = tree(rt, text)?;
@@ -232,6 +296,10 @@ pub fn copy(rt: &HostRuntime, text: &str) -> Result<Told, Fail> {
 }
 
 /// Clones a node.
+///
+/// # Errors
+///
+/// `Fail` when memory runs out, or when the text of the sample is not read.
 pub fn clone(rt: &HostRuntime, text: &str) -> Result<Told, Fail> {
     let alloc = rt.alloc();
     let node = tree(rt, text)?;

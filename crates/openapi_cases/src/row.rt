@@ -73,6 +73,10 @@ pub struct Row<'a> {
 impl<'a> Row<'a> {
     /// The row of a line: name, mode, word and sample with ` | ` between two of them. Extensions have neither word nor
     /// sample.
+    ///
+    /// # Errors
+    ///
+    /// `Fail` when memory runs out, or when the line is no row.
     pub fn of_line(line: &'a str) -> Result<Row<'a>, Fail> {
         match Row::of_parts(line) {
             Some(row) => Ok(row),

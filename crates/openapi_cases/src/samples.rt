@@ -63,6 +63,10 @@ impl Sample {
     }
 
     /// What is written of what is read of the tree, as JSON text; or what is told of the fault that refuses it.
+    ///
+    /// # Errors
+    ///
+    /// The text of the fault that refuses the value.
     pub fn cleaned(self) -> Result<&'static str, &'static str> {
         match self {
             Sample::Schema => Ok(r#"{"type":"integer","exclusiveMinimum":false}"#),
@@ -76,6 +80,10 @@ impl Sample {
 
     /// Returns what is written of what is read of the tree with members in the order of their names, in the same way. Of two
     /// spellings of a code the later one counts, and by name it is the one in small letters.
+    ///
+    /// # Errors
+    ///
+    /// The text of the fault that refuses the value.
     pub fn cleaned_by_name(self) -> Result<&'static str, &'static str> {
         match self {
             Sample::Responses => { Ok(r#"{"2XX":{"description":"a"},"404":{"description":"b"}}"#) }
@@ -104,6 +112,10 @@ impl Sample {
     }
 
     /// What the tree settles to, in the same way.
+    ///
+    /// # Errors
+    ///
+    /// The text of the fault that refuses the value.
     pub fn settled(self) -> Result<&'static str, &'static str> {
         match self {
             Sample::Schema => Ok(r#"{"type":"integer"}"#),

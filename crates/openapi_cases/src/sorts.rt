@@ -56,11 +56,19 @@ fn told<T: FromNode + Tells + Drop>(rt: &HostRuntime, node: &Node) -> Result<Str
 }
 
 /// The kind that a schema is read as.
+///
+/// # Errors
+///
+/// `Fail` when memory runs out.
 pub fn sort(rt: &HostRuntime, node: &Node) -> Result<String, Fail> {
     told::<Schema>(rt, node)
 }
 
 /// A line for each operation of a document: its method, its path, and its identifier where it has one.
+///
+/// # Errors
+///
+/// `Fail` when memory runs out.
 pub fn operations(rt: &HostRuntime, node: &Node) -> Result<String, Fail> {
     told::<OpenAPI>(rt, node)
 }

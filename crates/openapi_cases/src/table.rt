@@ -72,6 +72,10 @@ fn object_with(
 }
 
 /// The object with all rows in their order.
+///
+/// # Errors
+///
+/// `Fail` when memory runs out.
 pub fn full_object(alloc: Global, rows: &[Row<'_>]) -> Result<String, Fail> {
     object_with(alloc, rows, rows.len(), &[])
 }
@@ -101,6 +105,10 @@ fn tells_apart(row: &Row<'_>) -> bool {
 }
 
 /// The objects that lack one row, and are read as other values than the full one.
+///
+/// # Errors
+///
+/// `Fail` when memory runs out.
 pub fn other_objects(alloc: Global, rows: &[Row<'_>]) -> Result<Vec<String>, Fail> {
     let mut others = Vec::new(alloc);
     for (place, row) in rows.iter().enumerate() {
@@ -113,6 +121,10 @@ pub fn other_objects(alloc: Global, rows: &[Row<'_>]) -> Result<Vec<String>, Fai
 
 /// What has to come of the full object, of its rows in another order, and of each row that is left out, null or of
 /// another kind.
+///
+/// # Errors
+///
+/// `Fail` when memory runs out.
 pub fn expected_of(alloc: Global, rows: &[Row<'_>]) -> Result<Vec<Expected>, Fail> {
     let mut table = Table {
         alloc,

@@ -1,8 +1,9 @@
 //! Cases on JSON text: what is read of it, what is written again, and where its values stand.
 
 use openapiv3::{
-    JsonFault, Node, PlaceStep, Point, Position, Steps, json_from_node, json_from_node_in_order,
-    node_from_json, node_from_json_in_order, position_of, positions_of, pretty_from_node_in_order,
+    JsonFault, Node, PlaceStep, Point, Pointer, Position, Steps, json_from_node,
+    json_from_node_in_order, node_from_json, node_from_json_in_order, node_with_zeros_in_order,
+    position_of, positions_of, pretty_from_node, pretty_from_node_in_order,
 };
 use std::test::Fail;
 
@@ -17,6 +18,10 @@ fn refused(rt: &HostRuntime, fault: &JsonFault) -> Result<String, Fail> {
 }
 
 /// A node as compact JSON text, with the members of each object in their order.
+///
+/// # Errors
+///
+/// `Fail` when memory runs out.
 pub fn ordered_text(rt: &HostRuntime, node: &Node) -> Result<String, Fail> {
     let mut steps = Steps::new(rt);
     Ok(json_from_node_in_order(rt.alloc(), node, &mut steps)?)
@@ -28,12 +33,31 @@ fn pretty_text(rt: &HostRuntime, node: &Node) -> Result<String, Fail> {
     Ok(pretty_from_node_in_order(rt.alloc(), node, &mut steps)?)
 }
 
-/// JSON text to a node and back, by name.
+/// Returns whether the pretty text of a node by name is read again as the text by name.
+fn is_read_again(rt: &HostRuntime, node: &Node, text: &str) -> Result<bool, Fail> {
+    let mut steps = Steps::new(rt);
+    let pretty = pretty_from_node(rt.alloc(), node, &mut steps)?;
+    let Ok(again) = node_from_json_in_order(rt.alloc(), pretty.as_bytes()) else {
+        return Ok(false);
+    };
+    let again = ordered_text(rt, &again)?;
+    Ok(again.as_str() == text)
+}
+
+/// JSON text to a node and back, by name. The pretty text by name has to be read as the same, in that order.
+///
+/// # Errors
+///
+/// `Fail` when memory runs out.
 pub fn by_name(rt: &HostRuntime, text: &str) -> Result<String, Fail> {
     match node_from_json(rt.alloc(), text.as_bytes()) {
         Ok(node) => {
             let mut steps = Steps::new(rt);
-            told(rt, json_from_node(rt.alloc(), &node, &mut steps)?.as_str())
+            let text = json_from_node(rt.alloc(), &node, &mut steps)?;
+            if !is_read_again(rt, &node, text.as_str())? {
+                return Ok(String::from_str(rt.alloc(), "its pretty text is read otherwise\n")?);
+            }
+            told(rt, text.as_str())
         }
         Err(fault) => refused(rt, &fault),
     }
@@ -41,6 +65,10 @@ pub fn by_name(rt: &HostRuntime, text: &str) -> Result<String, Fail> {
 
 /// JSON text to a node and back, in order. What is refused has to be refused by name for the same reason, and else the
 /// same has to be written by name of both nodes, and to be read of the pretty text.
+///
+/// # Errors
+///
+/// `Fail` when memory runs out.
 pub fn in_order(rt: &HostRuntime, text: &str) -> Result<String, Fail> {
     let named = by_name(rt, text)?;
     match node_from_json_in_order(rt.alloc(), text.as_bytes()) {
@@ -74,6 +102,10 @@ fn again(rt: &HostRuntime, text: &str) -> Result<String, Fail> {
 }
 
 /// JSON text to a node and back, with a line for each item and each member.
+///
+/// # Errors
+///
+/// `Fail` when memory runs out.
 pub fn pretty(rt: &HostRuntime, text: &str) -> Result<String, Fail> {
     match node_from_json_in_order(rt.alloc(), text.as_bytes()) {
         Ok(node) => {
@@ -87,7 +119,35 @@ pub fn pretty(rt: &HostRuntime, text: &str) -> Result<String, Fail> {
     }
 }
 
+/// Returns the value of a text with 0 in place of each number that no node holds, and a line for each of these numbers. If there is
+/// none, [`node_from_json_in_order`] has to read the same.
+///
+/// # Errors
+///
+/// `Fail` when memory runs out.
+pub fn with_zeros(rt: &HostRuntime, text: &str) -> Result<String, Fail> {
+    match node_with_zeros_in_order(rt.alloc(), text.as_bytes()) {
+        Ok(read) => {
+            let mut answer = told(rt, ordered_text(rt, &read.node)?.as_str())?;
+            if read.numbers.is_empty() && again(rt, text)?.as_str() != answer.as_str() {
+                return Ok(String::from_str(rt.alloc(), "in order another tree is read\n")?);
+            }
+            for number in &read.numbers {
+                let place = Pointer(number.place.as_slice());
+                let line = format!(in rt.alloc(); "= {} at #{place}\n", number.text.as_str())?;
+                answer.push_str(line.as_str())?;
+            }
+            Ok(answer)
+        }
+        Err(fault) => refused(rt, &fault),
+    }
+}
+
 /// Returns where the value at a place begins in a text. [`positions_of`] has to return the same of this place alone.
+///
+/// # Errors
+///
+/// `Fail` when memory runs out.
 pub fn position(rt: &HostRuntime, request: &str) -> Result<String, Fail> {
     let (place, text) = request.split_once(' ').unwrap_or((request, ""));
     let text = spelled_out(rt, text)?;
@@ -101,6 +161,10 @@ pub fn position(rt: &HostRuntime, request: &str) -> Result<String, Fail> {
 }
 
 /// Returns where the values at several places, with a comma between two of them, begin in a text: a line for each place.
+///
+/// # Errors
+///
+/// `Fail` when memory runs out.
 pub fn positions(rt: &HostRuntime, request: &str) -> Result<String, Fail> {
     let (pointers, text) = request.split_once(' ').unwrap_or((request, ""));
     let text = spelled_out(rt, text)?;

@@ -9,6 +9,10 @@ use openapiv3::{Fault, FromNode, IntoNode, Node, ReadError, Settle, Steps, ToNod
 use std::test::Fail;
 
 /// What comes of a call that is made on a sample, which is read as a `T`.
+///
+/// # Errors
+///
+/// `Fail` when memory runs out, or when the text of the sample is not read.
 pub fn on_sample<T: ToNode + Clone + PartialEq + Drop>(
     rt: &HostRuntime,
     call: &str,
@@ -113,6 +117,10 @@ fn write<T: ToNode + Clone + PartialEq + Drop>(
 }
 
 /// Turns what was read of a tree into the tree that it is written as.
+///
+/// # Errors
+///
+/// `Fail` when memory runs out, or when the text of the sample is not read.
 pub fn into_node<T: IntoNode>(rt: &HostRuntime, sample: Sample) -> Result<Told, Fail> {
     let alloc = rt.alloc();
     let mut steps = Steps::new(rt);
@@ -124,6 +132,10 @@ pub fn into_node<T: IntoNode>(rt: &HostRuntime, sample: Sample) -> Result<Told, 
 }
 
 /// Reads a tree that is given up. What was read is told by what is written of it.
+///
+/// # Errors
+///
+/// `Fail` when memory runs out, or when the text of the sample is not read.
 pub fn from_owned_node<T: ToNode + Drop>(rt: &HostRuntime, sample: Sample) -> Result<Told, Fail> {
     let alloc = rt.alloc();
     let node = tree(rt, sample.text())?;

@@ -15,6 +15,10 @@ use openapiv3::{
 use std::test::Fail;
 
 /// What the type of a name answers.
+///
+/// # Errors
+///
+/// `Fail` when memory runs out.
 pub fn of_type(rt: &HostRuntime, name: &str, ask: Ask<'_>) -> Result<String, Fail> {
     match name {
         "AdditionalProperties" => answer_as::<AdditionalProperties>(rt, ask),

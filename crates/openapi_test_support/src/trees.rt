@@ -4,11 +4,19 @@ use openapiv3::{Fault, Node, OrderedMap, ToNode, node_from_json_in_order};
 use std::test::Fail;
 
 /// The tree of a JSON text, whose members stand in the order of the text.
+///
+/// # Errors
+///
+/// `Fail` when memory runs out, or when the text is no JSON whose numbers are whole.
 pub fn tree(rt: &HostRuntime, text: &str) -> Result<Node, Fail> {
     Ok(node_from_json_in_order(rt.alloc(), text.as_bytes())?)
 }
 
 /// A map with one entry.
+///
+/// # Errors
+///
+/// `Fail` when memory runs out.
 pub fn map_with<V: Drop>(rt: &HostRuntime, name: &str, value: V) -> Result<OrderedMap<V>, Fail> {
     let name = name.to_string(rt.alloc())?;
     let mut map = OrderedMap::new(rt.alloc());
@@ -22,11 +30,19 @@ fn shown(rt: &HostRuntime, node: &Node) -> Result<String, Fail> {
 }
 
 /// The printed form of a fault.
+///
+/// # Errors
+///
+/// `Fail` when memory runs out.
 pub fn fault_text(rt: &HostRuntime, fault: &Fault) -> Result<String, Fail> {
     Ok(format!(in rt.alloc(); "{fault}")?)
 }
 
 /// The text of the fault that refuses to write a value, or `written`.
+///
+/// # Errors
+///
+/// `Fail` when memory runs out.
 pub fn write_refusal<T: ToNode>(rt: &HostRuntime, value: &T) -> Result<String, Fail> {
     match value.to_node(rt.alloc()) {
         Ok(_) => Ok(String::from_str(rt.alloc(), "written")?),
@@ -35,6 +51,10 @@ pub fn write_refusal<T: ToNode>(rt: &HostRuntime, value: &T) -> Result<String, F
 }
 
 /// Fails the test with a text, unless the two texts are the same.
+///
+/// # Errors
+///
+/// `Fail` when the texts differ, or when memory runs out.
 pub fn check_same(rt: &HostRuntime, found: &str, wanted: &str) -> Result<(), Fail> {
     if found != wanted {
         Err::<(), String>(format!(in rt.alloc(); "{found} in place of {wanted}")?)?;
@@ -43,12 +63,20 @@ pub fn check_same(rt: &HostRuntime, found: &str, wanted: &str) -> Result<(), Fai
 }
 
 /// That a tree is the one of a JSON text, member order included.
+///
+/// # Errors
+///
+/// `Fail` when the values differ, or when memory runs out.
 pub fn check_tree(rt: &HostRuntime, found: &Node, text: &str) -> Result<(), Fail> {
     let wanted = shown(rt, &tree(rt, text)?)?;
     check_same(rt, shown(rt, found)?.as_str(), wanted.as_str())
 }
 
 /// That what was written is the tree of a JSON text, member order included, or was refused with a text.
+///
+/// # Errors
+///
+/// `Fail` when what was written differs, or when memory runs out.
 pub fn check_written(
     rt: &HostRuntime,
     written: Result<Node, Fault>,

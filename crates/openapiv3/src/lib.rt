@@ -137,7 +137,8 @@ pub use openapi_values::{Word, is_false};
 
 // JSON text: to nodes and back, by name or in order, where its values stand, and typed objects from it in one call.
 pub use openapi_json::{
-    JsonFault, Point, Position, json_from_node, json_from_node_in_order, node_from_json,
-    node_from_json_in_order, position_of, positions_of, pretty_from_node_in_order,
+    JsonFault, Point, Position, ReplacedNumber, WithZeros, json_from_node, json_from_node_in_order,
+    node_from_json, node_from_json_in_order, node_with_zeros_in_order, position_of, positions_of,
+    pretty_from_node, pretty_from_node_in_order,
 };
 pub use read::{ReadError, from_json};

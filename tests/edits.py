@@ -37,7 +37,8 @@ of `rt version`. The verdicts hold for each release of the kit that has the same
 
 No body is seen by the proof of another function. So the verdict on a mutation in the body of one function rests on:
 - the mutation, and the text of the function with its attributes;
-- the function's own proofs, or those of its cycle, and all of the crate's specs;
+- the function's own proofs, or those of its cycle, and the crate's specs that all of this names, by way of other specs and of
+  lemmas too;
 - what the function can see of the crate's sources: the heads of functions that it names, with their contracts; the types,
   traits, constants and macros that are named in any of this; and what stands beside the functions in the traits and impls of
   these. An impl counts where all that its head has of the crate is named. If it is of a trait, the heads of its functions
@@ -298,7 +299,21 @@ class Sources:
             for path, name in paths.items():
                 if name in (every if path.startswith("pub") else said.get(file, ())) or name is None and file in said:
                     found.append((file, path))
-        return found + [it for it in self.seen.items() if it[0].startswith("specs/") or function.is_proved_in(it[0])]
+        proofs = [it for it in self.seen.items() if function.is_proved_in(it[0])]
+        return found + proofs + self.specs_of(text for _, text in (*found, *proofs))
+
+    def specs_of(self, texts):
+        """Returns the specs that these texts name, and those that these and the crate's lemmas name, each with its place."""
+        met, more = set(), {it for text in texts for it in self.named_by(text)}
+        while more:
+            met |= more
+            more = {it for file in more for it in self.named_by(self.files[file])} - met
+        return [(it, self.seen[it]) for it in sorted(met) if it.startswith("specs/")]
+
+    def named_by(self, text):
+        """Returns the files of specs and lemmas of the crate that a text names."""
+        found = re.findall(rf"\b(?:Rattle\.{self.crate}\.|crate::)(specs|proofs)(?:\.|::)(\w+)", text)
+        return {it for it in (f"{part}/{name}.antt" for part, name in found) if it in self.files}
 
     def hash_of(self, edit):
         function = function_of(edit, self)

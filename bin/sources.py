@@ -16,6 +16,7 @@ import os
 import shutil
 import subprocess
 import sys
+import tempfile
 import time
 
 TOP = os.path.dirname(os.path.dirname(os.path.realpath(__file__)))
@@ -81,10 +82,12 @@ def note(program, sum, began):
 
 
 def write_sum(program, sum, began):
-    with open(f"{program}.sum.new", "w") as it:
+    # (several may write it at the same moment)
+    file, name = tempfile.mkstemp(prefix=f"{os.path.basename(program)}.sum.", dir=os.path.dirname(program))
+    with open(file, "w") as it:
         it.write(f"{sum}\n{os.path.realpath(shutil.which('rt'))}\n")
-    os.utime(f"{program}.sum.new", ns=(began, began))
-    os.replace(f"{program}.sum.new", f"{program}.sum")
+    os.utime(name, ns=(began, began))
+    os.replace(name, f"{program}.sum")
 
 
 def is_current(program):

@@ -42,6 +42,16 @@ echo "- $(tail -n 1 crates.txt)" >> '{room}/spans'
 echo "7 passed, $failed failed"
 exit $failed
 """
+# Notes the hash of a program from eight threads.
+MANY_SUMS = """
+import concurrent.futures, sys
+sys.path.insert(0, "bin")
+import sources
+sum = open("{program}.sum").readline().strip()
+with concurrent.futures.ThreadPoolExecutor(8) as pool:
+    for it in [pool.submit(sources.write_sum, "{program}", sum, sources.now()) for _ in range(400)]:
+        it.result()
+"""
 BELOW = {"openapi_map", "openapi_node", "openapi_tables"}
 ABOVE = {"openapi", "openapi_cases", "openapi_vectors", "example_linter"}
 
@@ -105,6 +115,8 @@ def main():
         check("each crate is printed", all(f"\n{it} proved after" in f"\n{ran.stdout}" for it in crates))
         check("the program is there", os.access(f"{copy}/{program}", os.X_OK))
         answers("the proved build answers\na program, tag\n", "the proved program answers")
+        ran = run(sys.executable, "-c", MANY_SUMS.format(program=program))
+        check(f"many may note the hash of a program at the same moment: {ran.stdout[-300:]}", ran.returncode == 0)
 
         os.utime(f"{copy}/crates/openapi_node/src/lib.rt")
         answers("the proved build answers", "the proved program answers where a source is newer and the same")

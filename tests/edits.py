@@ -557,11 +557,15 @@ class Copy:
                 found[edit] = told[0], told[1][0].partition("\n")[0][:160]
         return found
 
-    def judged(self, edit, told):
+    def proves(self, edits):
+        """Returns whether the crate with these edits is proved."""
+        return (self.said(edits) or (1, ""))[0] == 0
+
+    def judged(self, edit, told, is_twin_proved):
         """Returns what came of a mutation of which a check said this: its reason where it needs no twin, or its twin is proved."""
         twin, (reason, line) = edit.twin(), told or (None, "")
         if reason and twin:
-            is_proved = (self.said([twin]) or (1, ""))[0] == 0
+            is_proved = is_twin_proved or self.proves([twin])
             return (f"twin {reason}", line) if is_proved else (None, "its twin is refused too")
         return ("shape" if reason and edit.adds_shape() else reason), line
 
@@ -617,19 +621,22 @@ class Trial:
 
     def try_group(self, group):
         """Tries the mutations of a group together, those that are not refused so by themselves, and from nothing what is not
-        refused even so, or where the crate itself is not proved over what is kept any more."""
+        refused even so, or where the crate itself is not proved over what is kept any more. The twins of those that are refused are
+        tried together too, and by themselves if that fails."""
         copy, came = Copy(self.crate, self.sources.files, True), {}
         told = copy.tried(group) if len(group) > 1 else {}
         for function, edit in group:
             how = f"with {len(group) - 1} others" if edit in told else "by itself"
             came[edit] = told.get(edit) or copy.tried([(function, edit)]).get(edit), how
-        is_sound = copy.said([])[0] == 0
+        twins = [edit.twin() for _, edit in group if came[edit][0] and edit.twin()]
+        are_proved = copy.proves(twins)
+        is_sound = are_proved or copy.proves([])
         for function, edit in group:
             said, how = came[edit]
             if not said or not is_sound:
                 whole = Copy(self.crate, self.sources.files, False)
                 said, how = whole.tried([(function, edit)]).get(edit), "from nothing"
-            self.keep(edit, *copy.judged(edit, said), how)
+            self.keep(edit, *copy.judged(edit, said, are_proved and bool(came[edit][0])), how)
 
 
 def try_all(trials, jobs):

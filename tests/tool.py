@@ -330,6 +330,30 @@ FINDINGS = [
         ],
     ),
     (
+        "reference tokens",
+        document(
+            '"components": { "schemas": {',
+            '"c~2d": {}, "c2d": {}, "A": { "oneOf": [{}] },',
+            '"1": { "$ref": "#/components/schemas/c~02d" }, "2": { "$ref": "#/components%2Fschemas/A/oneOf/0" },',
+            '"3": { "$ref": "#/components/schemas/c~2d" }, "4": { "$ref": "#/components/schemas/A/oneOf/+0" },',
+            '"5": { "$ref": "#/components/schemas/A/oneOf/18446744073709551616" }, "6": { "$ref": "#/" },',
+            '"7": { "$ref": "#/components/schemas/A~" }, "8": { "$ref": "#/components/schemas/A/" }',
+            "} }",
+        ).replace("{,\n", "{\n").replace(",,\n", ",\n").replace(",\n  }", "\n  }"),
+        [
+            ("warning", "unresolved-reference", f"the reference `{text}` leads to no value", line, column,
+             f"/components/schemas/{name}/$ref", None)
+            for name, line, column, text in (
+                ("3", 8, 18, "#/components/schemas/c~2d"),
+                ("4", 8, 64, "#/components/schemas/A/oneOf/+0"),
+                ("5", 9, 18, "#/components/schemas/A/oneOf/18446744073709551616"),
+                ("6", 9, 88, "#/"),
+                ("7", 10, 18, "#/components/schemas/A~"),
+                ("8", 10, 62, "#/components/schemas/A/"),
+            )
+        ],
+    ),
+    (
         "names that come again",
         '{\n"openapi": "3.0.3", "info": { "title": "a", "version": "1",\n"title": "b" },\n'
         '"paths": {}, "x-a": [{ "n": { "k": 1 } , "n": { "k": 2, "k": 3,\n"\\u006b": 4 } }],\n"paths": {}\n}\n',

@@ -1,12 +1,13 @@
 -- What a loop appends to a list of reports.
-use Rattle.std.proofs.Common.{◌≡◌, ℕ, Bool, true, false, List, [], ◌∷◌, ◌++◌, Option, length, map, arith, refl, sym, ap, ◌∙◌, append_assoc}
+use Rattle.std.proofs.Common.{◌≡◌, ℕ, Bool, true, false, cond, List, [], ◌∷◌, ◌++◌, Option, map, string_bytes, refl, sym, ap, ◌∙◌, append_assoc}
 use Rattle.std.proofs.lemmas.List.{append-nil, map-append}
 use Rattle.openapi_node.specs.Fault.{place_of}
 use Rattle.openapi_node.specs.Place.{Place}
+use Rattle.openapi_node.specs.Tree.{Tree}
 use Rattle.openapi_node.specs.declared.fault.Fault.{Fault}
 use Rattle.openapi_tables.specs.Faults.{Cause}
 use Rattle.openapi_tables.specs.Kind.{Kind}
-use Rattle.openapi_tables.specs.Lists.{each}
+use Rattle.openapi_tables.specs.Lists.{each, flat, join}
 use Rattle.openapi_faults.specs.Adds.{Adds}
 use Rattle.openapi_faults.specs.Dropped.{dropped_of}
 use Rattle.openapi_faults.specs.References.{reference_of}
@@ -14,9 +15,11 @@ use Rattle.openapi_faults.specs.Told.{cause_in, fault_in, known}
 use Rattle.openapi_faults.specs.declared.dropped.DropReason.{DropReason}
 use Rattle.openapi_faults.specs.declared.dropped.Dropped.{Dropped}
 use Rattle.openapi_faults.specs.declared.reference.Reference.{Reference}
+use Rattle.openapi_faults.proofs.Adding.{flat-push, join_append}
 use Rattle.openapi_findings.specs.declared.report.Report.{Report}
 use Rattle.openapi_findings.specs.Numbers.{places_of}
-use Rattle.openapi_findings.specs.Stated.{Statement, picked, place_in_report, statement_of, unresolved_at, cause_code, dropped_stated, fault_stated}
+use Rattle.openapi_findings.specs.Pointers.{leads_to_value}
+use Rattle.openapi_findings.specs.Stated.{Statement, cause_code, dropped_stated, fault_stated, place_in_report, reference_stated, statement_of, unresolved_at}
 
 module _ {X Y : Type 0} (f : X → Y) where
   pub adds_none : (xs : List X) → Adds f xs xs []
@@ -87,43 +90,38 @@ pub losses_state : (ds : List Dropped) (es : List (Place × DropReason)) → map
     → map loss_of ds ≡ map dropped_stated es
 losses_state ds es e = losses_in ds ∙ ap (map dropped_stated) e
 
--- what a reference states that leads to no value
-abbrev pub unresolved_of : Reference → Statement
-unresolved_of r = unresolved_at (reference_of r)
+-- what is to be reported of a reference
+abbrev pub stated_at : Tree → Reference → List Statement
+stated_at t r = reference_stated t (reference_of r)
 
--- one more element is picked, or is not
-pub picked-more : {X : Type 0} → (bs : List Bool) (xs : List X) (x : X) → length bs ≡ length xs
-    → picked (bs ++ true ∷ []) (xs ++ x ∷ []) ≡ picked bs xs ++ x ∷ []
-picked-more [] [] x e = refl
-picked-more [] (y ∷ xs) x e = absurd (omega (arith, e))
-picked-more (b ∷ bs) [] x e = absurd (omega (arith, e))
-picked-more (true ∷ bs) (y ∷ xs) x e = ap (λ l. y ∷ l) (picked-more bs xs x (omega (arith, e)))
-picked-more (false ∷ bs) (y ∷ xs) x e = picked-more bs xs x (omega (arith, e))
+-- with what is to be reported of one more reference
+pub adds_stated : (t : Tree) (old mid new : List Report) (done : List Reference) (r : Reference)
+    → Adds statement_of old mid (flat (each (stated_at t) done)) → Adds statement_of mid new (stated_at t r)
+    → Adds statement_of old new (flat (each (stated_at t) (done ++ r ∷ [])))
+adds_stated t old mid new done r h k =
+    adds_then statement_of old mid new (flat (each (stated_at t) done)) (stated_at t r) h k
+    ∙ ap (λ l. map statement_of old ++ l)
+    (sym (flat-push (stated_at t) done r ∙ join_append (flat (each (stated_at t) done)) (stated_at t r)))
 
-pub picked-same : {X : Type 0} → (bs : List Bool) (xs : List X) (x : X) → length bs ≡ length xs
-    → picked (bs ++ false ∷ []) (xs ++ x ∷ []) ≡ picked bs xs
-picked-same [] [] x e = refl
-picked-same [] (y ∷ xs) x e = absurd (omega (arith, e))
-picked-same (b ∷ bs) [] x e = absurd (omega (arith, e))
-picked-same (true ∷ bs) (y ∷ xs) x e = ap (λ l. y ∷ l) (picked-same bs xs x (omega (arith, e)))
-picked-same (false ∷ bs) (y ∷ xs) x e = picked-same bs xs x (omega (arith, e))
+-- nothing of one that leads to a value
+pub adds_resolved : (t : Tree) (r : Reference) (l : List Report) (b : Bool) → b ≡ leads_to_value (string_bytes r.text) t → b ≡ true
+    → Adds statement_of l l (stated_at t r)
+adds_resolved t r l b is e =
+    adds_none statement_of l ∙ ap (λ c. map statement_of l ++ cond c [] (unresolved_at (reference_of r) ∷ [])) (sym e ∙ is)
 
--- what references state, with one more
-pub adds_picked : (old mid new : List Report) (bs : List Bool) (rs : List Reference) (r : Reference) (x : Report) → length bs ≡ length rs
-    → Adds statement_of old mid (map unresolved_of (picked bs rs)) → new ≡ mid ++ x ∷ [] → statement_of x ≡ unresolved_of r
-    → Adds statement_of old new (map unresolved_of (picked (bs ++ true ∷ []) (rs ++ r ∷ [])))
-adds_picked old mid new bs rs r x e h n s =
-    adds_next statement_of unresolved_of old mid new (picked bs rs) r x h n s
-    ∙ ap (λ l. map statement_of old ++ map unresolved_of l) (sym (picked-more bs rs r e))
+-- and of another that it leads to none
+pub adds_unresolved : (t : Tree) (r : Reference) (old new : List Report) (x : Report) (b : Bool)
+    → b ≡ leads_to_value (string_bytes r.text) t → b ≡ false → new ≡ old ++ x ∷ [] → statement_of x ≡ unresolved_at (reference_of r)
+    → Adds statement_of old new (stated_at t r)
+adds_unresolved t r old new x b is e n s =
+    adds_one statement_of old new x (unresolved_at (reference_of r)) n s
+    ∙ ap (λ c. map statement_of old ++ cond c [] (unresolved_at (reference_of r) ∷ [])) (sym e ∙ is)
 
-picked-each : (bs : List Bool) (rs : List Reference)
-    → map unresolved_of (picked bs rs) ≡ map unresolved_at (picked bs (map reference_of rs))
-picked-each [] rs = refl
-picked-each (b ∷ bs) [] = refl
-picked-each (true ∷ bs) (r ∷ rs) = ap (λ l. unresolved_of r ∷ l) (picked-each bs rs)
-picked-each (false ∷ bs) (r ∷ rs) = picked-each bs rs
+stated_each : (t : Tree) (rs : List Reference) → flat (each (stated_at t) rs) ≡ flat (each (reference_stated t) (map reference_of rs))
+stated_each t [] = refl
+stated_each t (r ∷ rs) = ap (join (stated_at t r)) (stated_each t rs)
 
--- references state what the definitions say of those that are picked
-pub unresolved_state : (bs : List Bool) (rs : List Reference) (ks : List (Place × List ℕ × Kind)) → map reference_of rs ≡ ks
-    → map unresolved_of (picked bs rs) ≡ map unresolved_at (picked bs ks)
-unresolved_state bs rs ks e = picked-each bs rs ∙ ap (λ l. map unresolved_at (picked bs l)) e
+-- references state what the definitions say
+pub references_state : (t : Tree) (rs : List Reference) (ks : List (Place × List ℕ × Kind)) → map reference_of rs ≡ ks
+    → flat (each (stated_at t) rs) ≡ flat (each (reference_stated t) ks)
+references_state t rs ks e = stated_each t rs ∙ ap (λ l. flat (each (reference_stated t) l)) e

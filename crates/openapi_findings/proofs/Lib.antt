@@ -1,4 +1,6 @@
 pub mod Adding
+pub mod Leading
+pub mod Repeating
 pub mod Looking
 pub mod Placing
 pub mod Writing

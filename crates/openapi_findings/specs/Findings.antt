@@ -1,6 +1,7 @@
 -- The findings of a text: what is to be reported of it, each at its position, in the order of the text.
 use Rattle.std.specs.Prelude.{◌≡◌, ◌⊎◌, ℕ, Bool, cond, List, [], ◌∷◌, ◌++◌, All, Option, Some, None, IfSome, map, option_map}
 use Rattle.std.specs.List.Sorted.{IsNonDecreasingBy, IsPermutation}
+use Rattle.json.specs.Json.{Json}
 use Rattle.openapi_json.specs.Positions.{IsPositionAt}
 use Rattle.openapi_json.specs.Reading.{Explains}
 use Rattle.openapi_json.specs.Zeros.{IsTreeWithZeros, NumberAt}
@@ -10,7 +11,8 @@ use Rattle.openapi_node.specs.Fault.{step_of}
 use Rattle.openapi_node.specs.Place.{Place}
 use Rattle.openapi_node.specs.Tree.{Tree}
 use Rattle.openapi_findings.specs.Numbers.{numbers_stated}
-use Rattle.openapi_findings.specs.Stated.{Statement, errors_in, is_about_member, losses_in, repeated_at, unresolved_in}
+use Rattle.openapi_findings.specs.Repeated.{repeated_in}
+use Rattle.openapi_findings.specs.Stated.{Statement, errors_in, is_about_member, losses_in, unresolved_in}
 use Rattle.openapi_findings.specs.declared.code.Code.{Code}
 use Rattle.openapi_findings.specs.declared.code.Code.TheVariants as code
 use Rattle.openapi_findings.specs.declared.finding.Finding.{Finding}
@@ -48,20 +50,16 @@ offset_of f = offset_in (point_of f)
 abbrev pub IsPlaced : List ℕ → Finding → Type 0
 IsPlaced bytes f = IfSome (place_in f) (λ p. IsPositionAt bytes p f.position)
 
--- what is to be reported of a document with these numbers that no tree holds, beside the references that lead to no value and the
--- names that come again
-abbrev pub stated_in : Tree → List NumberAt → List Statement
-stated_in t ns = errors_in t ++ numbers_stated t ns ++ losses_in t
+-- what is to be reported of a document: of its tree with these numbers that no tree holds, and of its value as it is written
+abbrev pub stated_in : Tree → List NumberAt → Json → List Statement
+stated_in t ns j = errors_in t ++ numbers_stated t ns ++ losses_in t ++ unresolved_in t ++ repeated_in [] j
 
--- the findings of a document: they state what is to be reported of it, which of its references lead to
--- no value, and which names come again
+-- the findings of a document: they state what is to be reported of it
 pub record AreOfDocument (bytes : List ℕ) (fs : List Finding) : Type 0 where
   pub tree : Tree
   pub numbers : List NumberAt
   pub reads : IsTreeWithZeros bytes tree numbers
-  pub unresolved : List Bool
-  pub repeated : List Place
-  pub all : IsPermutation (map found (stated_in tree numbers ++ unresolved_in unresolved tree ++ map repeated_at repeated)) (map finds fs)
+  pub all : IsPermutation (map found (stated_in tree numbers reads.value)) (map finds fs)
 
 -- the one finding of a text that is no JSON
 pub record AreOfNoJson (bytes : List ℕ) (fs : List Finding) : Type 0 where

@@ -1,4 +1,6 @@
+pub mod Pointers
 pub mod Stated
+pub mod Repeated
 pub mod Numbers
 pub mod Findings
 pub mod Escaped

@@ -7,13 +7,14 @@ use Rattle.openapi_node.specs.declared.fault.Cause as declared
 use Rattle.openapi_node.specs.declared.fault.Cause.TheVariants as refused
 use Rattle.openapi_tables.specs.Faults.{Cause, missing, missing_either, wrong_kind, not_allowed, unknown_variant}
 use Rattle.openapi_tables.specs.Kind.{Kind, begins, by, open_api}
-use Rattle.openapi_tables.specs.Lists.{each}
+use Rattle.openapi_tables.specs.Lists.{each, flat}
 use Rattle.openapi_tables.specs.Tables.{final_tables}
 use Rattle.openapi_faults.specs.Dropped.{dropped_in}
 use Rattle.openapi_faults.specs.References.{references_in}
 use Rattle.openapi_faults.specs.Told.{cause_in, told}
 use Rattle.openapi_faults.specs.declared.dropped.DropReason.{DropReason}
 use Rattle.openapi_faults.specs.declared.dropped.DropReason.TheVariants as reason
+use Rattle.openapi_findings.specs.Pointers.{leads_to_value}
 use Rattle.openapi_findings.specs.declared.code.Code.{Code}
 use Rattle.openapi_findings.specs.declared.code.Code.TheVariants as code
 use Rattle.openapi_findings.specs.declared.code.Severity.{Severity}
@@ -134,19 +135,17 @@ losses_in t = map dropped_stated (dropped_in (by open_api) t)
 
 -- ---- references
 
--- the elements of a list that flags pick
-abbrev pub picked : {X : Type 0} → List Bool → List X → List X
-picked [] xs = []
-picked (b ∷ bs) [] = []
-picked (b ∷ bs) (x ∷ xs) = cond b (x ∷ picked bs xs) (picked bs xs)
-
 -- that a reference leads to no value, at its text
 abbrev pub unresolved_at : Place × List ℕ × Kind → Statement
 unresolved_at r = (r.0 ++ named (codes "$ref") ∷ [], code.UnresolvedReference)
 
--- that those references of a document which flags pick lead to no value
-abbrev pub unresolved_in : List Bool → Tree → List Statement
-unresolved_in bs t = map unresolved_at (picked bs (references_in (by open_api) t))
+-- what is to be reported of a reference in a document: nothing if it leads to a value
+abbrev pub reference_stated : Tree → Place × List ℕ × Kind → List Statement
+reference_stated t r = cond (leads_to_value r.1 t) [] (unresolved_at r ∷ [])
+
+-- the references of a document that lead to no value
+abbrev pub unresolved_in : Tree → List Statement
+unresolved_in t = flat (each (reference_stated t) (references_in (by open_api) t))
 
 -- ---- names that come again
 

@@ -1,15 +1,16 @@
 //! All findings of a text.
-ghost use Rattle.std.specs.Prelude.{◌≡◌, ◌++◌, All, Bool, List, IfOk, map};
+ghost use Rattle.std.specs.Prelude.{◌≡◌, All, IfOk, Some, map};
 ghost use Rattle.std.specs.List.{AllZip};
 ghost use Rattle.std.specs.List.Sorted.{IsNonDecreasingBy, IsPermutation};
+ghost use Rattle.json.specs.Json.{Json};
+ghost use Rattle.openapi_json.specs.Ordered.{parsed};
 ghost use Rattle.openapi_json.specs.Positions.{IsPositionAt};
 ghost use Rattle.openapi_json.specs.Reading.{Explains};
 ghost use Rattle.openapi_json.specs.Zeros.{IsTreeWithZeros, replaced_of};
 ghost use Rattle.openapi_json.specs.declared.fault.JsonFault.TheVariants as unread;
-ghost use Rattle.openapi_node.specs.Place.{Place};
 ghost use Rattle.openapi_findings.specs.Findings.{AreFindings, IsPlaced, finds, found, stated_in};
 ghost use Rattle.openapi_findings.specs.Findings as spec;
-ghost use Rattle.openapi_findings.specs.Stated.{place_in_report, repeated_at, statement_of, unresolved_in};
+ghost use Rattle.openapi_findings.specs.Stated.{place_in_report, statement_of};
 
 use crate::dropped_reports::report_dropped;
 use crate::fault_reports::report_faults;
@@ -79,9 +80,8 @@ fn reports_of(
     read: &WithZeros,
     steps: &mut Steps,
 ) -> Result<Vec<Report>, AllocError>
-    ensures { IfOk result (λ v. (bs : List Bool) × (ps : List Place)
-        × (map statement_of v.items ≡ stated_in read.now.node (map replaced_of read.now.numbers.items)
-        ++ unresolved_in bs read.now.node ++ map repeated_at ps)) }
+    ensures { IfOk result (λ v. (j : Json) → parsed bytes.now ≡ Some j
+        → map statement_of v.items ≡ stated_in read.now.node (map replaced_of read.now.numbers.items) j) }
 {
     let document = &read.node;
     let numbers = read.numbers.as_slice();

@@ -1,4 +1,8 @@
 //! References within a document: JSON Pointers (RFC 6901) as fragments of a URI.
+ghost use Rattle.std.specs.Prelude.{◌≡◌, ◌<◌, ◌≤◌, encode_utf8, false, true, IfOk, IfSome, IsNone, MatchOption, None, Some, length, option_map, string_bytes};
+ghost use Rattle.std.specs.Option.{option_copied};
+ghost use Rattle.openapi_findings.specs.Pointers as spec;
+
 use openapi_node::{Node, Steps, View, find_member};
 use percent_encoding::{DecodeError, percent_decode};
 use std::alloc::{AllocError, Global};
@@ -14,66 +18,124 @@ pub(crate) fn leads_to_value(
     document: &Node,
     reference: &str,
     steps: &mut Steps,
-) -> Result<bool, AllocError> {
-    let Some(pointer) = reference.strip_prefix("#/") else {
+) -> Result<bool, AllocError>
+    ensures { IfOk result (λ b. b ≡ spec.leads_to_value reference.now document.now) }
+{
+    let Some(fragment) = reference.as_bytes().strip_prefix(b"#/") else {
         return Ok(true);
     };
-    let decoded = match percent_decode(pointer.as_bytes()).decode_utf8(alloc) {
-        Ok(decoded) => decoded,
-        Err(DecodeError::OutOfMemory) => return Err(AllocError),
-        Err(DecodeError::Utf8(_)) => return Ok(false),
-    };
-    leads_from(alloc, document, decoded.as_str(), steps)
+    fragment_leads(alloc, document, fragment, steps)
 }
 
-/// Returns whether reference tokens, with a `/` between two of them, lead from a value to another one.
-fn leads_from(
+/// Returns whether the fragment of a URI leads to a value, behind its `#/`.
+fn fragment_leads(
     alloc: Global,
-    node: &Node,
-    tokens: &str,
+    document: &Node,
+    fragment: &[u8],
     steps: &mut Steps,
-) -> Result<bool, AllocError> {
-    let mut at = node;
-    for token in tokens.split('/') {
-        let name = unescaped(alloc, token)?;
-        match below(at, name.as_str(), steps) {
-            Some(node) => at = node,
-            None => return Ok(false),
-        }
+) -> Result<bool, AllocError>
+    ensures { IfOk result (λ b. b ≡ spec.fragment_leads fragment.now document.now) }
+{
+    match percent_decode(fragment).decode_utf8(alloc) {
+        Ok(pointer) => pointer_leads(alloc, document, pointer.as_str(), steps),
+        Err(DecodeError::OutOfMemory) => Err(AllocError),
+        Err(DecodeError::Utf8(_)) => Ok(false),
     }
-    Ok(true)
 }
 
-/// Returns the value to which a reference token leads.
-fn below<'a>(node: &'a Node, token: &str, steps: &mut Steps) -> Option<&'a Node> {
+/// Returns whether a pointer leads to a value, behind its first `/`.
+fn pointer_leads(
+    alloc: Global,
+    document: &Node,
+    pointer: &str,
+    steps: &mut Steps,
+) -> Result<bool, AllocError>
+    ensures { IfOk result (λ b. b ≡ spec.pointer_leads pointer.now document.now) }
+{
+    let mut at = document;
+    let mut left = pointer;
+    while let Some((token, rest)) = left.split_once('/') {
+        let Some(value) = value_below(alloc, at, token, steps)? else {
+            return Ok(false);
+        };
+        at = value;
+        left = rest;
+    }
+    Ok(value_below(alloc, at, left, steps)?.is_some())
+}
+
+/// Returns the value to which a reference token leads from another.
+fn value_below<'a>(
+    alloc: Global,
+    node: &'a Node,
+    token: &str,
+    steps: &mut Steps,
+) -> Result<Option<&'a Node>, AllocError>
+    ensures { IfOk result (λ o. option_copied o ≡ spec.value_below token.now node.now) }
+{
     match node.open(steps) {
-        View::Object(members) => find_member(members, token),
-        View::List(items) => items.get(index_of(token)?),
-        _ => None,
+        View::Object(members) => match name_of(alloc, token)? {
+            Some(name) => Ok(find_member(members, name.as_str())),
+            None => Ok(None),
+        },
+        View::List(items) => match index_of(token, items.len()) {
+            Some(index) => Ok(Some(&items[index])),
+            None => Ok(None),
+        },
+        _ => Ok(None),
     }
 }
 
-/// Returns the index that a reference token writes: digits, of which the first is no 0 unless it is the only one.
-fn index_of(token: &str) -> Option<usize> {
-    match token.as_bytes() {
-        [b'0'] => Some(0),
-        [b'1'..=b'9', ..] => token.parse::<usize>().ok(),
-        _ => None,
+/// Returns the index that a reference token writes, digits without a leading zero, if a list of so many items has it.
+fn index_of(token: &str, count: usize) -> Option<usize>
+    ensures some { IfSome result (λ i. (spec.index_in token.now ≡ Some i) × (i < count)) }
+    ensures none { IsNone result → IfSome (spec.index_in token.now) (λ i. count ≤ i) }
+{
+    if has_leading_zero(token.as_bytes()) || token.starts_with('+') {
+        return None;
     }
+    let Ok(index) = token.parse::<usize>() else {
+        return None;
+    };
+    if index < count { Some(index) } else { None }
 }
 
-/// Returns the name that a reference token writes: `~1` is `/`, and `~0` is `~`.
-fn unescaped(alloc: Global, token: &str) -> Result<String, AllocError> {
-    let mut name = String::with_capacity(alloc, token.len())?;
-    let mut is_escape = false;
-    for c in token.chars() {
-        match c {
-            '1' if is_escape => name.push('/')?,
-            '0' if is_escape => name.push('~')?,
-            '~' => {}
-            _ => name.push(c)?,
-        }
-        is_escape = c == '~';
+/// Returns whether a token begins with a 0 and goes on.
+fn has_leading_zero(token: &[u8]) -> bool
+    ensures { result ≡ spec.has_leading_zero token.now }
+{
+    token.len() > 1 && token[0] == b'0'
+}
+
+/// Returns the name that a reference token writes: `~1` is `/` and `~0` is `~`. A token with another `~` writes none.
+fn name_of(alloc: Global, token: &str) -> Result<Option<String>, AllocError>
+    ensures { IfOk result (λ o. option_map string_bytes o ≡ spec.name_in token.now) }
+{
+    let mut name = String::new(alloc);
+    let mut left = token;
+    while let Some((before, after)) = left.split_once('~') {
+        name.push_str(before)?;
+        let Some((c, rest)) = escaped(after) else {
+            return Ok(None);
+        };
+        name.push(c)?;
+        left = rest;
     }
-    Ok(name)
+    name.push_str(left)?;
+    Ok(Some(name))
+}
+
+/// Returns the character that a reference token writes by `~` and the text behind it, and what follows.
+fn escaped(text: &str) -> Option<(char, &str)>
+    ensures shorter { IfSome result (λ x. length x.1.now < length text.now) }
+    ensures character { MatchOption result (spec.name_after true text.now ≡ None)
+        (λ x. spec.name_after true text.now ≡ spec.before_name (encode_utf8 x.0) (spec.name_after false x.1.now)) }
+{
+    if let Some(rest) = text.strip_prefix('0') {
+        return Some(('~', rest));
+    }
+    match text.strip_prefix('1') {
+        Some(rest) => Some(('/', rest)),
+        None => None,
+    }
 }

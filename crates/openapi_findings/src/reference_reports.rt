@@ -1,5 +1,5 @@
 //! Reports of the references that lead to no value.
-ghost use Rattle.std.specs.Prelude.{◌≡◌, Bool, List, IfOk, OnOk};
+ghost use Rattle.std.specs.Prelude.{◌≡◌, IfOk, OnOk};
 ghost use Rattle.openapi_faults.specs.Adds.{Adds};
 ghost use Rattle.openapi_faults.specs.References.{reference_of};
 ghost use Rattle.openapi_findings.specs.Stated.{statement_of, unresolved_at, unresolved_in};
@@ -19,8 +19,7 @@ pub(crate) fn report_references(
     reports: &mut Vec<Report>,
     steps: &mut Steps,
 ) -> Result<(), AllocError>
-    ensures { OnOk result ((bs : List Bool)
-        × Adds statement_of reports.old.items reports.new.items (unresolved_in bs document.now)) }
+    ensures { OnOk result (Adds statement_of reports.old.items reports.new.items (unresolved_in document.now)) }
 {
     for reference in references(alloc, DOCUMENT, document, steps)? {
         if !leads_to_value(alloc, document, reference.text.as_str(), steps)? {

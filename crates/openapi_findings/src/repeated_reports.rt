@@ -1,199 +1,193 @@
 //! Reports of the names that come again in one object.
-ghost use Rattle.std.specs.Prelude.{◌≡◌, List, IfOk, OnOk, map};
+ghost use Rattle.std.specs.Prelude.{◌≡◌, ◌∷◌, ◌++◌, [], IfOk, OnOk, Some, map};
+ghost use Rattle.json.specs.Json.{Json};
+ghost use Rattle.json.specs.Value.{items_view, members_view, value_view};
+ghost use Rattle.openapi_json.specs.Ordered.{parsed};
 ghost use Rattle.openapi_node.specs.Fault.{step_of};
-ghost use Rattle.openapi_node.specs.Place.{Place};
+ghost use Rattle.openapi_node.specs.Place.{named};
 ghost use Rattle.openapi_faults.specs.Adds.{Adds};
+ghost use Rattle.openapi_findings.specs.Repeated.{of_all, repeated_if, repeated_in, repeated_in_items, repeated_in_members, stated_of_entry};
 ghost use Rattle.openapi_findings.specs.Stated.{repeated_at, statement_of};
 
 use crate::code::Code;
 use crate::report::Report;
 use json::{Error, Scratch, Value};
 use openapi_json::copied_place;
+use openapi_map::OrderedMap;
 use openapi_node::PlaceStep;
 use std::alloc::{AllocError, Global};
-use std::collections::BTreeMap;
 
-/// Where the last member of a name is among the members of an object, and whether an earlier one has that name.
-#[derive(Clone, Copy)]
-struct Uses {
-    last: usize,
-    is_repeated: bool,
-}
-
-/// Appends a report for each member of a text whose name comes earlier in its object too.
+/// Appends a report for each member of a text whose name comes earlier in its object too. Of the members of one name the last has the
+/// value that counts. The text is one that was read before, so what is missing to read it again is memory.
 pub(crate) fn report_repeated(
     alloc: Global,
     bytes: &[u8],
     reports: &mut Vec<Report>,
 ) -> Result<(), AllocError>
-    ensures { OnOk result ((ps : List Place)
-        × Adds statement_of reports.old.items reports.new.items (map repeated_at ps)) }
+    ensures { OnOk result ((j : Json) → parsed bytes.now ≡ Some j
+        → Adds statement_of reports.old.items reports.new.items (repeated_in [] j)) }
 {
     let Ok(text) = simdutf8::compat::from_utf8(bytes) else {
-        return Ok(());
+        return Err(AllocError);
     };
-    if has_distinct_names(alloc, text)? {
-        return Ok(());
-    }
-    report_in_text(alloc, text, reports)
-}
-
-/// Returns whether no object of a text has two members of one name.
-fn has_distinct_names(alloc: Global, text: &str) -> Result<bool, AllocError> {
     let mut scratch = Scratch::new(alloc);
     match Value::parse_strict(alloc, text, &mut scratch) {
-        Ok(_) => Ok(true),
-        Err(Error::OutOfMemory) => Err(AllocError),
-        Err(_) => Ok(false),
+        Ok(_) => Ok(()),
+        Err(Error::DuplicateKey) => report_in_text(alloc, text, reports),
+        Err(_) => Err(AllocError),
     }
 }
 
 /// Appends a report for each name that comes again in a text.
 fn report_in_text(alloc: Global, text: &str, reports: &mut Vec<Report>) -> Result<(), AllocError>
-    ensures { OnOk result ((ps : List Place)
-        × Adds statement_of reports.old.items reports.new.items (map repeated_at ps)) }
+    ensures { OnOk result ((j : Json) → parsed text.now ≡ Some j
+        → Adds statement_of reports.old.items reports.new.items (repeated_in [] j)) }
 {
     let mut scratch = Scratch::new(alloc);
-    let value = match Value::parse(alloc, text, &mut scratch) {
-        Ok(value) => value,
-        Err(Error::OutOfMemory) => return Err(AllocError),
-        Err(_) => return Ok(()),
+    let Ok(value) = Value::parse(alloc, text, &mut scratch) else {
+        return Err(AllocError);
     };
     let mut place = Vec::new(alloc);
-    report_in(alloc, &value, &mut place, reports)
+    let mut repeated = reports_in(alloc, &value, &mut place)?;
+    reports.append(&mut repeated)?;
+    Ok(())
 }
 
-/// Appends a report for each name that comes again in the value at a location.
+/// Returns a report for each name that comes again in the value at a location.
 #[cycle(repeated)]
-fn report_in(
+fn reports_in(
     alloc: Global,
     value: &Value<'_>,
     place: &mut Vec<PlaceStep>,
-    reports: &mut Vec<Report>,
-) -> Result<(), AllocError>
-    ensures { OnOk result ((ps : List Place)
-        × Adds statement_of reports.old.items reports.new.items (map repeated_at ps)) }
+) -> Result<Vec<Report>, AllocError>
+    ensures place { OnOk result (place.new.items ≡ place.old.items) }
+    ensures reports { IfOk result (λ v. map statement_of v.items ≡ repeated_in (map step_of place.old.items) (value_view value.now)) }
 {
     match value {
-        Value::Array(values) => report_in_items(alloc, values, place, reports),
-        Value::Object(members) => report_in_members(alloc, members, place, reports),
-        _ => Ok(()),
+        Value::Array(values) => reports_in_items(alloc, values, place),
+        Value::Object(members) => reports_in_members(alloc, members, place),
+        _ => Ok(Vec::new(alloc)),
     }
 }
 
-/// Appends a report for each name that comes again in the items of an array.
+/// Returns a report for each name that comes again in the items of the array at a location.
 #[cycle(repeated)]
-fn report_in_items(
+fn reports_in_items(
     alloc: Global,
     values: &Vec<Value<'_>>,
     place: &mut Vec<PlaceStep>,
-    reports: &mut Vec<Report>,
-) -> Result<(), AllocError>
-    ensures { OnOk result ((ps : List Place)
-        × Adds statement_of reports.old.items reports.new.items (map repeated_at ps)) }
+) -> Result<Vec<Report>, AllocError>
+    ensures place { OnOk result (place.new.items ≡ place.old.items) }
+    ensures reports { IfOk result (λ v.
+        map statement_of v.items ≡ repeated_in_items (map step_of place.old.items) 0 (items_view values.now.items)) }
 {
+    let mut reports = Vec::new(alloc);
     for index in 0..values.len() {
-        place.push(PlaceStep::Index(index))?;
-        report_in(alloc, &values[index], place, reports)?;
-        place.pop();
+        let value = &values[index];
+        let mut more = reports_below(alloc, PlaceStep::Index(index), value, place)?;
+        reports.append(&mut more)?;
     }
-    Ok(())
+    Ok(reports)
 }
 
-/// Appends a report for each name that comes again in an object. Of the members of one name the last has the value that counts.
+/// Returns a report for each name that comes again in the object at a location. Of one name the last member counts.
 #[cycle(repeated)]
-fn report_in_members(
+fn reports_in_members(
     alloc: Global,
     members: &Vec<(&str, Value<'_>)>,
     place: &mut Vec<PlaceStep>,
-    reports: &mut Vec<Report>,
-) -> Result<(), AllocError>
-    ensures { OnOk result ((ps : List Place)
-        × Adds statement_of reports.old.items reports.new.items (map repeated_at ps)) }
+) -> Result<Vec<Report>, AllocError>
+    ensures place { OnOk result (place.new.items ≡ place.old.items) }
+    ensures reports { IfOk result (λ v.
+        map statement_of v.items ≡ of_all (repeated_in_members (map step_of place.old.items) (members_view members.now.items) [])) }
 {
-    let all = uses_of(alloc, members)?;
-    for i in 0..members.len() {
-        let (name, value) = &members[i];
-        if let Some(uses) = all.get(*name) {
-            if uses.last == i {
-                report_in_member(alloc, name, uses.is_repeated, value, place, reports)?;
-            }
-        }
+    let mut found = OrderedMap::with_capacity(alloc, members.len())?;
+    for member in members {
+        let is_repeated = found.contains_key(member.0);
+        let reports = reports_in_member(alloc, member.0, is_repeated, &member.1, place)?;
+        let name = String::from_str(alloc, member.0)?;
+        drop(found.insert(name, reports)?);
     }
-    Ok(())
+    all_reports(alloc, found)
 }
 
-/// Appends a report of a member if its name came before, and for each name that comes again in its value.
+/// Returns a report of the member of the object at a location if its name came before, and for each name that comes again in its value.
 #[cycle(repeated)]
-fn report_in_member(
+fn reports_in_member(
     alloc: Global,
     name: &str,
     is_repeated: bool,
     value: &Value<'_>,
     place: &mut Vec<PlaceStep>,
-    reports: &mut Vec<Report>,
-) -> Result<(), AllocError>
-    ensures { OnOk result ((ps : List Place)
-        × Adds statement_of reports.old.items reports.new.items (map repeated_at ps)) }
+) -> Result<Vec<Report>, AllocError>
+    ensures place { OnOk result (place.new.items ≡ place.old.items) }
+    ensures reports { IfOk result (λ v. map statement_of v.items
+        ≡ repeated_if is_repeated (map step_of place.old.items ++ named name.now ∷ [])
+        ++ repeated_in (map step_of place.old.items ++ named name.now ∷ []) (value_view value.now)) }
 {
-    let step = String::from_str(alloc, name)?;
-    place.push(PlaceStep::Name(step))?;
-    report_if(alloc, is_repeated, name, place.as_slice(), reports)?;
-    report_in(alloc, value, place, reports)?;
+    let mut reports = reports_if(alloc, is_repeated, name, place.as_slice())?;
+    let step = PlaceStep::Name(String::from_str(alloc, name)?);
+    let mut more = reports_below(alloc, step, value, place)?;
+    reports.append(&mut more)?;
+    Ok(reports)
+}
+
+/// Returns a report for each name that comes again in the value one step below a location.
+#[cycle(repeated)]
+fn reports_below(
+    alloc: Global,
+    step: PlaceStep,
+    value: &Value<'_>,
+    place: &mut Vec<PlaceStep>,
+) -> Result<Vec<Report>, AllocError>
+    ensures place { OnOk result (place.new.items ≡ place.old.items) }
+    ensures reports { IfOk result (λ v.
+        map statement_of v.items ≡ repeated_in (map step_of place.old.items ++ step_of step ∷ []) (value_view value.now)) }
+{
+    place.push(step)?;
+    let reports = reports_in(alloc, value, place)?;
     place.pop();
-    Ok(())
+    Ok(reports)
 }
 
-/// Appends a report of a member if its name came before.
-fn report_if(
-    alloc: Global,
-    is_repeated: bool,
-    name: &str,
-    place: &[PlaceStep],
-    reports: &mut Vec<Report>,
-) -> Result<(), AllocError>
-    ensures { OnOk result ((ps : List Place)
-        × Adds statement_of reports.old.items reports.new.items (map repeated_at ps)) }
+/// Returns the reports of all entries, in their order.
+fn all_reports(alloc: Global, found: OrderedMap<Vec<Report>>) -> Result<Vec<Report>, AllocError>
+    ensures { IfOk result (λ v. map statement_of v.items ≡ of_all (map stated_of_entry found)) }
 {
-    if !is_repeated {
-        return Ok(());
-    }
-    let report = report_of(alloc, name, place)?;
-    reports.push(report)?;
-    Ok(())
-}
-
-/// Returns for each name of an object where its last member is.
-fn uses_of(
-    alloc: Global,
-    members: &Vec<(&str, Value<'_>)>,
-) -> Result<BTreeMap<String, Uses>, AllocError> {
-    let mut all = BTreeMap::new(alloc);
-    for i in 0..members.len() {
-        let (name, _) = &members[i];
-        let is_repeated = all.contains_key(*name);
-        let name = String::from_str(alloc, name)?;
-        drop(all.insert(
-            name,
-            Uses {
-                last: i,
-                is_repeated,
-            },
-        )?);
+    let mut all = Vec::new(alloc);
+    for (_, mut reports) in found {
+        all.append(&mut reports)?;
     }
     Ok(all)
 }
 
-/// Returns the report of a member whose name came before.
+/// Returns a report of a member of the object at a location, if its name came before.
+fn reports_if(
+    alloc: Global,
+    is_repeated: bool,
+    name: &str,
+    place: &[PlaceStep],
+) -> Result<Vec<Report>, AllocError>
+    ensures { IfOk result (λ v. map statement_of v.items ≡ repeated_if is_repeated (map step_of place.now ++ named name.now ∷ [])) }
+{
+    let mut reports = Vec::new(alloc);
+    if is_repeated {
+        reports.push(report_of(alloc, name, place)?)?;
+    }
+    Ok(reports)
+}
+
+/// Returns the report of a member of the object at a location, whose name came before.
 fn report_of(alloc: Global, name: &str, place: &[PlaceStep]) -> Result<Report, AllocError>
-    ensures { IfOk result (λ r. statement_of r ≡ repeated_at (map step_of place.now)) }
+    ensures { IfOk result (λ r. statement_of r ≡ repeated_at (map step_of place.now ++ named name.now ∷ [])) }
 {
     let message = format!(in alloc; "the name `{name}` comes again in its object")?;
     let help = String::from_str(
         alloc,
         "the earlier value has no effect: remove one of the two",
     )?;
-    let place = copied_place(alloc, place)?;
+    let mut place = copied_place(alloc, place)?;
+    place.push(PlaceStep::Name(String::from_str(alloc, name)?))?;
     Ok(Report {
         code: Code::RepeatedName,
         message,

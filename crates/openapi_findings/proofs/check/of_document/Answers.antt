@@ -7,7 +7,7 @@ use Rattle.openapi_findings.proofs.check.of_document.Goals as goal
 
 pub returns : goal.returns
 returns c =
-    let stated = c.in_ok-reports.ensures in
+    let stated = c.in_ok-reports.ensures c.requires.value c.requires.reads in
     let fs = c.in_ok-findings.findings.items in
     if_ok_both c.sorted.result
     (λ v p o. record {
@@ -15,9 +15,7 @@ returns c =
         tree = c.args.read.now.node;
         numbers = map replaced_of c.args.read.now.numbers.items;
         reads = c.requires;
-        unresolved = stated.0;
-        repeated = stated.1;
-        all = all_found _ c.in_ok-reports.reports.items fs v.items stated.2 c.in_ok-findings.ensures.finds p;
+        all = all_found _ c.in_ok-reports.reports.items fs v.items stated c.in_ok-findings.ensures.finds p;
       });
       placed = All-permutation (IsPlaced c.args.bytes.now) fs v.items p c.in_ok-findings.ensures.placed;
       in_order = o;

@@ -13,15 +13,11 @@ report_numbers-requires c =
 
 pub returns : goal.returns
 returns c =
-    let unresolved = c.in_ok-report_references.ensures in
-    let repeated = c.in_ok-report_repeated.ensures in
     let numbers = subst (λ ns. Adds statement_of c.report_faults.new.reports.items c.report_numbers.new.reports.items
-    (numbers_stated c.args.read.now.node (map replaced_of ns))) c.as_slice-numbers.ensures.value c.in_ok-report_numbers.ensures in (
-      unresolved.0,
-      repeated.0,
-      adds_all statement_of c.report_faults.new.reports.items c.report_numbers.new.reports.items c.report_dropped.new.reports.items
-          c.report_references.new.reports.items c.report_repeated.new.reports.items _ _ _ _ _
-          (adds_two statement_of c.new-reports.result.items c.report_version.new.reports.items c.report_faults.new.reports.items _ _
-          c.new-reports.ensures.items c.in_ok-report_version.ensures c.in_ok-report_faults.ensures)
-          numbers c.in_ok-report_dropped.ensures unresolved.1 repeated.1,
-    )
+    (numbers_stated c.args.read.now.node (map replaced_of ns))) c.as_slice-numbers.ensures.value c.in_ok-report_numbers.ensures in
+    λ j is.
+    adds_all statement_of c.report_faults.new.reports.items c.report_numbers.new.reports.items c.report_dropped.new.reports.items
+    c.report_references.new.reports.items c.report_repeated.new.reports.items _ _ _ _ _
+    (adds_two statement_of c.new-reports.result.items c.report_version.new.reports.items c.report_faults.new.reports.items _ _
+    c.new-reports.ensures.items c.in_ok-report_version.ensures c.in_ok-report_faults.ensures)
+    numbers c.in_ok-report_dropped.ensures c.in_ok-report_references.ensures (c.in_ok-report_repeated.ensures j is)

@@ -1,0 +1,16 @@
+use Rattle.std.proofs.Common.{◌≡◌, ℕ, false, length, string_bytes}
+use denote.Text.{Utf8}
+use denote.Shadow.{shadow}
+use Rattle.openapi_findings.specs.Pointers.{before_name, name_after}
+use Rattle.openapi_findings.proofs.pointer.name_of.Given as goal
+
+-- the name so far is before that of the rest
+abbrev pub invariant-loop-before : goal.invariant-loop-before
+invariant-loop-before l =
+    record {
+      utf8 : shadow (Utf8 l.left);
+      name : name_after false l.token ≡ before_name (string_bytes l.name) (name_after false l.left);
+    }
+
+abbrev pub decreases-loop-before : goal.decreases-loop-before
+decreases-loop-before l = length l.left

@@ -1,0 +1,16 @@
+use Rattle.std.proofs.Common.{◌≡◌, length}
+use denote.Text.{Utf8}
+use denote.Shadow.{shadow}
+use Rattle.openapi_findings.specs.Pointers.{tokens_in, value_at}
+use Rattle.openapi_findings.proofs.pointer.pointer_leads.Given as goal
+
+-- the rest of the pointer leads from where the tokens so far lead
+abbrev pub invariant-loop-token : goal.invariant-loop-token
+invariant-loop-token l =
+    record {
+      utf8 : shadow (Utf8 l.left);
+      leads : value_at (tokens_in l.pointer) l.document ≡ value_at (tokens_in l.left) l.at;
+    }
+
+abbrev pub decreases-loop-token : goal.decreases-loop-token
+decreases-loop-token l = length l.left

@@ -1,4 +1,8 @@
 //! The commands `operations` and `references`.
+ghost use Rattle.std.specs.Prelude.{◌≡◌, ◌++◌, IfOk, option_map, string_bytes};
+ghost use Rattle.std.specs.Fmt.{WritesOnOk};
+ghost use Rattle.openapi.specs.Listed.{json_id, json_numbers, json_pointer, json_uri, operation_line, reference_line};
+
 use crate::input::{INPUT, read_input, shown_name};
 use crate::output::write_output;
 use crate::report::{report_failure, report_refusal};
@@ -171,6 +175,12 @@ struct InText<'a>(Start<'a>);
 struct InJson<'a>(Start<'a>);
 
 impl fmt::Display for InText<'_> {
+    ghost use Rattle.std.specs.Prelude.{Some};
+    ghost use Rattle.openapi.specs.Listed.{start_text};
+
+    ghost output = { λ it. Some (start_text it.0) };
+
+    #[tactic(auto, unfolding(crate::specs::Listed::numbers_text, crate::specs::Listed::start_text))]
     fn fmt<W: fmt::Write>(&self, f: &mut fmt::Formatter<W>) -> fmt::Result {
         let file = Shown(self.0.file);
         match self.0.position {
@@ -184,67 +194,155 @@ impl fmt::Display for InText<'_> {
 }
 
 impl fmt::Display for InJson<'_> {
+    ghost use Rattle.std.specs.Prelude.{Some};
+    ghost use Rattle.openapi.specs.Listed.{json_start};
+
+    ghost output = { λ it. Some (json_start it.0) };
+
+    #[tactic(auto, unfolding(crate::specs::Listed::json_start))]
     fn fmt<W: fmt::Write>(&self, f: &mut fmt::Formatter<W>) -> fmt::Result {
         let file = Quoted(self.0.file);
-        let pointer = QuotedPointer(self.0.place);
-        write!(f, "{{\"file\":{file},")?;
-        match self.0.position {
-            Some(position) => {
-                let (line, column) = (position.value.line, position.value.column);
-                write!(f, "\"line\":{line},\"column\":{column},")?;
-            }
-            None => f.write_str("\"line\":null,\"column\":null,")?,
-        }
-        write!(f, "\"pointer\":{pointer}")
+        write!(f, "{{\"file\":{file}")?;
+        write_numbers(f, self.0.position)?;
+        write_pointer(f, self.0.place)
     }
 }
 
+/// Writes the line and the column of a position.
+#[tactic(auto, unfolding(crate::specs::Listed::json_numbers))]
+fn write_numbers<W: fmt::Write>(
+    f: &mut fmt::Formatter<W>,
+    position: Option<Position>,
+) -> fmt::Result
+    ensures { WritesOnOk W.write_str_gives f.old result (json_numbers position) f.new }
+{
+    match position {
+        Some(position) => {
+            let (line, column) = (position.value.line, position.value.column);
+            write!(f, ",\"line\":{line},\"column\":{column}")
+        }
+        None => f.write_str(",\"line\":null,\"column\":null"),
+    }
+}
+
+/// Writes a location as a JSON Pointer.
+#[tactic(auto, unfolding(crate::specs::Listed::json_pointer))]
+fn write_pointer<W: fmt::Write>(f: &mut fmt::Formatter<W>, place: &[PlaceStep]) -> fmt::Result
+    ensures { WritesOnOk W.write_str_gives f.old result (json_pointer place.now) f.new }
+{
+    let pointer = QuotedPointer(place);
+    write!(f, ",\"pointer\":{pointer}")
+}
+
+/// An operation as one object of JSON.
+#[derive(Clone, Copy)]
+struct OperationInJson<'a> {
+    start: Start<'a>,
+    operation: &'a ListedOperation,
+}
+
+/// A reference as one object of JSON.
+#[derive(Clone, Copy)]
+struct ReferenceInJson<'a> {
+    start: Start<'a>,
+    reference: &'a Reference,
+}
+
+impl fmt::Display for OperationInJson<'_> {
+    ghost use Rattle.std.specs.Prelude.{Some};
+    ghost use Rattle.openapi.specs.Listed.{operation_json};
+
+    ghost output = { λ it. Some (operation_json it.start it.operation.now) };
+
+    #[tactic(auto, unfolding(crate::specs::Listed::operation_json))]
+    fn fmt<W: fmt::Write>(&self, f: &mut fmt::Formatter<W>) -> fmt::Result {
+        let start = InJson(self.start);
+        let method = Quoted(self.operation.method.as_str());
+        let path = Quoted(self.operation.path.as_str());
+        write!(f, "{start},\"method\":{method},\"path\":{path}")?;
+        write_id(f, &self.operation.operation_id)?;
+        f.write_str("}")
+    }
+}
+
+impl fmt::Display for ReferenceInJson<'_> {
+    ghost use Rattle.std.specs.Prelude.{Some};
+    ghost use Rattle.openapi.specs.Listed.{reference_json};
+
+    ghost output = { λ it. Some (reference_json it.start it.reference.now) };
+
+    #[tactic(auto, unfolding(crate::specs::Listed::reference_json))]
+    fn fmt<W: fmt::Write>(&self, f: &mut fmt::Formatter<W>) -> fmt::Result {
+        let start = InJson(self.start);
+        write!(f, "{start}")?;
+        write_uri(f, self.reference.text.as_str())?;
+        f.write_str("}")
+    }
+}
+
+/// Writes the `operationId` of an operation.
+#[tactic(auto, unfolding(crate::specs::Listed::json_id))]
+fn write_id<W: fmt::Write>(f: &mut fmt::Formatter<W>, id: &Option<String>) -> fmt::Result
+    ensures { WritesOnOk W.write_str_gives f.old result (json_id (option_map string_bytes id.now)) f.new }
+{
+    match id {
+        Some(id) => {
+            let id = Quoted(id.as_str());
+            write!(f, ",\"operationId\":{id}")
+        }
+        None => f.write_str(",\"operationId\":null"),
+    }
+}
+
+/// Writes the text of a reference.
+#[tactic(auto, unfolding(crate::specs::Listed::json_uri))]
+fn write_uri<W: fmt::Write>(f: &mut fmt::Formatter<W>, uri: &str) -> fmt::Result
+    ensures { WritesOnOk W.write_str_gives f.old result (json_uri uri.now) f.new }
+{
+    let uri = Quoted(uri);
+    write!(f, ",\"reference\":{uri}")
+}
+
 /// Appends the line of an operation.
+#[tactic(auto, unfolding(crate::specs::Listed::operation_line))]
 fn push_operation(
     text: &mut String,
     format: ListFormat,
     start: Start<'_>,
     operation: &ListedOperation,
-) -> Result<(), AllocError> {
-    let (method, path) = (operation.method.as_str(), operation.path.as_str());
+) -> Result<(), AllocError>
+    ensures { IfOk result (λ _. string_bytes text.new ≡ string_bytes text.old ++ operation_line format start.entry operation.now) }
+{
     match format {
         ListFormat::Text => {
-            let path = Shown(path);
+            let (method, path) = (operation.method.as_str(), Shown(operation.path.as_str()));
             writeln!(text, "{method} {path}")
         }
         ListFormat::Json => {
-            let (start, method, path) = (InJson(start), Quoted(method), Quoted(path));
-            write!(
-                text,
-                "{start},\"method\":{method},\"path\":{path},\"operationId\":"
-            )?;
-            match &operation.operation_id {
-                Some(id) => {
-                    let id = Quoted(id.as_str());
-                    writeln!(text, "{id}}}")
-                }
-                None => writeln!(text, "null}}"),
-            }
+            let line = OperationInJson { start, operation };
+            writeln!(text, "{line}")
         }
     }
 }
 
 /// Appends the line of a reference.
+#[tactic(auto, unfolding(crate::specs::Listed::reference_line))]
 fn push_reference(
     text: &mut String,
     format: ListFormat,
     start: Start<'_>,
     reference: &Reference,
-) -> Result<(), AllocError> {
-    let uri = reference.text.as_str();
+) -> Result<(), AllocError>
+    ensures { IfOk result (λ _. string_bytes text.new ≡ string_bytes text.old ++ reference_line format start.entry reference.now) }
+{
     match format {
         ListFormat::Text => {
-            let (start, uri) = (InText(start), Shown(uri));
+            let (start, uri) = (InText(start), Shown(reference.text.as_str()));
             writeln!(text, "{start}: {uri}")
         }
         ListFormat::Json => {
-            let (start, uri) = (InJson(start), Quoted(uri));
-            writeln!(text, "{start},\"reference\":{uri}}}")
+            let line = ReferenceInJson { start, reference };
+            writeln!(text, "{line}")
         }
     }
 }

@@ -1,0 +1,115 @@
+#!/usr/bin/env python3
+"""Checks that another repository can use the libraries of this one as `docs/USING.md` says: makes one in a temporary folder, with this
+repository as it is in `vendor/`, and runs `bin/add_to.py` and the program of that page there.
+
+The last line is `N passed, M failed`.
+"""
+import os
+import re
+import shutil
+import subprocess
+import sys
+import tempfile
+
+TOP = os.path.dirname(os.path.dirname(os.path.realpath(__file__)))
+LIBRARIES = {"openapiv3", "openapi_faults", "openapi_findings", "openapi_map", "openapi_json", "openapi_documents"}
+OTHERS = {"openapi", "openapi_clean", "openapi_cases", "openapi_text", "example_linter"}
+
+
+def blocks(kind):
+    """Returns the blocks of a kind that the page has."""
+    with open(f"{TOP}/docs/USING.md", encoding="utf-8") as it:
+        return re.findall(rf"^```{kind}\n(.*?)^```$", it.read(), re.M | re.S)
+
+
+def copy_to(folder):
+    """Copies the files of this repository to a folder, with the file `.git` that a submodule has."""
+    listed = subprocess.run(["git", "ls-files", "-z", "--cached", "--others", "--exclude-standard"], cwd=TOP, capture_output=True, check=True)
+    for name in filter(None, listed.stdout.decode().split("\0")):
+        if os.path.isfile(f"{TOP}/{name}"):
+            os.makedirs(os.path.dirname(f"{folder}/{name}"), exist_ok=True)
+            shutil.copy(f"{TOP}/{name}", f"{folder}/{name}")
+    with open(f"{folder}/.git", "w") as it:
+        it.write("gitdir: ../../.git/modules/vendor/openapiv3\n")
+
+
+def state_of(top):
+    """Returns the links of a repository with their targets, and the lines of its crates.txt."""
+    links = {it.name: os.readlink(it.path) if it.is_symlink() else "" for it in os.scandir(f"{top}/crates")}
+    with open(f"{top}/crates.txt", encoding="utf-8") as it:
+        return links, it.read().splitlines()
+
+
+def main():
+    passed = failed = 0
+
+    def check(what, holds):
+        nonlocal passed, failed
+        passed, failed = passed + bool(holds), failed + (not holds)
+        if not holds:
+            print(f"FAILED: {what}")
+
+    def add(*words):
+        return subprocess.run(["vendor/openapiv3/bin/add_to.py", *words], cwd=top, stdin=subprocess.DEVNULL, capture_output=True, text=True)
+
+    with tempfile.TemporaryDirectory(prefix="using-") as top:
+        os.mkdir(f"{top}/.git")
+        copy_to(f"{top}/vendor/openapiv3")
+        with open(f"{top}/crates.txt", "w", encoding="utf-8") as it:
+            it.write("# ours\n")
+        ran = add(".")
+        links, lines = state_of(top)
+        check(f"the script ends well: {ran.stderr}", ran.returncode == 0 and not ran.stderr)
+        check("it links libraries and no others", LIBRARIES <= {*links} and not OTHERS & {*links})
+        check("the links are relative", all(to == f"../vendor/openapiv3/crates/{it}" for it, to in links.items()))
+        check("each has its line", {it.partition(":")[0] for it in lines[1:]} == {*links} and lines[0] == "# ours")
+        told = {f"link crates/{it}" for it in links} | {f"crates.txt: {it}" for it in links}
+        check("it prints what it does", {*ran.stdout.splitlines()} == told)
+        ran = add(".")
+        check("it does nothing again", ran.returncode == 0 and not ran.stdout and not ran.stderr and state_of(top) == (links, lines))
+
+        os.remove(f"{top}/crates/openapi_map")
+        with open(f"{top}/crates.txt", "w", encoding="utf-8") as it:
+            it.writelines(f"{'openapi_node: old' if line.startswith('openapi_node:') else line}\n" for line in lines)
+        ran = add(".")
+        check("it brings links and lines up to date", ran.stdout == "crates.txt: openapi_node\nlink crates/openapi_map\n" and state_of(top) == (links, lines))
+        os.symlink("../vendor/openapiv3/crates/openapi_gone", f"{top}/crates/openapi_gone")
+        with open(f"{top}/crates.txt", "a", encoding="utf-8") as it:
+            it.write("openapi_gone: openapi_map\n")
+        ran = add(".")
+        gone = "crates.txt: without openapi_gone\nremove link crates/openapi_gone\n"
+        check("it removes a library that is gone", ran.stdout == gone and state_of(top) == (links, lines))
+
+        source, [line] = blocks("rust")[0], blocks("text")
+        os.makedirs(f"{top}/crates/undescribed/src")
+        with open(f"{top}/crates/undescribed/src/main.rt", "w", encoding="utf-8") as it:
+            it.write(source)
+        with open(f"{top}/crates.txt", "a", encoding="utf-8") as it:
+            it.write(line)
+        said = blocks("console")[1].partition("petstore.json\n")[2]
+        with open(f"{TOP}/examples/petstore.json", "rb") as given:
+            ran = subprocess.run(["rt", "try"], cwd=f"{top}/crates/undescribed", stdin=given, capture_output=True, text=True)
+        check(f"the program of the page prints what it says: {ran.stdout}{ran.stderr}", said and ran.returncode == 0 and ran.stdout.startswith(said))
+
+        os.remove(f"{top}/crates/openapi_map")
+        os.mkdir(f"{top}/crates/openapi_map")
+        before = state_of(top)
+        ran = add(".")
+        wanted = "error: crates/openapi_map is not a link to ../vendor/openapiv3/crates/openapi_map\n"
+        check("it overwrites no folder", (ran.returncode, ran.stdout, ran.stderr) == (1, "", wanted) and state_of(top) == before)
+        os.rmdir(f"{top}/crates/openapi_map")
+        with open(f"{top}/crates.txt", "w", encoding="utf-8") as it:
+            it.write("openapi_map: ours\n")
+        before = state_of(top)
+        ran = add(".")
+        wanted = "error: crates.txt has another line for openapi_map\n"
+        check("it overwrites no line", (ran.returncode, ran.stdout, ran.stderr) == (1, "", wanted) and state_of(top) == before)
+        for what, words in (("no folder", []), ("a library that is none", [".", "wat"]), ("a program", [".", "openapi"]), ("a folder elsewhere", ["/"])):
+            ran = add(*words) if words != ["/"] else add("vendor/openapiv3/crates")
+            check(f"wrong arguments: {what}", ran.returncode == 2 and not ran.stdout and ran.stderr)
+    print(f"{passed} passed, {failed} failed")
+    return 1 if failed else 0
+
+
+if __name__ == "__main__":
+    sys.exit(main())

@@ -9,6 +9,8 @@ RFC 8259 say, and not taken from the program. The last line is `N passed, M fail
 """
 import json
 import os
+import resource
+import signal
 import stat
 import sys
 import tempfile
@@ -306,6 +308,21 @@ def test_read_only(runner):
     os.chmod(f"{runner.folder}/closed", 0o755)
 
 
+def test_full_disk(runner):
+    """No room for the whole text: the file stays. (A limit on the size of files, as a full disk would need a file system of its own.)"""
+    def limit():
+        signal.signal(signal.SIGXFSZ, signal.SIG_IGN)
+        resource.setrlimit(resource.RLIMIT_FSIZE, (50, 50))
+
+    source = document('"wat": 1')
+    file = runner.write("full.json", source)
+    before = names(runner)
+    for command in ("clean", "normalize"):
+        runner.check(f"{command} in place without room for the text", [command, "--write", file], 3, "",
+                     left_out(1, file) + f"error: {file}: File too large (os error 27)\n", preexec_fn=limit)
+        runner.compare("the file is as it was, and no other is left", (content(runner, file), names(runner)), (source, before))
+
+
 def test_streams(runner):
     good = runner.write("good.json", GOOD)
     failed = "error: <stdout>: Bad file descriptor (os error 9)\n"
@@ -418,8 +435,8 @@ def main():
         print(f"FAILED: {program} is not built\n0 passed, 1 failed")
         return 1
     passed = failed = 0
-    for test in (test_normalized, test_cleaned, test_dropped, test_refused, test_targets, test_in_place, test_read_only, test_streams, test_operations,
-                 test_references, test_words, test_memory):
+    for test in (test_normalized, test_cleaned, test_dropped, test_refused, test_targets, test_in_place, test_read_only, test_full_disk,
+                 test_streams, test_operations, test_references, test_words, test_memory):
         with tempfile.TemporaryDirectory(prefix="commands-") as folder:
             runner = Runner(program, folder)
             test(runner)

@@ -3,7 +3,7 @@
 
 usage: bin/add_to.py REPOSITORY [LIBRARY ..]
 
-REPOSITORY is a folder above this one, with crates in `crates/` and their lines in `crates.txt`. The libraries are those named, or
+REPOSITORY is a repository above this one, with crates in `crates/` and their lines in `crates.txt`. The libraries are those named, or
 openapiv3, openapi_faults and openapi_findings, with all that they use. Each gets a link `crates/NAME` and a line of `crates.txt`
 there. Links and lines that this script made before are brought up to date; those of a library that is gone are removed.
 
@@ -108,6 +108,9 @@ def main():
     if os.path.commonpath([top, sources.TOP]) != top or top == sources.TOP:
         print(f"error: {top} is not a folder above {sources.TOP}", file=sys.stderr)
         print("help: add this repository to yours as a submodule, and run the script there", file=sys.stderr)
+        return 2
+    if not os.path.exists(f"{top}/.git"):
+        print(f"error: {top} is not the top of a repository: it has no .git", file=sys.stderr)
         return 2
     addition = Addition(top, names)
     addition.plan()

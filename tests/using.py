@@ -104,9 +104,17 @@ def main():
         ran = add(".")
         wanted = "error: crates.txt has another line for openapi_map\n"
         check("it overwrites no line", (ran.returncode, ran.stdout, ran.stderr) == (1, "", wanted) and state_of(top) == before)
-        for what, words in (("no folder", []), ("a library that is none", [".", "wat"]), ("a program", [".", "openapi"]), ("a folder elsewhere", ["/"])):
-            ran = add(*words) if words != ["/"] else add("vendor/openapiv3/crates")
-            check(f"wrong arguments: {what}", ran.returncode == 2 and not ran.stdout and ran.stderr)
+        wrong = {
+            "no folder": [],
+            "a library that is none": [".", "wat"],
+            "a program": [".", "openapi"],
+            "a folder that is not above": ["vendor/openapiv3/crates"],
+            "a folder that is no repository": ["vendor"],
+        }
+        for what, words in wrong.items():
+            ran = add(*words)
+            check(f"wrong arguments: {what}", ran.returncode == 2 and not ran.stdout and ran.stderr and state_of(top) == before)
+        check("nothing is made in a folder that is no repository", os.listdir(f"{top}/vendor") == ["openapiv3"])
     print(f"{passed} passed, {failed} failed")
     return 1 if failed else 0
 

@@ -15,10 +15,13 @@ use openapi_map::OrderedMap;
 use openapi_node::{Node, Whole};
 use std::alloc::{AllocError, Global};
 
-/// The node of bytes that are JSON text, with the members of each object in the order of the text. Of a name that comes
-/// again the last value counts, in the place of the first.
+/// Reads a JSON text as a node, with the members of each object in the order of the text. Of a name that comes again the last value
+/// counts, in the place of the first. The same bytes are read as by [`node_from_json`].
 ///
-/// The same bytes are read as by [`node_from_json`], and the same are refused for the same cause.
+/// # Errors
+///
+/// [`JsonFault::NotJson`] if the bytes are no UTF-8, or no JSON as `serde_json` reads it, [`JsonFault::NotWhole`] with the location of
+/// a number that a node can't hold, and [`JsonFault::Memory`] if memory runs out: the same as by [`node_from_json`].
 pub fn node_from_json_in_order(alloc: Global, bytes: &[u8]) -> Result<Node, JsonFault>
     ensures ok { IfOk result (IsTreeInOrder bytes.now) }
     ensures err { IfErr result (Explains bytes.now) }

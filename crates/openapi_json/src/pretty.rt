@@ -14,10 +14,12 @@ use json::{Pretty, Reader, Scratch};
 use openapi_node::{Node, Steps};
 use std::alloc::{AllocError, Global};
 
-/// The JSON text of a node with a line for each item and each member, indented by two spaces, as `serde_json` writes it
-/// prettily. The members of each object stand in their order.
+/// Returns the JSON text of a node with a line for each item and each member, indented by two spaces, and the members of each
+/// object in their order.
 ///
-/// Err says that memory ran out.
+/// # Errors
+///
+/// Returns [`AllocError`] if an allocation fails.
 pub fn pretty_from_node_in_order(
     alloc: Global,
     node: &Node,

@@ -43,9 +43,11 @@ pub fn read_bytes<R: Read>(alloc: Global, reader: &mut R) -> Result<Vec<u8>, Rea
     Err(ReadFault::Reader(io::Error::from(ErrorKind::FileTooLarge)))
 }
 
-/// The bytes that a reader has left.
+/// Returns the bytes that a reader has left.
 ///
-/// Err says that the reader failed or did not end, or that memory ran out.
+/// # Errors
+///
+/// [`RunFault::Read`] if the reader fails or does not end, and [`RunFault::Memory`] if an allocation fails.
 pub fn read_all<R: Read>(alloc: Global, reader: &mut R) -> Result<Vec<u8>, RunFault>
     ensures bytes { IfOk result (λ v. IfSome (R.remaining reader.old) (λ bytes. v.items ≡ bytes)) }
     ensures end { OnOk result (IsAtEnd (R.remaining reader.new)) }
@@ -80,7 +82,9 @@ pub fn write_bytes<W: Write>(writer: &mut W, text: &[u8]) -> io::Result<()>
 
 /// Writes a text whole.
 ///
-/// Err says that the writer failed or took nothing, when it has a beginning of the text.
+/// # Errors
+///
+/// [`RunFault::Write`] if the writer fails or takes nothing. It has a beginning of the text then.
 pub fn write_all<W: Write>(writer: &mut W, text: &[u8]) -> Result<(), RunFault>
     ensures ok { OnOk result (Appends (W.contents writer.old) (W.contents writer.new) text.now) }
     ensures err { IfErr result (λ e. (e ≡ RunFault.Write)

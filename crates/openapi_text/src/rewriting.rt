@@ -50,9 +50,12 @@ impl FromStr for Rewriting {
     }
 }
 
-/// The tree that is made of the object which a tree holds.
+/// Returns the value that a rewriting makes of the object in a value.
 ///
-/// Err says that the tree does not conform, where, and which rule it breaks; or that memory ran out.
+/// # Errors
+///
+/// [`RunFault::Refused`] if the value does not conform, with the location and the rule that it breaks, and
+/// [`RunFault::Memory`] if an allocation fails.
 pub fn rewrite(
     alloc: Global,
     rewriting: Rewriting,
@@ -112,9 +115,12 @@ pub fn settled_tree<T: ToNode + Drop>(
     }
 }
 
-/// The object that a tree holds.
+/// Returns the object in a value.
 ///
-/// Err says that the tree does not conform, where, and which rule it breaks; or that memory ran out.
+/// # Errors
+///
+/// [`RunFault::Refused`] if the value does not conform, with the location and the rule that it breaks, and
+/// [`RunFault::Memory`] if an allocation fails.
 #[tactic(auto, using(crate::proofs::Refusals::not_conforming))]
 pub fn read_object<T: FromNode + Drop>(
     alloc: Global,

@@ -264,7 +264,7 @@ def test_targets(runner):
     runner.check("a refusal writes no file", ["normalize", bad, "-o", "out.json"], 1, "", said)
     runner.compare("the file is as it was", (content(runner, "out.json"),), (INDENTED,))
     runner.check("a folder that does not exist", ["normalize", file, "-o", "none/out.json"], 3, "",
-                 left_out(1, file) + "error: none/out.json: No such file or directory (os error 2)\n")
+                 "error: none/out.json: No such file or directory (os error 2)\n")
 
 
 def test_in_place(runner):
@@ -302,7 +302,7 @@ def test_read_only(runner):
     # for root every folder is writable, so another user runs the program
     user = {"user": 65534} if os.geteuid() == 0 else {}
     runner.check("a folder that is read-only", ["normalize", "--write", file], 3, "",
-                 left_out(1, file) + f"error: {file}: Permission denied (os error 13)\n", **user)
+                 f"error: {file}: Permission denied (os error 13)\n", **user)
     runner.compare("the file is as it was", (content(runner, file), os.listdir(f"{runner.folder}/closed")),
                    (document('"wat": 1'), ["in.json"]))
     os.chmod(f"{runner.folder}/closed", 0o755)
@@ -319,7 +319,7 @@ def test_full_disk(runner):
     before = names(runner)
     for command in ("clean", "normalize"):
         runner.check(f"{command} in place without room for the text", [command, "--write", file], 3, "",
-                     left_out(1, file) + f"error: {file}: File too large (os error 27)\n", preexec_fn=limit)
+                     f"error: {file}: File too large (os error 27)\n", preexec_fn=limit)
         runner.compare("the file is as it was, and no other is left", (content(runner, file), names(runner)), (source, before))
 
 

@@ -78,9 +78,11 @@ fn report_check(rt: &HostRuntime, rewrite: Rewrite<'_>, is_same: bool) -> u8 {
 
 /// Replaces the content of a file, and returns the exit status.
 fn replace(rt: &HostRuntime, file: &str, rewrite: Rewrite<'_>) -> u8 {
-    report_dropped(rt, rewrite.file, rewrite.dropped, rewrite.is_document);
     match replace_file(rt, file, rewrite.text.as_bytes()) {
-        Ok(()) => 0,
+        Ok(()) => {
+            report_dropped(rt, rewrite.file, rewrite.dropped, rewrite.is_document);
+            0
+        }
         Err(error) => {
             report_failure(rt, file, &error);
             FAILED

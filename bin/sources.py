@@ -46,9 +46,9 @@ def is_program(name, top=TOP):
     return os.path.isfile(f"{top}/crates/{name}/src/main.rt")
 
 
-def program_of(name, is_proved):
+def program_of(name, is_proved, top=TOP):
     """Returns the path of the program of a crate, as built with proof or without."""
-    return f"{TOP}/crates/{name}/out/{name}{'' if is_proved else UNPROVED}"
+    return f"{top}/crates/{name}/out/{name}{'' if is_proved else UNPROVED}"
 
 
 def files_of(name, parts=PARTS, top=TOP):
@@ -90,7 +90,7 @@ def write_sum(program, sum, began):
     os.replace(name, f"{program}.sum")
 
 
-def is_current(program):
+def is_current(program, top=TOP):
     """Whether a program was built from the sources as they are, by its hash. If so, renews the time of its PROGRAM.sum."""
     name, began, file = os.path.basename(program), now(), f"{program}.sum"
     try:
@@ -100,7 +100,7 @@ def is_current(program):
             return False
     except FileNotFoundError:
         return False
-    if sum != sum_of(name.removesuffix(UNPROVED), not name.endswith(UNPROVED)):
+    if sum != sum_of(name.removesuffix(UNPROVED), not name.endswith(UNPROVED), top):
         return False
     write_sum(program, sum, began)
     return True

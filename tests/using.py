@@ -1,6 +1,7 @@
 #!/usr/bin/env python3
 """Checks that another repository can use the libraries of this one as `docs/USING.md` says: makes one in a temporary folder, with this
-repository as it is in `vendor/`, and runs `bin/add_to.py` and the program of that page there.
+repository as it is in `vendor/`, and runs `bin/add_to.py` and the program of that page there, by `rt try` and as `bin/unproved.py` builds it.
+Of each row of the page's table of refused code it checks that `rt check` refuses such code, and takes what is written instead.
 
 The last line is `N passed, M failed`.
 """
@@ -12,6 +13,37 @@ import sys
 import tempfile
 
 TOP = os.path.dirname(os.path.dirname(os.path.realpath(__file__)))
+# For each row of the table of refused code, by its first words, a program that `rt check` refuses with this word, and what is replaced
+# by what to write instead.
+PROGRAM = """//! Counts trees.
+#![tactic(auto)]
+
+#[derive(Drop)]
+struct Tree {
+    items: Vec<Tree>,
+}
+
+fn count(tree: &Tree) -> usize {
+    count_all(&tree.items)
+}
+
+fn count_all(items: &Vec<Tree>) -> usize {
+    let mut found: usize = 1;
+    for it in items.iter() {
+        found = found.wrapping_add(count(it));
+    }
+    found
+}
+
+fn main(rt: HostRuntime) -> std::io::Result<()> {
+    println!(rt; "{}", count(&Tree { items: Vec::new(rt.alloc()) }))
+}
+"""
+CYCLE = PROGRAM.replace("\nfn count", "\n#[cycle(count)]\nfn count")
+REFUSED = {
+    "two names that differ in case alone": ("reserved-name", CYCLE.replace("Tree", "Count"), ("Count", "Tree")),
+    "functions that call one another without": ("unnamed-cycle", PROGRAM, ("\nfn count", "\n#[cycle(count)]\nfn count")),
+}
 LIBRARIES = {"openapiv3", "openapi_faults", "openapi_findings", "openapi_map", "openapi_json", "openapi_documents"}
 OTHERS = {"openapi", "openapi_clean", "openapi_cases", "openapi_text", "example_linter"}
 
@@ -33,6 +65,37 @@ def copy_to(folder):
         it.write("gitdir: ../../.git/modules/vendor/openapiv3\n")
 
 
+def rows():
+    """Returns the first cell of each row of the table of refused code."""
+    with open(f"{TOP}/docs/USING.md", encoding="utf-8") as it:
+        table = it.read().partition("| Refused | Write instead |\n|---|---|\n")[2]
+    return re.findall(r"^\| ([^|]*) \|", table, re.M)
+
+
+def run(command, program):
+    """Runs a command of `rt` on a program that uses no libraries, and returns its exit status and its output."""
+    with tempfile.TemporaryDirectory(prefix="using-") as top:
+        os.makedirs(f"{top}/crates/program/src")
+        os.mkdir(f"{top}/.git")
+        for name, text in {"crates.txt": "program:\n", "HANDLES": "Handles allowed: none.\n", "crates/program/src/main.rt": program}.items():
+            with open(f"{top}/{name}", "w", encoding="utf-8") as it:
+                it.write(text)
+        how = {"stdin": subprocess.DEVNULL, "stdout": subprocess.PIPE, "stderr": subprocess.STDOUT, "text": True}
+        ran = subprocess.run(["rt", command], cwd=f"{top}/crates/program", **how)
+        return ran.returncode, ran.stdout
+
+
+def refused_code(check):
+    """Checks that each row of the table of refused code is true."""
+    check("the table of refused code has the rows that are checked", len(rows()) == len(REFUSED))
+    for row, (word, program, instead) in REFUSED.items():
+        check(f"the page has the row: {row}", any(it.startswith(row) for it in rows()))
+        check(f"rt try runs it: {row}", run("try", program)[0] == 0)
+        status, said = run("check", program)
+        check(f"rt check refuses it: {row}: {said}", status and f"error[{word}]" in said)
+        check(f"rt check takes what is written instead: {row}", run("check", program.replace(*instead))[0] == 0)
+
+
 def state_of(top):
     """Returns the links of a repository with their targets, and the lines of its crates.txt."""
     links = {it.name: os.readlink(it.path) if it.is_symlink() else "" for it in os.scandir(f"{top}/crates")}
@@ -52,6 +115,7 @@ def main():
     def add(*words):
         return subprocess.run(["vendor/openapiv3/bin/add_to.py", *words], cwd=top, stdin=subprocess.DEVNULL, capture_output=True, text=True)
 
+    refused_code(check)
     with tempfile.TemporaryDirectory(prefix="using-") as top:
         os.mkdir(f"{top}/.git")
         copy_to(f"{top}/vendor/openapiv3")
@@ -90,6 +154,11 @@ def main():
         with open(f"{TOP}/examples/petstore.json", "rb") as given:
             ran = subprocess.run(["rt", "try"], cwd=f"{top}/crates/undescribed", stdin=given, capture_output=True, text=True)
         check(f"the program of the page prints what it says: {ran.stdout}{ran.stderr}", said and ran.returncode == 0 and ran.stdout.startswith(said))
+        built = subprocess.run(["vendor/openapiv3/bin/unproved.py", "--in", ".", "undescribed", "0"], cwd=top, capture_output=True, text=True)
+        with open(f"{TOP}/examples/petstore.json", "rb") as given:
+            ran = subprocess.run("crates/undescribed/out/undescribed.unproved", cwd=top, stdin=given, capture_output=True, text=True)
+        says = "".join(blocks("console")[2].partition("petstore.json\n")[2:])
+        check(f"it is built without proof: {built.stderr}", says == said and (ran.returncode, ran.stdout, ran.stderr) == (0, said, ""))
 
         os.remove(f"{top}/crates/openapi_map")
         os.mkdir(f"{top}/crates/openapi_map")

@@ -1,8 +1,8 @@
-//! A router: tells which operation of an OpenAPI document a request is for.
+//! A router: prints which operation of an OpenAPI document a request is for.
 //!
-//! The document is read from standard input. With no words, each operation that has an `operationId` is a line: its method,
-//! its path and that identifier. With a method and a path as words, the answer is the operation that such a request is for,
-//! and a line for each parameter of its path.
+//! The document is read from standard input. Without arguments, each operation is a line: its method, its path and its
+//! `operationId` if it has one. With a method and a path as arguments, the output is the `operationId` of the operation that such a
+//! request is for, or its method and its path if it has none, and a line for each parameter of its path.
 #![tactic(auto)]
 
 use anyhow::{Result, bail};
@@ -21,23 +21,23 @@ fn read(rt: &HostRuntime) -> Result<OpenAPI> {
 /// Prints the routes of a document.
 fn print_routes(rt: &HostRuntime, document: &OpenAPI) -> Result<()> {
     for (path, method, operation) in document.operations() {
-        if let Some(id) = &operation.operation_id {
-            println!(rt; "{method} {path} {id}")?;
+        match &operation.operation_id {
+            Some(id) => println!(rt; "{method} {path} {id}")?,
+            None => println!(rt; "{method} {path}")?,
         }
     }
     Ok(())
 }
 
-/// The routes of a document, as `/METHOD/PATH`, to the identifiers of their operations.
-fn routes<'a>(rt: &HostRuntime, document: &'a OpenAPI) -> Result<Router<&'a str>> {
+/// Returns the routes of a document, as `/METHOD/PATH`, to what is printed of their operations.
+fn routes(rt: &HostRuntime, document: &OpenAPI) -> Result<Router<String>> {
     let mut router = Router::new(rt.alloc());
     for (path, method, operation) in document.operations() {
-        if let Some(id) = &operation.operation_id {
-            router.insert(
-                format!(in rt.alloc(); "/{method}{path}")?.as_str(),
-                id.as_str(),
-            )?;
-        }
+        let name = match &operation.operation_id {
+            Some(id) => id.clone()?,
+            None => format!(in rt.alloc(); "{method} {path}")?,
+        };
+        router.insert(format!(in rt.alloc(); "/{method}{path}")?.as_str(), name)?;
     }
     Ok(router)
 }

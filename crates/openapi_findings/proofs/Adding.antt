@@ -39,12 +39,6 @@ module _ {X Y : Type 0} (f : X → Y) where
       adds_then old mid new (map g done) (g e ∷ []) h (adds_one mid new x (g e) n s)
       ∙ ap (λ l. map f old ++ l) (sym (map-append g done (e ∷ [])))
 
-  -- what is appended in two steps, each for elements of a list
-  pub adds_more : {E : Type 0} (g : E → Y) (old mid new : List X) (ps qs : List E) → Adds f old mid (map g ps)
-      → Adds f mid new (map g qs) → Adds f old new (map g (ps ++ qs))
-  adds_more g old mid new ps qs h k =
-      adds_then old mid new (map g ps) (map g qs) h k ∙ ap (λ l. map f old ++ l) (sym (map-append g ps qs))
-
   -- what is appended to an empty list, in two steps
   pub adds_two : (l r1 r2 : List X) (as' bs : List Y) → l ≡ [] → Adds f l r1 as' → Adds f r1 r2 bs → map f r2 ≡ as' ++ bs
   adds_two l r1 r2 as' bs n a b = b ∙ ap (λ z. z ++ bs) (a ∙ ap (λ z. map f z ++ as') n)

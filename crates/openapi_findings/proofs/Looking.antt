@@ -1,6 +1,6 @@
 -- Locations that are looked for by their keys.
-use Rattle.std.proofs.Common.{◌≡◌, ℕ, zero, suc, ◌+◌, ◌<◌, ◌≤◌, Bool, true, false, cond, ◌&&◌, ◌||◌, List, [], ◌∷◌, ◌++◌, Option, Some, None}
-use Rattle.std.proofs.Common.{length, map, drop, get_or, is_some, append-nil, append_assoc, refl, sym, ap, subst, ◌∙◌, arith, true≢false}
+use Rattle.std.proofs.Common.{◌≡◌, ℕ, zero, suc, ◌+◌, ◌<◌, ◌≤◌, Bool, true, false, cond, ◌&&◌, ◌||◌, List, [], ◌∷◌, ◌++◌, Some, None}
+use Rattle.std.proofs.Common.{length, map, drop, get_or, is_some, append-nil, append_assoc, refl, sym, ap, ◌∙◌, arith, true≢false}
 use Rattle.std.proofs.lemmas.Bool.Decides.{Decides-eqb}
 use Rattle.std.proofs.lemmas.List.{drop_all, drop_more}
 use Rattle.std.proofs.lemmas.Slice.Eq.{bytes_eq-Decides}
@@ -8,7 +8,7 @@ use Rattle.std.specs.List.{flat_map, list_any}
 use Rattle.std.specs.Str.{bytes_eq}
 use Rattle.openapi_map.specs.Entries.{Entries, get, insert_entry}
 use Rattle.openapi_node.specs.Place.{Place, Step, named, indexed}
-use Rattle.openapi_findings.specs.Numbers.{HasKeys, is_among, key_text, same_place, same_step, step_key}
+use Rattle.openapi_findings.specs.Numbers.{HasKeys, is_among, key_text, same_place, same_step}
 
 or_false : (a : Bool) → (a || false) ≡ a
 or_false true = refl
@@ -66,44 +66,7 @@ lengths_differ (s ∷ p) [] h = refl
 lengths_differ (s ∷ p) (t ∷ q) h =
     sym (ap (λ b. same_step s t && b) (sym (lengths_differ p q (λ e. h (ap suc e)))) ∙ and_false (same_step s t))
 
-module _ {A B : Type 0} (f : A → Step) (g : B → Step) (xs : List A) (ys : List B) where
-  pub same_next : (i : ℕ) (d : A) (e : B) → i < length xs → i < length ys → same_step (f (get_or xs i d)) (g (get_or ys i e)) ≡ true
-      → same_place (map f (drop i xs)) (map g (drop i ys)) ≡ same_place (map f xs) (map g ys)
-      → same_place (map f (drop (i + 1) xs)) (map g (drop (i + 1) ys)) ≡ same_place (map f xs) (map g ys)
-  same_next i d e lt le is h =
-      ap (λ b. b && same_place (map f (drop (i + 1) xs)) (map g (drop (i + 1) ys))) (sym is)
-      ∙ sym (λ j. same_place (map f (drop_more xs i d lt j)) (map g (drop_more ys i e le j))) ∙ h
-
-  pub same_not : (i : ℕ) (d : A) (e : B) → i < length xs → i < length ys → same_step (f (get_or xs i d)) (g (get_or ys i e)) ≡ false
-      → same_place (map f (drop i xs)) (map g (drop i ys)) ≡ same_place (map f xs) (map g ys)
-      → false ≡ same_place (map f xs) (map g ys)
-  same_not i d e lt le is h =
-      ap (λ b. b && same_place (map f (drop (i + 1) xs)) (map g (drop (i + 1) ys))) (sym is)
-      ∙ sym (λ j. same_place (map f (drop_more xs i d lt j)) (map g (drop_more ys i e le j))) ∙ h
-
-  pub same_end : (i : ℕ) → length xs ≤ i → length ys ≤ i
-      → same_place (map f (drop i xs)) (map g (drop i ys)) ≡ same_place (map f xs) (map g ys)
-      → true ≡ same_place (map f xs) (map g ys)
-  same_end i a b h = sym (λ j. same_place (map f (drop_all i xs a j)) (map g (drop_all i ys b j))) ∙ h
-
 -- ---- a location among others
-module _ {A : Type 0} (f : A → Place) (p : Place) (xs : List A) where
-  among_more : (i : ℕ) (d : A) → i < length xs
-      → is_among p (map f (drop i xs)) ≡ (same_place p (f (get_or xs i d)) || is_among p (map f (drop (i + 1) xs)))
-  among_more i d lt = ap (λ l. is_among p (map f l)) (drop_more xs i d lt)
-
-  pub among_next : (i : ℕ) (d : A) → i < length xs → same_place p (f (get_or xs i d)) ≡ false
-      → is_among p (map f (drop i xs)) ≡ is_among p (map f xs) → is_among p (map f (drop (i + 1) xs)) ≡ is_among p (map f xs)
-  among_next i d lt is h =
-      ap (λ b. b || is_among p (map f (drop (i + 1) xs))) (sym is) ∙ sym (among_more i d lt) ∙ h
-
-  pub among_here : (i : ℕ) (d : A) → i < length xs → same_place p (f (get_or xs i d)) ≡ true
-      → is_among p (map f (drop i xs)) ≡ is_among p (map f xs) → true ≡ is_among p (map f xs)
-  among_here i d lt is h =
-      ap (λ b. b || is_among p (map f (drop (i + 1) xs))) (sym is) ∙ sym (among_more i d lt) ∙ h
-
-  pub among_end : (i : ℕ) → length xs ≤ i → is_among p (map f (drop i xs)) ≡ is_among p (map f xs) → false ≡ is_among p (map f xs)
-  among_end i le h = sym (ap (λ l. is_among p (map f l)) (drop_all i xs le)) ∙ h
 
 -- one at an index is among them
 pub among_at : {A : Type 0} (f : A → Place) (p : Place) (xs : List A) (i : ℕ) (d : A) → i < length xs

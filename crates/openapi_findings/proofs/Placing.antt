@@ -1,5 +1,5 @@
 -- Findings at their positions, in the order in which they are shown.
-use Rattle.std.proofs.Common.{◌≡◌, ℕ, ◌<◌, ◌≤◌, List, [], ◌∷◌, ◌++◌, Option, Result, Ok, Err, IfOk, length, get_or, map, sym, ap, ◌∙◌, subst, refl, arith}
+use Rattle.std.proofs.Common.{◌≡◌, ℕ, ◌<◌, List, [], ◌∷◌, ◌++◌, Option, Result, Ok, Err, IfOk, length, get_or, map, sym, ap, ◌∙◌, subst, refl, arith}
 use Rattle.std.proofs.lemmas.List.{length-map, map-append}
 use Rattle.std.proofs.lemmas.List.Sorted.{IsPermutation-map}
 use Rattle.std.specs.List.{AllZip}
@@ -77,10 +77,6 @@ pub finds_next : (fs gs : List Finding) (f : Finding) (done : List Report) (r : 
 finds_next fs gs f done r n h s =
     ap (map finds) n ∙ map-append finds fs (f ∷ []) ∙ ap (λ l. l ++ finds f ∷ []) h ∙ ap (λ y. map states done ++ y ∷ []) s
     ∙ sym (map-append states done (r ∷ []))
-
--- a finding that is the only one
-pub one_found : (fs : List Finding) (s : Option Place × Code) → map finds fs ≡ s ∷ [] → length fs ≤ 1
-one_found fs s e = omega (arith, sym (length-map fs finds) ∙ ap length e)
 
 -- two facts of a result lead to a third
 pub if_ok_both : {T E : Type 0} {P Q R : T → Type 0} (r : Result T E) → ((x : T) → P x → Q x → R x) → IfOk r P → IfOk r Q → IfOk r R

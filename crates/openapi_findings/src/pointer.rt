@@ -1,9 +1,10 @@
 //! References within a document: JSON Pointers (RFC 6901) as fragments of a URI.
-ghost use Rattle.std.specs.Prelude.{◌≡◌, ◌<◌, ◌≤◌, encode_utf8, false, true, IfOk, IfSome, IsNone, MatchOption, None, Some, length, option_map, string_bytes};
+ghost use Rattle.std.specs.Prelude.{◌≡◌, ◌<◌, ◌≤◌, IfOk, IfSome, IsNone, Some};
 ghost use Rattle.std.specs.Option.{option_copied};
 ghost use Rattle.openapi_findings.specs.Pointers as spec;
 
 use openapi_node::{Node, Steps, View, find_member};
+use openapi_pointer::name_of;
 use percent_encoding::{DecodeError, percent_decode};
 use std::alloc::{AllocError, Global};
 
@@ -105,37 +106,4 @@ fn has_leading_zero(token: &[u8]) -> bool
     ensures { result ≡ spec.has_leading_zero token.now }
 {
     token.len() > 1 && token[0] == b'0'
-}
-
-/// Returns the name that a reference token writes: `~1` is `/` and `~0` is `~`. A token with another `~` writes none.
-fn name_of(alloc: Global, token: &str) -> Result<Option<String>, AllocError>
-    ensures { IfOk result (λ o. option_map string_bytes o ≡ spec.name_in token.now) }
-{
-    let mut name = String::new(alloc);
-    let mut left = token;
-    while let Some((before, after)) = left.split_once('~') {
-        name.push_str(before)?;
-        let Some((c, rest)) = escaped(after) else {
-            return Ok(None);
-        };
-        name.push(c)?;
-        left = rest;
-    }
-    name.push_str(left)?;
-    Ok(Some(name))
-}
-
-/// Returns the character that a reference token writes by `~` and the text behind it, and what follows.
-fn escaped(text: &str) -> Option<(char, &str)>
-    ensures shorter { IfSome result (λ x. length x.1.now < length text.now) }
-    ensures character { MatchOption result (spec.name_after true text.now ≡ None)
-        (λ x. spec.name_after true text.now ≡ spec.before_name (encode_utf8 x.0) (spec.name_after false x.1.now)) }
-{
-    if let Some(rest) = text.strip_prefix('0') {
-        return Some(('~', rest));
-    }
-    match text.strip_prefix('1') {
-        Some(rest) => Some(('/', rest)),
-        None => None,
-    }
 }

@@ -1,4 +1,4 @@
-use Rattle.std.proofs.Common.{◌++◌, map, ap, ◌∙◌, subst}
+use Rattle.std.proofs.Common.{map, subst}
 use Rattle.openapi_json.specs.Zeros.{replaced_of}
 use Rattle.openapi_faults.specs.Adds.{Adds}
 use Rattle.openapi_findings.specs.Numbers.{numbers_stated}

@@ -4,7 +4,6 @@ use Rattle.std.specs.List.{flat_map}
 use Rattle.openapi_json.specs.Zeros.{replaced_of}
 use Rattle.openapi_node.specs.Fault.{step_of}
 use Rattle.openapi_node.specs.declared.fault.PlaceStep.{PlaceStep}
-use Rattle.openapi_faults.specs.Limited.{limited_place}
 use Rattle.openapi_findings.specs.Numbers.{number_stated}
 use Rattle.openapi_findings.specs.Stated.{place_in_report, statement_of}
 use Rattle.openapi_findings.proofs.number_reports.reports_of.Goals as goal

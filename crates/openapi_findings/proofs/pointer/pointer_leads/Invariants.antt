@@ -1,7 +1,8 @@
 use Rattle.std.proofs.Common.{◌≡◌, length}
 use denote.Text.{Utf8}
 use denote.Shadow.{shadow}
-use Rattle.openapi_findings.specs.Pointers.{tokens_in, value_at}
+use Rattle.openapi_pointer.specs.Tokens.{tokens_in}
+use Rattle.openapi_findings.specs.Pointers.{value_at}
 use Rattle.openapi_findings.proofs.pointer.pointer_leads.Given as goal
 
 -- the rest of the pointer leads from where the tokens so far lead

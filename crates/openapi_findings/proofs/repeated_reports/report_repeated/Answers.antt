@@ -1,7 +1,5 @@
 use Rattle.std.proofs.Common.{◌++◌, map, sym, ap, ◌∙◌}
 use Rattle.json.specs.Json.{document}
-use Rattle.json.specs.Value.{value_view}
-use Rattle.openapi_json.specs.Ordered.{parsed}
 use Rattle.openapi_findings.specs.Stated.{statement_of}
 use Rattle.openapi_findings.proofs.Adding.{adds_none}
 use Rattle.openapi_findings.proofs.Repeating.{none_in_text}

@@ -1,8 +1,8 @@
 use Rattle.std.proofs.Common.{◌≡◌, ℕ, false, length, string_bytes}
 use denote.Text.{Utf8}
 use denote.Shadow.{shadow}
-use Rattle.openapi_findings.specs.Pointers.{before_name, name_after}
-use Rattle.openapi_findings.proofs.pointer.name_of.Given as goal
+use Rattle.openapi_pointer.specs.Tokens.{before_name, name_after}
+use Rattle.openapi_pointer.proofs.token.name_of.Given as goal
 
 -- the name so far is before that of the rest
 abbrev pub invariant-loop-before : goal.invariant-loop-before

@@ -1,5 +1,5 @@
-use Rattle.openapi_findings.proofs.Leading.{escapes_none}
-use Rattle.openapi_findings.proofs.pointer.escaped.Goals as goal
+use Rattle.openapi_pointer.proofs.Tokens.{escapes_none}
+use Rattle.openapi_pointer.proofs.token.escaped.Goals as goal
 
 pub returns-in-None-clause-character : goal.returns-in-None-clause-character
 unfolding lib.Utf8.encode

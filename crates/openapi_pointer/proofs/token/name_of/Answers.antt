@@ -1,6 +1,6 @@
 use Rattle.std.proofs.Common.{string_bytes, arith, lit<, rules}
-use Rattle.openapi_findings.proofs.Leading.{is_tilde, name_begins, name_ends, name_fails, name_next, shorter_after}
-use Rattle.openapi_findings.proofs.pointer.name_of.Goals as goal
+use Rattle.openapi_pointer.proofs.Tokens.{is_tilde, name_begins, name_ends, name_fails, name_next, shorter_after}
+use Rattle.openapi_pointer.proofs.token.name_of.Goals as goal
 
 pub loop-before-init : goal.loop-before-init
 loop-before-init c = record { utf8 = c.utf8.token; name = name_begins c.args.token.now _ c.new-name.ensures.bytes }

@@ -1,0 +1,100 @@
+//! Documents, of which references are resolved.
+ghost use Rattle.std.specs.Prelude.{◌≡◌, ◌≢◌, None, Some, IfOk, IfErr};
+ghost use Rattle.openapi_resolve.specs.Resolved.{component_of};
+ghost use Rattle.openapi_resolve.specs.declared.error.ResolveError.TheVariants.{OutOfMemory};
+
+use crate::chain::{follow, push};
+use crate::component::Component;
+use crate::error::ResolveError;
+use openapi_documents::OpenAPI;
+use openapi_values::ReferenceOr;
+
+/// What has components to which references lead: a document.
+pub trait Resolve {
+    ghost use Rattle.std.specs.Prelude.{◌≡◌, ◌≢◌, None, Some, IfOk, IfErr, Option};
+    ghost use Rattle.openapi_documents.specs.declared.components.Components.{Components};
+    ghost use Rattle.openapi_values.specs.Reference.{unboxed};
+    ghost use Rattle.openapi_resolve.specs.Resolved.{component_of, item_or};
+    ghost use Rattle.openapi_resolve.specs.declared.error.ResolveError.TheVariants.{OutOfMemory};
+
+    /// The components, if there are any.
+    ghost components_of: { Self → Option Components };
+
+    /// Returns the component to which a reference leads, such as `#/components/schemas/Pet`. A reference in the place of the component is
+    /// followed.
+    ///
+    /// # Errors
+    ///
+    /// Returns [`ResolveError::Missing`] or [`ResolveError::Cycle`] with the references that were followed, and
+    /// [`ResolveError::OutOfMemory`] if an allocation fails.
+    fn component<'a, T: Component>(&'a self, reference: &'a str) -> Result<&'a T, ResolveError>
+        ensures found { IfOk result (λ x.
+            component_of T.section_name T.in_section (components_of self.now) reference.now ≡ Some x.now) }
+        ensures missing { IfErr result (λ e. e ≢ OutOfMemory
+            → component_of T.section_name T.in_section (components_of self.now) reference.now ≡ None) };
+
+    /// Returns the item, or the component to which the reference in its place leads, as [`component`](Resolve::component) does.
+    ///
+    /// # Errors
+    ///
+    /// Returns the errors of [`component`](Resolve::component).
+    fn resolve<'a, T: Component>(&'a self, item: &'a ReferenceOr<T>) -> Result<&'a T, ResolveError>
+        ensures found { IfOk result (λ x.
+            item_or (component_of T.section_name T.in_section (components_of self.now)) item.now ≡ Some x.now) }
+        ensures missing { IfErr result (λ e. e ≢ OutOfMemory
+            → item_or (component_of T.section_name T.in_section (components_of self.now)) item.now ≡ None) }
+    {
+        match item {
+            ReferenceOr::Item(item) => Ok(item),
+            ReferenceOr::Reference { reference } => self.component(reference.as_str()),
+        }
+    }
+
+    /// Returns the same of an item in a box, as the properties of a schema are.
+    ///
+    /// # Errors
+    ///
+    /// Returns the errors of [`component`](Resolve::component).
+    fn resolve_boxed<'a, T: Component>(
+        &'a self,
+        item: &'a ReferenceOr<Box<T>>,
+    ) -> Result<&'a T, ResolveError>
+        ensures found { IfOk result (λ x.
+            item_or (component_of T.section_name T.in_section (components_of self.now)) (unboxed item.now) ≡ Some x.now) }
+        ensures missing { IfErr result (λ e. e ≢ OutOfMemory
+            → item_or (component_of T.section_name T.in_section (components_of self.now)) (unboxed item.now) ≡ None) }
+    {
+        match item {
+            ReferenceOr::Item(item) => Ok(item),
+            ReferenceOr::Reference { reference } => self.component(reference.as_str()),
+        }
+    }
+}
+
+impl Resolve for OpenAPI {
+    ghost components_of = { λ d. d.components };
+
+    fn component<'a, T: Component>(&'a self, reference: &'a str) -> Result<&'a T, ResolveError> {
+        component_in(self, reference)
+    }
+}
+
+/// Returns the component of a document to which a reference leads.
+fn component_in<'a, T: Component>(
+    document: &'a OpenAPI,
+    reference: &'a str,
+) -> Result<&'a T, ResolveError>
+    ensures found { IfOk result (λ x.
+        component_of T.section_name T.in_section document.now.components reference.now ≡ Some x.now) }
+    ensures missing { IfErr result (λ e. e ≢ OutOfMemory
+        → component_of T.section_name T.in_section document.now.components reference.now ≡ None) }
+{
+    match &document.components {
+        Some(components) => follow(T::all(components), T::section(), reference),
+        None => {
+            let mut chain = Vec::new(*document.extensions.allocator());
+            push(&mut chain, reference)?;
+            Err(ResolveError::Missing(chain))
+        }
+    }
+}

@@ -1,0 +1,12 @@
+//! Visiting the parts of an OpenAPI document.
+//!
+//! [`visit`] calls a method of a [`Visitor`] for each object of a document, with the location of the object. A visitor needs neither
+//! recursion nor a match on every type: it has the methods for what it looks for, and the others do nothing.
+#![tactic(auto)]
+
+mod part;
+mod parts;
+mod visitor;
+mod walk;
+
+pub use visitor::{Visitor, visit};

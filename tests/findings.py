@@ -1,12 +1,14 @@
 #!/usr/bin/env python3
-"""Makes random documents and schemas, and checks what `openapi_faults` finds in them.
+"""Makes random documents and schemas, and checks what `openapi_faults` finds in them, and what a visitor visits.
 
 usage: tests/findings.py [--unproved] [--seed N] [--count N]
 
 The maker is that of `tests/random_documents.py`, which makes values from OpenAPI's own tables. Of each value:
 - it has no fault, since it conforms;
 - with several faults planted, of which none hides another, exactly these are found;
-- members are dropped, and without them the value is normalized to the same text, and none is dropped any more.
+- members are dropped, and without them the value is normalized to the same text, and none is dropped any more;
+- a visitor of a document visits each object and each reference that OpenAPI's own tables have in its normalized text, an object before
+  the objects in it, and the references are those that `references` returns.
 Then come a fault below 120 levels, a hundred thousand faults in a list, and one under a name of a megabyte.
 
 The program is `openapi_cases`, as `bin/prove.py openapi_cases` built it; with --unproved as `bin/unproved.py openapi_cases` did.
@@ -20,7 +22,7 @@ import random
 import subprocess
 import sys
 
-from random_documents import Maker, with_fault
+from random_documents import Maker, kinds_of, with_fault
 
 TOP = os.path.dirname(os.path.dirname(os.path.realpath(__file__)))
 PROGRAM = f"{TOP}/crates/openapi_cases/out/openapi_cases"
@@ -68,6 +70,51 @@ def without(value, answer):
     return value
 
 
+# What a visitor visits, by the kinds of the tables.
+VISITED = {
+    "Components": "components", "PathItem": "path item", "Operation": "operation", "Parameter": "parameter",
+    "RequestBody": "request body", "Response": "response", "Header": "header", "MediaType": "media type", "Encoding": "encoding",
+    "Callback": "callback", "Schema": "schema", "Example": "example", "Link": "link", "SecurityScheme": "security scheme",
+}
+
+
+def visits(kind, value, at="#"):
+    """Yields a line for each object and each reference of a normalized value."""
+    if kind[0] == "&" or kind == "flag-or-schema":
+        kind = "Schema" if kind[0] == "f" else kind[1:]
+        if isinstance(value, dict) and isinstance(value.get("$ref"), str):
+            yield f"= reference {at} to {value['$ref']}"
+            return
+    if kind[0] in "[{" and value is not None:
+        pairs = enumerate(value) if isinstance(value, list) else value.items()
+        kinds = dict.fromkeys(value if isinstance(value, dict) else range(len(value)), kind[1:-1])
+    elif isinstance(value, dict) and kind not in ("any", "Security"):
+        if kind in VISITED:
+            yield f"= {VISITED[kind]} {at}"
+        pairs, kinds = value.items(), kinds_of(kind, value)
+    else:
+        return
+    for name, inner in pairs:
+        token = str(name).replace("~", "~0").replace("/", "~1")
+        yield from visits(kinds.get(name, "any"), inner, f"{at}/{token}")
+
+
+def above(line):
+    """Returns the location in a line, with an end that no token has."""
+    return line.partition("#")[2].partition(" to ")[0] + "/"
+
+
+def is_top_down(lines):
+    """Returns whether no object is visited after one in it."""
+    seen = set()
+    for line in lines:
+        at = above(line)
+        if at in seen:
+            return False
+        seen.update(at[: end + 1] for end, sign in enumerate(at) if sign == "/")
+    return True
+
+
 class Round:
     """A value, with faults that can be planted."""
 
@@ -85,10 +132,21 @@ class Round:
         faults, dropped = f"faults {self.kind}", f"dropped {self.kind}"
         return [(faults, self.value), (faults, self.broken), (dropped, self.value), (f"clean {self.kind}", self.value)]
 
-    def then(self, dropped):
-        """Returns what is asked of the value without the members that are dropped."""
+    def then(self, dropped, clean):
+        """Returns what is asked of the value without the members that are dropped, and of the normalized value."""
         value = without(self.value, dropped)
-        return [(f"dropped {self.kind}", value), (f"clean {self.kind}", value)]
+        asked = [(f"dropped {self.kind}", value), (f"clean {self.kind}", value)]
+        normalized = json.loads(clean[0].removeprefix("= ")) if self.kind == "OpenAPI" else None
+        return asked + ([("visited OpenAPI", normalized), ("references OpenAPI", normalized)] if normalized else asked)
+
+    def is_visited(self, clean, visited, references):
+        """Returns whether exactly what is in the normalized value was visited."""
+        if self.kind != "OpenAPI":
+            return True
+        wanted = sorted(visits("OpenAPI", json.loads(clean[0].removeprefix("= "))))
+        texts = [it.removeprefix("= reference ") for it in visited if it.startswith("= reference ")]
+        told = [it.removeprefix("= ").rpartition(" as ")[0] for it in references if it != "= none"]
+        return sorted(visited) == (wanted or ["= none"]) and sorted(texts) == sorted(told) and is_top_down(visited)
 
 
 def large():
@@ -119,8 +177,8 @@ def main():
     rounds = [Round(f"{asked.seed} {turn}", kind) for turn in range(asked.count) for kind in ("OpenAPI", "Schema")]
     first = ask(program, [it for round in rounds for it in round.requests()])
     answers = [first[at : at + 4] for at in range(0, len(first), 4)]
-    last = ask(program, [it for round, (_, _, dropped, _) in zip(rounds, answers) for it in round.then(dropped)])
-    passed = failed = planted = removed = 0
+    last = ask(program, [it for round, (_, _, dropped, clean) in zip(rounds, answers) for it in round.then(dropped, clean)])
+    passed = failed = planted = removed = visited = 0
     for at, (round, (none, faults, dropped, clean)) in enumerate(zip(rounds, answers)):
         wanted = sorted(f"! {it.said}" for it in round.planted) or ["= none"]
         planted += len(round.planted)
@@ -128,9 +186,11 @@ def main():
         found = {
             "a value that conforms has no fault": none == ["= none"],
             f"these faults are found: {wanted}, and not {faults}": sorted(faults) == wanted,
-            f"without what is dropped, nothing is: {last[2 * at]}": last[2 * at] == ["= none"],
-            "and the value is normalized to the same": last[2 * at + 1] == clean and clean[0].startswith("= "),
+            f"without what is dropped, nothing is: {last[4 * at]}": last[4 * at] == ["= none"],
+            "and the value is normalized to the same": last[4 * at + 1] == clean and clean[0].startswith("= "),
+            "and all of it is visited": round.is_visited(clean, last[4 * at + 2], last[4 * at + 3]),
         }
+        visited += len(last[4 * at + 2]) * (round.kind == "OpenAPI")
         for what, holds in found.items():
             passed, failed = passed + holds, failed + (not holds)
             if not holds and failed < 4:
@@ -140,10 +200,11 @@ def main():
         passed, failed = passed + (answer == lines), failed + (answer != lines)
         if answer != lines:
             print(f"FAILED: {words} of a large value: {len(answer)} lines came, as {answer[0][:200]}, and {len(lines)} were wanted")
-    if not planted or not removed:
-        print(f"FAILED: {planted} faults were planted, and {removed} members removed")
+    told = f"{planted} faults were planted, {removed} members removed, and {visited} objects and references visited"
+    if not planted or not removed or not visited:
+        print(f"FAILED: {told}")
         failed += 1
-    print(f"{planted} faults were planted, and {removed} members removed")
+    print(told)
     print(f"{passed} passed, {failed} failed")
     return 1 if failed else 0
 

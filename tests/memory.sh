@@ -69,7 +69,7 @@ if [ $# -gt 0 ]; then
 else
   for sample in schema responses refused document operation tag; do
     for call in from_value copy clone to_value into_value node_from_json json_from_node node_from_json_in_order \
-      json_from_node_in_order pretty_from_node pretty_from_node_in_order position_of position_below positions_of from_json from_node settle \
+      json_from_node_in_order pretty_from_node pretty_from_node_in_order position_of position_below positions_of from_json from_json_in_order from_node settle \
       to_node; do
       # (the refused one is never an object that could be written)
       if [ "$sample $call" != 'refused to_node' ]; then count "$call" "$sample"; fi
@@ -82,6 +82,8 @@ else
     for call in faults dropped_members; do count "$call" "$sample"; done
   done
   count references document
+  for call in to_json to_json_in_order to_json_pretty; do count "$call" document; done
+  count locate refused
   for call in ref_ boxed_item insert entry extend collect; do count "$call"; done
 fi
 echo "$all requests for memory were refused in all"

@@ -4,12 +4,14 @@ use crate::case::Case;
 use crate::empty::written_empty;
 use crate::findings::{agree_with, all_dropped, all_faults, all_references};
 use crate::functions::by_functions;
+use crate::objects::rewritten;
 use crate::row::Row;
 use crate::sorts::{operations, sort};
 use crate::table::{expected_of, full_object, other_objects};
 use crate::taken::{given, taken};
 use crate::texts::{by_name, in_order, ordered_text, position, positions, pretty, with_zeros};
 use crate::types::of_type;
+use crate::visited::visited;
 use openapi_test_support::trees::tree;
 use openapiv3::{Fault, Node, Settle, Steps, ToNode, json_from_node, node_from_json};
 use std::test::Fail;
@@ -43,6 +45,7 @@ pub fn answer(rt: &HostRuntime, case: &Case<'_>) -> Result<String, Fail> {
         "zeros" => with_zeros(rt, rest),
         "position" => position(rt, rest),
         "positions" => positions(rt, rest),
+        "to_json" | "to_json_in_order" | "to_json_pretty" => rewritten(rt, command, rest),
         "sort" => sort(rt, &tree(rt, rest)?),
         "operations" => operations(rt, &tree(rt, rest)?),
         "new" => told_if_known(rt, written_empty(rt, rest)),
@@ -64,6 +67,7 @@ fn typed(rt: &HostRuntime, command: &str, name: &str, node: &Node) -> Result<Str
         "faults" => all_faults(rt, name, node),
         "dropped" => all_dropped(rt, name, node),
         "references" => all_references(rt, name, node),
+        "visited" if name == "OpenAPI" => visited(rt, node),
         _ => Ok(String::from_str(rt.alloc(), "! no such command\n")?),
     }
 }

@@ -3,7 +3,7 @@
 use crate::marks::{Moment, mark};
 use crate::samples::Sample;
 use crate::told::{Told, told_by_growth};
-use crate::{findings, nodes, typed};
+use crate::{findings, nodes, objects, typed};
 use openapi_test_support::trees::tree;
 use openapiv3::{Node, OpenAPI, Operation, OrderedMap, ReferenceOr, Responses, Schema, Tag};
 use std::alloc::{AllocError, Global};
@@ -50,6 +50,8 @@ pub fn on_sample(rt: &HostRuntime, call: &str, sample: Sample) -> Result<Told, F
         "faults" => findings::faults_of(rt, sample),
         "dropped_members" => findings::dropped_of(rt, sample),
         "references" => findings::references_of(rt, sample),
+        "to_json" | "to_json_in_order" | "to_json_pretty" => objects::written(rt, call, sample),
+        "locate" => objects::locate(rt, sample),
         "from_owned_node" => match sample {
             Sample::Schema => typed::from_owned_node::<Schema>(rt, sample),
             Sample::Document => typed::from_owned_node::<OpenAPI>(rt, sample),

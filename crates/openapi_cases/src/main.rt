@@ -18,6 +18,7 @@ mod functions;
 mod kinds;
 mod marks;
 mod nodes;
+mod objects;
 mod row;
 mod samples;
 mod sorts;
@@ -27,6 +28,7 @@ mod texts;
 mod told;
 mod typed;
 mod types;
+mod visited;
 
 use answer::{answer, answer_line};
 use case::{Case, cases_of};

@@ -8,7 +8,11 @@ use openapiv3::{
 use std::test::Fail;
 
 /// The answer of a line of text.
-fn told(rt: &HostRuntime, text: &str) -> Result<String, Fail> {
+///
+/// # Errors
+///
+/// `Fail` when memory runs out.
+pub fn told(rt: &HostRuntime, text: &str) -> Result<String, Fail> {
     Ok(format!(in rt.alloc(); "= {text}\n")?)
 }
 
@@ -184,7 +188,11 @@ pub fn positions(rt: &HostRuntime, request: &str) -> Result<String, Fail> {
 }
 
 /// Returns a text with a line feed for each `↵`, a carriage return for each `␍` and a tab for each `⇥`.
-fn spelled_out(rt: &HostRuntime, text: &str) -> Result<String, Fail> {
+///
+/// # Errors
+///
+/// `Fail` when memory runs out.
+pub fn spelled_out(rt: &HostRuntime, text: &str) -> Result<String, Fail> {
     let text = text.replace(rt.alloc(), "↵", "\n")?;
     let text = text.as_str().replace(rt.alloc(), "␍", "\r")?;
     Ok(text.as_str().replace(rt.alloc(), "⇥", "\t")?)

@@ -5,7 +5,10 @@ use crate::nodes::told_by_json_fault;
 use crate::samples::Sample;
 use crate::told::{Told, told_by, told_by_fault, told_by_value};
 use openapi_test_support::trees::{fault_text, tree};
-use openapiv3::{Fault, FromNode, IntoNode, Node, ReadError, Settle, Steps, ToNode};
+use openapiv3::{
+    Fault, FromNode, IntoNode, Node, ReadError, Settle, Steps, ToNode, from_json,
+    from_json_in_order,
+};
 use std::test::Fail;
 
 /// What comes of a call that is made on a sample, which is read as a `T`.
@@ -22,7 +25,7 @@ pub fn on_sample<T: ToNode + Clone + PartialEq + Drop>(
         "from_node" => from_node::<T>(rt, sample),
         "to_node" => to_node::<T>(rt, sample),
         "settle" => settle::<T>(rt, sample),
-        "from_json" => from_json::<T>(rt, sample),
+        "from_json" | "from_json_in_order" => from_text::<T>(rt, call, sample),
         _ => Err(Fail::new("no such call")),
     }
 }
@@ -44,16 +47,27 @@ fn from_node<T: ToNode + Drop>(rt: &HostRuntime, sample: Sample) -> Result<Told,
     Ok(told.if_kept(&node, &before))
 }
 
-/// Reads JSON text. What was read is told by what is written of it.
-fn from_json<T: ToNode + Drop>(rt: &HostRuntime, sample: Sample) -> Result<Told, Fail> {
+/// Reads JSON text by the function of this name. What was read is told by what is written of it.
+fn from_text<T: ToNode + Drop>(rt: &HostRuntime, call: &str, sample: Sample) -> Result<Told, Fail> {
     let alloc = rt.alloc();
+    let bytes = sample.text().as_bytes();
+    let is_by_name = call == "from_json";
+    let wanted = if is_by_name {
+        sample.cleaned_by_name()
+    } else {
+        sample.cleaned()
+    };
     let mut steps = Steps::new(rt);
     mark(alloc, Moment::CallBegins)?;
-    let answer = openapiv3::from_json::<T>(alloc, sample.text().as_bytes(), &mut steps);
+    let answer = if is_by_name {
+        from_json::<T>(alloc, bytes, &mut steps)
+    } else {
+        from_json_in_order::<T>(alloc, bytes, &mut steps)
+    };
     mark(alloc, Moment::CallEnds)?;
     match answer {
-        Ok(value) => told_by_tree(rt, value.to_node(alloc), sample.cleaned_by_name()),
-        Err(ReadError::Refused(fault)) => told_by_tree(rt, Err(fault), sample.cleaned_by_name()),
+        Ok(value) => told_by_tree(rt, value.to_node(alloc), wanted),
+        Err(ReadError::Refused(fault)) => told_by_tree(rt, Err(fault), wanted),
         Err(ReadError::Json(fault)) => Ok(told_by_json_fault(&fault)),
     }
 }

@@ -28,6 +28,8 @@ mod readme_tests;
 #[cfg(test)]
 mod refused;
 #[cfg(test)]
+mod resolved;
+#[cfg(test)]
 mod values;
 #[cfg(test)]
 mod walked;

@@ -1,22 +1,24 @@
 //! The example of the README, word for word: `tests/readme.py` compares the two.
 
-use openapiv3::{ReadError, Schema, SchemaKind, Steps, Type, from_json};
-use std::alloc::{AllocError, Global};
+use anyhow::{Result, bail};
+use openapiv3::{OpenAPI, Steps, from_json_in_order, to_json_pretty};
+use std::alloc::Global;
 
-/// The schema that bytes hold as JSON.
-pub fn read_schema(alloc: Global, bytes: &[u8], steps: &mut Steps) -> Result<Schema, ReadError> {
-    from_json(alloc, bytes, steps)
-}
-
-/// The required names of which the schema declares no property, in their order.
-pub fn undeclared(alloc: Global, schema: &Schema) -> Result<Vec<&str>, AllocError> {
-    let mut names = Vec::new(alloc);
-    if let SchemaKind::Typed(Type::Object(object)) = &schema.schema_kind {
-        for name in object.required.iter() {
-            if !object.properties.contains_key(name.as_str()) {
-                names.push(name.as_str())?;
-            }
+/// Returns the text of a document with another version of the API.
+pub fn with_version(
+    alloc: Global,
+    bytes: &[u8],
+    version: &str,
+    steps: &mut Steps,
+) -> Result<String> {
+    let version = String::from_str(alloc, version)?;
+    let mut document: OpenAPI = match from_json_in_order(alloc, bytes, steps) {
+        Ok(document) => document,
+        Err(error) => {
+            let located = error.locate(alloc, bytes)?;
+            bail!("{located}")
         }
-    }
-    Ok(names)
+    };
+    document.info.version = version;
+    Ok(to_json_pretty(alloc, &document, steps)?)
 }

@@ -1,53 +1,46 @@
 //! What the example of the README does.
-use crate::readme::{read_schema, undeclared};
+use crate::readme::with_version;
 use openapi_test_support::trees::check_same;
-use openapiv3::{Schema, Steps};
+use openapiv3::Steps;
 use std::test::Fail;
 
-// `required` names a property that is there and two that are not; unknown names are ignored.
-const SCHEMA: &[u8] =
-    br#"{"type":"object","wat":1,"required":["c","a","b"],"properties":{"a":{"type":"string"}}}"#;
-
-/// That a schema requires names that it does not declare.
-fn check_undeclared(rt: &HostRuntime, schema: &Schema, wanted: &[&str]) -> Result<(), Fail> {
-    let names = undeclared(rt.alloc(), schema)?;
-    if names.as_slice() != wanted {
-        return Err(Fail::from("other names"));
-    }
-    Ok(())
-}
-
-#[test]
-fn readme_example_finds_undeclared_names(rt: HostRuntime) -> Result<(), Fail> {
-    let mut steps = Steps::new(&rt);
-    match read_schema(rt.alloc(), SCHEMA, &mut steps) {
-        Ok(schema) => check_undeclared(&rt, &schema, ["c", "b"].as_slice()),
-        Err(_) => Err(Fail::from("a schema is refused")),
-    }
-}
-
-/// Why bytes are refused, or what else came of them.
-fn refusal(rt: &HostRuntime, bytes: &[u8]) -> Result<String, Fail> {
+/// Checks what the example returns for a text and the version 2, or the error that it prints.
+fn check(rt: &HostRuntime, bytes: &[u8], wanted: &str) -> Result<(), Fail> {
     let mut steps = Steps::new(rt);
-    match read_schema(rt.alloc(), bytes, &mut steps) {
-        Ok(_) => Ok(String::from_str(rt.alloc(), "read")?),
-        Err(error) => Ok(format!(in rt.alloc(); "{error}")?),
+    match with_version(rt.alloc(), bytes, "2", &mut steps) {
+        Ok(text) => check_same(rt, text.as_str(), wanted),
+        Err(error) => check_same(rt, format!(in rt.alloc(); "{error}")?.as_str(), wanted),
     }
 }
 
 #[test]
-fn readme_example_refuses_what_is_no_schema(rt: HostRuntime) -> Result<(), Fail> {
-    let text = refusal(&rt, b"{\"items\":5}")?;
-    check_same(
+fn readme_example_changes_the_version_alone(rt: HostRuntime) -> Result<(), Fail> {
+    check(
         &rt,
-        text.as_str(),
-        "invalid type, expected object at #/items",
-    )?;
-    check_same(
+        br#"{"openapi":"3.0.3","x-b":1,"info":{"version":"1","title":"t"},"paths":{"/b":{},"/a":{}},"x-a":2}"#,
+        r#"{
+  "openapi": "3.0.3",
+  "info": {
+    "title": "t",
+    "version": "2"
+  },
+  "paths": {
+    "/b": {},
+    "/a": {}
+  },
+  "x-b": 1,
+  "x-a": 2
+}"#,
+    )
+}
+
+#[test]
+fn readme_example_prints_where_an_error_is(rt: HostRuntime) -> Result<(), Fail> {
+    check(
         &rt,
-        refusal(&rt, b"{\"minimum\":0.5}")?.as_str(),
-        "number not whole at #/minimum",
+        b"{\"openapi\":\"3.0.3\",\n \"info\":{\"title\":7,\"version\":\"1\"},\"paths\":{}}",
+        "2:18: invalid type, expected text at #/info/title",
     )?;
-    check_same(&rt, refusal(&rt, b"{")?.as_str(), "not JSON")?;
-    check_same(&rt, refusal(&rt, b"\"\xff\"")?.as_str(), "not JSON")
+    check(&rt, b"{", "not JSON")?;
+    check(&rt, b"\"\xff\"", "not JSON")
 }

@@ -1,12 +1,14 @@
 //! The typed objects of OpenAPI 3.0.x, each read from a tree and written as one, by the tables of `openapi_tables`.
 //!
-//! [`from_json`] reads an object of JSON text. A document that is a [`Node`] already, a JSON value whose numbers are whole,
-//! is read by [`FromNode::from_node`], which refuses with a [`Fault`]: it names a place and a rule that is broken at that
-//! very place. [`ToNode::to_node`] writes the object.
+//! [`from_json`] reads an object from JSON text, and [`to_json`] writes it. A document that is a [`Node`] already, a JSON value
+//! whose numbers are whole, is read by [`FromNode::from_node`], which returns a [`Fault`] with a location and a rule that is
+//! broken there. [`ToNode::to_node`] writes the object as a [`Node`].
 #![tactic(auto)]
 
 pub mod laws;
+mod located;
 mod read;
+mod write;
 
 // 4.7.1 OpenAPI Object: a whole document, and all its operations.
 pub use openapi_documents::{OpenAPI, Operations};
@@ -131,14 +133,24 @@ pub use openapi_node::{
     Cause, Expected, Fault, Node, PlaceStep, Pointer, ReferenceToken, Steps, View, Whole,
 };
 
+// References: resolved to the components to which they lead.
+pub use openapi_resolve::{Component, Resolve, ResolveError};
+
+// Visitors: a method for each object of a document, with its location.
+pub use openapi_visit::{Visitor, visit};
+
 // Traits that read and write, and what they ask of flags and of words of a set.
 pub use openapi_fields::{FromNode, IntoNode, Referable, Settle, ToNode};
 pub use openapi_values::{Word, is_false};
 
-// JSON text: to nodes and back, by name or in order, where its values stand, and typed objects from it in one call.
+// JSON text of typed objects: read and written in one call each, and errors with their position.
+pub use located::LocatedError;
+pub use read::{ReadError, from_json, from_json_in_order};
+pub use write::{to_json, to_json_in_order, to_json_pretty};
+
+// JSON text of nodes: to nodes and back, by name or in order, and where its values are.
 pub use openapi_json::{
     JsonFault, Point, Position, ReplacedNumber, WithZeros, json_from_node, json_from_node_in_order,
     node_from_json, node_from_json_in_order, node_with_zeros_in_order, position_of, positions_of,
     pretty_from_node, pretty_from_node_in_order,
 };
-pub use read::{ReadError, from_json};

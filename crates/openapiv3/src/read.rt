@@ -1,20 +1,24 @@
 //! Typed objects from JSON text.
 ghost use Rattle.std.specs.Prelude.{◌≡◌, IfOk, IfErr};
+ghost use Rattle.openapi_json.specs.Ordered.{IsTreeInOrder};
+ghost use Rattle.openapi_json.specs.Reading.{IsTreeOfText};
 ghost use Rattle.openapiv3.specs.Read.{Explains, IsReadOf};
 
 use openapi_fields::FromNode;
-use openapi_json::{JsonFault, node_from_json};
+use openapi_json::{JsonFault, node_from_json, node_from_json_in_order};
 use openapi_node::{Fault, Steps};
 use std::alloc::Global;
 use thiserror::Error;
 
-/// Why bytes were not read as an object of OpenAPI. It prints as one line of text: what is wrong, and where.
+/// Why bytes were not read as an object of OpenAPI. It prints as one line of text: what is wrong, and the JSON Pointer of the
+/// value. [`ReadError::locate`] adds its line and column.
 #[derive(Debug, Drop, Error, PartialEq)]
 pub enum ReadError {
-    /// The bytes are not UTF-8 or no JSON, or a number in them is not whole; or memory ran out.
+    /// The bytes are not UTF-8 or no JSON, or a number in them is not whole; or an allocation failed.
     #[error("{0}")]
     Json(JsonFault),
-    /// The bytes are JSON, and not the object that was asked for; or memory ran out. The fault tells which, and where.
+    /// The bytes are JSON, and not the object that was expected; or an allocation failed. The fault has the location and the
+    /// rule that is broken there.
     #[error("{0}")]
     Refused(Fault),
 }
@@ -39,17 +43,39 @@ impl From<Fault> for ReadError {
     }
 }
 
-/// Reads an object of OpenAPI from JSON text. Err tells whether the bytes are no JSON or no such object, with the place
-/// and the rule that is broken there; or memory ran out.
+/// Reads an object of OpenAPI from JSON text, with the entries of each map in the order of their names.
+///
+/// # Errors
+///
+/// Returns [`ReadError::Json`] if the bytes are no JSON in UTF-8 or a number in them is not whole, and [`ReadError::Refused`] with
+/// a location and the rule that is broken there if the JSON is no such object. Each of them also reports an allocation failure.
 pub fn from_json<T: FromNode>(
     alloc: Global,
     bytes: &[u8],
     steps: &mut Steps,
 ) -> Result<T, ReadError>
-    ensures reads { IfOk result (λ x. IsReadOf T.form_of x T.kind bytes.now steps.old steps.new) }
-    ensures refuses { IfErr result (Explains T.kind bytes.now steps.old steps.new) }
+    ensures reads { IfOk result (λ x. IsReadOf IsTreeOfText T.form_of x T.kind bytes.now steps.old steps.new) }
+    ensures refuses { IfErr result (Explains IsTreeOfText T.kind bytes.now steps.old steps.new) }
 {
     let tree = node_from_json(alloc, bytes)?;
     let value = T::from_owned_node(alloc, tree, steps)?;
+    Ok(value)
+}
+
+/// Reads an object of OpenAPI from JSON text as [`from_json`] does, but with the entries of each map in the order of the text.
+///
+/// # Errors
+///
+/// Returns the errors of [`from_json`].
+pub fn from_json_in_order<T: FromNode>(
+    alloc: Global,
+    bytes: &[u8],
+    steps: &mut Steps,
+) -> Result<T, ReadError>
+    ensures reads { IfOk result (λ x. IsReadOf IsTreeInOrder T.form_of x T.kind bytes.now steps.old steps.new) }
+    ensures refuses { IfErr result (Explains IsTreeInOrder T.kind bytes.now steps.old steps.new) }
+{
+    let node = node_from_json_in_order(alloc, bytes)?;
+    let value = T::from_owned_node(alloc, node, steps)?;
     Ok(value)
 }

@@ -1,0 +1,157 @@
+//! References that are resolved to components.
+use openapi_test_support::trees::check_same;
+use openapiv3::{
+    OpenAPI, ReferenceOr, Resolve, ResolveError, Response, Schema, SchemaKind, Steps, Type,
+    from_json,
+};
+use std::test::Fail;
+
+const DOCUMENT: &str =
+    r##"{"openapi":"3.0.3","info":{"title":"t","version":"1"},"paths":{},"components":{
+    "schemas":{
+        "Pet":{"title":"pet"},"Alias":{"$ref":"#/components/schemas/Pet"},"a/b~c":{"title":"odd"},"é":{"title":"accent"},
+        "Start":{"$ref":"#/components/schemas/Loop"},"Loop":{"$ref":"#/components/schemas/B%61ck"},
+        "Back":{"$ref":"#/components/schemas/Loop"},"Gone":{"$ref":"#/components/schemas/Nowhere"},
+        "Owner":{"type":"object","properties":{"pet":{"$ref":"#/components/schemas/Alias"},"own":{"title":"own"}}}
+    },
+    "responses":{"Pet":{"description":"a response"}}}}"##;
+
+/// Returns the document of the tests.
+fn document(rt: &HostRuntime) -> Result<OpenAPI, Fail> {
+    let mut steps = Steps::new(rt);
+    match from_json(rt.alloc(), DOCUMENT.as_bytes(), &mut steps) {
+        Ok(document) => Ok(document),
+        Err(_) => Err(Fail::from("the document is refused")),
+    }
+}
+
+/// Returns the title of a schema, or the error.
+fn title(rt: &HostRuntime, found: Result<&Schema, ResolveError>) -> Result<String, Fail> {
+    match found {
+        Ok(schema) => match &schema.schema_data.title {
+            Some(title) => Ok(title.clone()?),
+            None => Ok(String::from_str(rt.alloc(), "no title")?),
+        },
+        Err(error) => Ok(format!(in rt.alloc(); "{error}")?),
+    }
+}
+
+/// Checks to which schema a reference leads, by its title, or which error there is.
+fn check(rt: &HostRuntime, document: &OpenAPI, reference: &str, wanted: &str) -> Result<(), Fail> {
+    let text = title(rt, document.component(reference))?;
+    check_same(rt, text.as_str(), wanted)
+}
+
+#[test]
+fn references_lead_to_components(rt: HostRuntime) -> Result<(), Fail> {
+    let document = document(&rt)?;
+    for (reference, wanted) in [
+        ("#/components/schemas/Pet", "pet"),
+        ("#/components/schemas/Alias", "pet"),
+        ("#/components/schemas/a~1b~0c", "odd"),
+        ("#/components/schemas/%C3%A9", "accent"),
+        ("#/components/schemas/é", "accent"),
+        ("#/components%2Fschemas/P%65t", "pet"),
+        ("#/components/schemas/Owner", "no title"),
+    ] {
+        check(&rt, &document, reference, wanted)?;
+    }
+    Ok(())
+}
+
+#[test]
+fn references_lead_nowhere(rt: HostRuntime) -> Result<(), Fail> {
+    let document = document(&rt)?;
+    for reference in [
+        "#/components/schemas/No",
+        "#/components/responses/Pet",
+        "other.json#/components/schemas/Pet",
+        "#/components/schemas/Pet/properties/a",
+        "#/components/schemas",
+        "#/components/schemas/%FF",
+        "#/components/schemas/a~2",
+        "#/components/schemas/a/b~0c",
+        "/components/schemas/Pet",
+        "Pet",
+        "",
+    ] {
+        let wanted = format!(in rt.alloc(); "{reference} leads to no component of its kind")?;
+        check(&rt, &document, reference, wanted.as_str())?;
+    }
+    check(
+        &rt,
+        &document,
+        "#/components/schemas/Gone",
+        "#/components/schemas/Gone -> #/components/schemas/Nowhere leads to no component of its kind",
+    )
+}
+
+#[test]
+fn chains_end_in_cycles(rt: HostRuntime) -> Result<(), Fail> {
+    let document = document(&rt)?;
+    check(
+        &rt,
+        &document,
+        "#/components/schemas/Loop",
+        "#/components/schemas/Loop -> #/components/schemas/B%61ck -> #/components/schemas/Loop is a cycle",
+    )?;
+    check(
+        &rt,
+        &document,
+        "#/components/schemas/Start",
+        "#/components/schemas/Start -> #/components/schemas/Loop -> #/components/schemas/B%61ck -> #/components/schemas/Loop is a cycle",
+    )
+}
+
+#[test]
+fn each_section_has_its_own_components(rt: HostRuntime) -> Result<(), Fail> {
+    let document = document(&rt)?;
+    let found: Result<&Response, ResolveError> = document.component("#/components/responses/Pet");
+    match found {
+        Ok(response) => check_same(&rt, response.description.as_str(), "a response"),
+        Err(_) => Err(Fail::from("the response is not found")),
+    }
+}
+
+#[test]
+fn documents_without_components_have_none(rt: HostRuntime) -> Result<(), Fail> {
+    let document = OpenAPI::new(rt.alloc());
+    check(
+        &rt,
+        &document,
+        "#/components/schemas/Pet",
+        "#/components/schemas/Pet leads to no component of its kind",
+    )
+}
+
+#[test]
+fn properties_are_resolved(rt: HostRuntime) -> Result<(), Fail> {
+    let document = document(&rt)?;
+    let owner: &Schema = match document.component("#/components/schemas/Owner") {
+        Ok(owner) => owner,
+        Err(_) => return Err(Fail::from("the owner is not found")),
+    };
+    let SchemaKind::Typed(Type::Object(object)) = &owner.schema_kind else {
+        return Err(Fail::from("the owner is no object"));
+    };
+    let mut titles = String::new(rt.alloc());
+    for (name, property) in object.properties.iter() {
+        let found = title(&rt, document.resolve_boxed(property))?;
+        titles.push_str(format!(in rt.alloc(); "{name}: {} ", found.as_str())?.as_str())?;
+    }
+    check_same(&rt, titles.as_str(), "own: own pet: pet ")
+}
+
+#[test]
+fn items_are_their_own_targets(rt: HostRuntime) -> Result<(), Fail> {
+    let document = document(&rt)?;
+    let alias = ReferenceOr::ref_(rt.alloc(), "#/components/schemas/Alias")?;
+    check_same(&rt, title(&rt, document.resolve(&alias))?.as_str(), "pet")?;
+    let Some(components) = &document.components else {
+        return Err(Fail::from("there are no components"));
+    };
+    let Some(pet) = components.schemas.get("Pet") else {
+        return Err(Fail::from("there is no pet"));
+    };
+    check_same(&rt, title(&rt, document.resolve(pet))?.as_str(), "pet")
+}

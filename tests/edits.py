@@ -41,9 +41,9 @@ No body is seen by the proof of another function. So the verdict on a mutation i
   lemmas too;
 - what the function can see of the crate's sources: the heads of functions that it names, with their contracts; the types,
   traits, constants and macros that are named in any of this; and what stands beside the functions in the traits and impls of
-  these. An impl counts where all that its head has of the crate is named. If it is of a trait, the heads of its functions
-  count too, since an operator, a loop or a `?` calls one without its name;
-- what the files of all this take from elsewhere under a name that stands in it.
+  these. An impl counts where all that its head has of the crate is named, and if it is of no trait, where one of its functions is
+  named too. If it is of a trait, the heads of its functions count, since an operator, a loop or a `?` calls one without its name;
+- what the files of all this import under a name, or as an operator, that is written in it.
 Lemmas do not count: a lemma means what its statement says, and is proved. Any other mutation (of a definition, a constant,
 several functions, ..) rests on all sources, specs and proofs of the crate. Other crates do not count.
 
@@ -194,6 +194,14 @@ def cut(lines, indent):
     return items + [item] * bool(item)
 
 
+def is_written(path, text):
+    """Returns whether a text, if there is one, may write what a path of a `use` brings that is no plain word. It writes no operator
+    of which it lacks a symbol."""
+    operator = re.split(r"[. ]", path)[-1]
+    symbols = operator.split("◌") if "◌" in operator or operator == "[]" else []
+    return text is not None and ("{" in path or all(it in text for it in symbols))
+
+
 class Item:
     """A function, a definition, a macro, a block (an impl or a trait) or a `use` of a source: its kind and name, its file and
     the block that it stands in, its text with its attributes, and its head, which is what others see of it. The head of a
@@ -223,6 +231,9 @@ class Item:
     def is_met(self, called, known):
         """Returns whether the proof of a function may see this item, if the function has the first names in its text, and
         these and what was met so far the second."""
+        if self.kind == "impl" and " for " not in self.opening:
+            # No operator, loop or `?` calls a function of such an impl, so without its name none is seen.
+            return self.needs <= known and any(it.name in called for it in self.items if it.kind == "fn")
         if self.kind == "impl":
             return self.needs <= known
         if self.kind == "trait":
@@ -291,13 +302,14 @@ class Sources:
     def of_function(self, function):
         """Returns the texts that the refusal of an edit in the body of this function rests on, each with its place."""
         found = [(it.file, it.text if it is function.item else it.head) for it in self.met_by(function.item)]
-        said = {}
+        said, texts = {}, {}
         for file, text in found:
             said.setdefault(file, set()).update(words(text))
+            texts[file] = texts.get(file, "") + text
         every = set().union(*said.values())
         for file, paths in self.uses:
             for path, name in paths.items():
-                if name in (every if path.startswith("pub") else said.get(file, ())) or name is None and file in said:
+                if name in (every if path.startswith("pub") else said.get(file, ())) or name is None and is_written(path, texts.get(file)):
                     found.append((file, path))
         proofs = [it for it in self.seen.items() if function.is_proved_in(it[0])]
         return found + proofs + self.specs_of(text for _, text in (*found, *proofs))

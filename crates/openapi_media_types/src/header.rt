@@ -1,6 +1,6 @@
 //! The Header Object.
 ghost use Rattle.std.proofs.Common.{refl};
-ghost use Rattle.std.specs.Prelude.{◌+◌, ◌≤◌, ◌*◌};
+ghost use Rattle.std.specs.Prelude.{◌≡◌, ◌+◌, ◌≤◌, ◌*◌, [], None, false};
 ghost use Rattle.openapi_node.specs.Tree.{size_of};
 ghost use Rattle.openapi_tables.specs.Kind.{by, header, ref_to};
 ghost use Rattle.openapi_values.specs.Reference.{reference_form};
@@ -39,6 +39,34 @@ pub struct Header {
     pub examples: OrderedMap<ReferenceOr<Example>>,
     /// Extensions: the members whose names begin with `x-`, in their order.
     pub extensions: OrderedMap<Node>,
+}
+
+impl Header {
+    ghost use Rattle.openapi_media_types.specs.declared.header.Header.{out-Header};
+    ghost use Rattle.openapi_values.specs.declared.parameter.HeaderStyle.TheVariants.{Simple};
+
+    /// Creates a header that is not required, described by a schema or by its content. The style is the default one.
+    pub fn new(alloc: Global, format: ParameterSchemaOrContent) -> Header
+        ensures description { (out-Header result).description ≡ None }
+        ensures style { (out-Header result).style ≡ Simple }
+        ensures required { (out-Header result).required ≡ false }
+        ensures deprecated { (out-Header result).deprecated ≡ None }
+        ensures example { (out-Header result).example ≡ None }
+        ensures format { (out-Header result).format ≡ format }
+        ensures examples { (out-Header result).examples ≡ [] }
+        ensures extensions { (out-Header result).extensions ≡ [] }
+    {
+        Header {
+            description: None,
+            style: HeaderStyle::Simple,
+            required: false,
+            deprecated: None,
+            example: None,
+            format,
+            examples: OrderedMap::new(alloc),
+            extensions: OrderedMap::new(alloc),
+        }
+    }
 }
 
 impl Object for Header {

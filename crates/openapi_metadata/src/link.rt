@@ -1,5 +1,5 @@
 //! The Link Object.
-ghost use Rattle.std.specs.Prelude.{◌+◌, ◌≤◌, ◌*◌};
+ghost use Rattle.std.specs.Prelude.{◌≡◌, ◌+◌, ◌≤◌, ◌*◌, [], None};
 ghost use Rattle.openapi_node.specs.Tree.{size_of};
 ghost use Rattle.openapi_tables.specs.Kind.{by, link, ref_to};
 ghost use Rattle.openapi_values.specs.Reference.{reference_form};
@@ -34,6 +34,27 @@ pub struct Link {
     pub request_body: Option<Node>,
     /// The server to be used for the operation.
     pub server: Option<Server>,
+}
+
+impl Link {
+    /// Creates a link to an operation, which is required. Everything else is `None` or empty.
+    pub fn new(alloc: Global, operation: LinkOperation) -> Link
+        ensures description { result.description ≡ None }
+        ensures operation { result.operation ≡ operation }
+        ensures parameters { result.parameters ≡ [] }
+        ensures extensions { result.extensions ≡ [] }
+        ensures request_body { result.request_body ≡ None }
+        ensures server { result.server ≡ None }
+    {
+        Link {
+            description: None,
+            operation,
+            parameters: OrderedMap::new(alloc),
+            extensions: OrderedMap::new(alloc),
+            request_body: None,
+            server: None,
+        }
+    }
 }
 
 impl Object for Link {

@@ -1,6 +1,6 @@
 //! The Parameter Object.
 ghost use Rattle.std.proofs.Common.{refl};
-ghost use Rattle.std.specs.Prelude.{◌≡◌, ◌+◌, ◌≤◌, ◌*◌, codes};
+ghost use Rattle.std.specs.Prelude.{◌≡◌, ◌+◌, ◌≤◌, ◌*◌, None, codes, false, true};
 ghost use Rattle.openapi_node.specs.Tree.{size_of};
 ghost use Rattle.openapi_tables.specs.Kind.{ref_to};
 ghost use Rattle.openapi_tables.specs.Tables.{parameter};
@@ -61,6 +61,56 @@ pub enum Parameter {
 }
 
 impl Parameter {
+    ghost use Rattle.openapi_parameters.specs.declared.parameter.Parameter.TheVariants as parameters;
+    ghost use Rattle.openapi_values.specs.declared.parameter.QueryStyle.TheVariants as query_styles;
+    ghost use Rattle.openapi_values.specs.declared.parameter.HeaderStyle.TheVariants as header_styles;
+    ghost use Rattle.openapi_values.specs.declared.parameter.PathStyle.TheVariants as path_styles;
+    ghost use Rattle.openapi_values.specs.declared.parameter.CookieStyle.TheVariants as cookie_styles;
+
+    /// Creates a parameter in the query of the URL, in the default style.
+    pub fn query(parameter_data: ParameterData) -> Parameter
+        ensures { result ≡ parameters.Query parameter_data false query_styles.Form None }
+    {
+        Parameter::Query {
+            parameter_data,
+            allow_reserved: false,
+            style: QueryStyle::Form,
+            allow_empty_value: None,
+        }
+    }
+
+    /// Creates a parameter in a header of the request, in the default style.
+    pub fn header(parameter_data: ParameterData) -> Parameter
+        ensures { result ≡ parameters.Header parameter_data header_styles.Simple }
+    {
+        Parameter::Header {
+            parameter_data,
+            style: HeaderStyle::Simple,
+        }
+    }
+
+    /// Creates a parameter in the path of the URL, in the default style. It is required, as OpenAPI wants it.
+    pub fn path(parameter_data: ParameterData) -> Parameter
+        ensures { result ≡ parameters.Path (record parameter_data { required = true }) path_styles.Simple }
+    {
+        let mut parameter_data = parameter_data;
+        parameter_data.required = true;
+        Parameter::Path {
+            parameter_data,
+            style: PathStyle::Simple,
+        }
+    }
+
+    /// Creates a parameter in a cookie, in the default style.
+    pub fn cookie(parameter_data: ParameterData) -> Parameter
+        ensures { result ≡ parameters.Cookie parameter_data cookie_styles.Form }
+    {
+        Parameter::Cookie {
+            parameter_data,
+            style: CookieStyle::Form,
+        }
+    }
+
     /// What the parameter has as those of all places have it. The rest is dropped.
     pub fn parameter_data(self) -> ParameterData
         ensures { result ≡ data_of_parameter self }

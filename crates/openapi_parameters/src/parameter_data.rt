@@ -1,4 +1,5 @@
 //! What parameters of all places have.
+ghost use Rattle.std.specs.Prelude.{◌≡◌, [], None, false};
 ghost use Rattle.openapi_tables.specs.Kind.{parameter_data};
 ghost use Rattle.openapi_parameters.specs.Parameters.{parameter_data_rows};
 
@@ -35,6 +36,34 @@ pub struct ParameterData {
     pub extensions: OrderedMap<Node>,
     /// What the value is like: `schema` or `content`. Required here, as in the Rust crate.
     pub format: ParameterSchemaOrContent,
+}
+
+impl ParameterData {
+    /// Creates what a parameter has wherever it is: its name, and the schema or the content that describes it. It is not
+    /// required. Everything else is `None` or empty.
+    pub fn new(alloc: Global, name: String, format: ParameterSchemaOrContent) -> ParameterData
+        ensures name { result.name ≡ name }
+        ensures description { result.description ≡ None }
+        ensures required { result.required ≡ false }
+        ensures deprecated { result.deprecated ≡ None }
+        ensures example { result.example ≡ None }
+        ensures examples { result.examples ≡ [] }
+        ensures explode { result.explode ≡ None }
+        ensures extensions { result.extensions ≡ [] }
+        ensures format { result.format ≡ format }
+    {
+        ParameterData {
+            name,
+            description: None,
+            required: false,
+            deprecated: None,
+            example: None,
+            examples: OrderedMap::new(alloc),
+            explode: None,
+            extensions: OrderedMap::new(alloc),
+            format,
+        }
+    }
 }
 
 impl Object for ParameterData {

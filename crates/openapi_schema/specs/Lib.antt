@@ -1,3 +1,4 @@
+pub mod Annotations
 pub mod Fields
 pub mod KindNames
 pub mod Kinds

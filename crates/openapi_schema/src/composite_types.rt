@@ -1,5 +1,5 @@
 //! The kinds of schemas of objects and arrays.
-ghost use Rattle.std.specs.Prelude.{◌≡◌, ◌*◌, [], None};
+ghost use Rattle.std.specs.Prelude.{◌≡◌, ◌*◌, [], None, Some, false};
 ghost use Rattle.openapi_tables.specs.Kind.{array_type, object_type};
 ghost use Rattle.openapi_schema.specs.Fields.{array_fields, object_fields};
 
@@ -59,6 +59,25 @@ pub struct ArrayType {
     pub max_items: Option<usize>,
     /// Whether no two items may be equal. False by default.
     pub unique_items: bool,
+}
+
+impl ArrayType {
+    ghost use Rattle.openapi_schema.specs.declared.composite_types.ArrayType.{out-ArrayType};
+
+    /// Creates the type of arrays of any length whose items have a schema.
+    pub fn new(items: ReferenceOr<Box<Schema>>) -> ArrayType
+        ensures items { (out-ArrayType result).items ≡ Some items }
+        ensures min_items { (out-ArrayType result).min_items ≡ None }
+        ensures max_items { (out-ArrayType result).max_items ≡ None }
+        ensures unique_items { (out-ArrayType result).unique_items ≡ false }
+    {
+        ArrayType {
+            items: Some(items),
+            min_items: None,
+            max_items: None,
+            unique_items: false,
+        }
+    }
 }
 
 impl Object for ObjectType {

@@ -1,8 +1,12 @@
 //! The Schema Object, and what it holds.
+ghost use Rattle.std.specs.Prelude.{◌≡◌};
+ghost use Rattle.openapi_schema.specs.Annotations.{HasNoAnnotations};
+
 use crate::any_schema::AnySchema;
 use crate::composite_types::{ArrayType, ObjectType};
 use openapi_schema_types::{BooleanType, IntegerType, NumberType, SchemaData, StringType};
 use openapi_values::ReferenceOr;
+use std::alloc::Global;
 
 /// The Schema Object (OpenAPI 3.0.3, section 4.7.24): which values are allowed, in the words of JSON Schema.
 #[cycle(schema)]
@@ -12,6 +16,21 @@ pub struct Schema {
     pub schema_data: SchemaData,
     /// The kind of the schema, with what it asks of values.
     pub schema_kind: SchemaKind,
+}
+
+impl Schema {
+    ghost use Rattle.openapi_schema.specs.declared.schema.Schema.{out-Schema};
+
+    /// Creates a schema of a kind without annotations.
+    pub fn new(alloc: Global, schema_kind: SchemaKind) -> Schema
+        ensures kind { (out-Schema result).schema_kind ≡ schema_kind }
+        ensures data { HasNoAnnotations (out-Schema result).schema_data }
+    {
+        Schema {
+            schema_data: SchemaData::new(alloc),
+            schema_kind,
+        }
+    }
 }
 
 /// The kinds of schemas, told apart by which members a Schema Object has.

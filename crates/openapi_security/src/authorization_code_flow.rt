@@ -1,4 +1,5 @@
 //! The OAuth Flow Object: the flow by an authorization code.
+ghost use Rattle.std.specs.Prelude.{◌≡◌, [], None};
 ghost use Rattle.openapi_tables.specs.Kind.{authorization_code_flow};
 ghost use Rattle.openapi_security.specs.Flows.{authorization_code_flow_rows};
 
@@ -19,6 +20,30 @@ pub struct AuthorizationCodeOAuth2Flow {
     pub scopes: OrderedMap<String>,
     /// Extensions: the members whose names begin with `x-`, in their order.
     pub extensions: OrderedMap<Node>,
+}
+
+impl AuthorizationCodeOAuth2Flow {
+    /// Creates a flow with what is required: its authorization URL and its token URL, and a short description of each scope by its name.
+    pub fn new(
+        alloc: Global,
+        authorization_url: String,
+        token_url: String,
+        scopes: OrderedMap<String>,
+    ) -> AuthorizationCodeOAuth2Flow
+        ensures authorization_url { result.authorization_url ≡ authorization_url }
+        ensures token_url { result.token_url ≡ token_url }
+        ensures refresh_url { result.refresh_url ≡ None }
+        ensures scopes { result.scopes ≡ scopes }
+        ensures extensions { result.extensions ≡ [] }
+    {
+        AuthorizationCodeOAuth2Flow {
+            authorization_url,
+            token_url,
+            refresh_url: None,
+            scopes,
+            extensions: OrderedMap::new(alloc),
+        }
+    }
 }
 
 impl Object for AuthorizationCodeOAuth2Flow {

@@ -1,4 +1,5 @@
 //! The OAuth Flow Object: the flow by the credentials of the client.
+ghost use Rattle.std.specs.Prelude.{◌≡◌, [], None};
 ghost use Rattle.openapi_tables.specs.Kind.{client_credentials_flow};
 ghost use Rattle.openapi_security.specs.Flows.{client_credentials_flow_rows};
 
@@ -17,6 +18,27 @@ pub struct ClientCredentialsOAuth2Flow {
     pub scopes: OrderedMap<String>,
     /// Extensions: the members whose names begin with `x-`, in their order.
     pub extensions: OrderedMap<Node>,
+}
+
+impl ClientCredentialsOAuth2Flow {
+    /// Creates a flow with what is required: its token URL, and a short description of each scope by its name.
+    pub fn new(
+        alloc: Global,
+        token_url: String,
+        scopes: OrderedMap<String>,
+    ) -> ClientCredentialsOAuth2Flow
+        ensures token_url { result.token_url ≡ token_url }
+        ensures refresh_url { result.refresh_url ≡ None }
+        ensures scopes { result.scopes ≡ scopes }
+        ensures extensions { result.extensions ≡ [] }
+    {
+        ClientCredentialsOAuth2Flow {
+            token_url,
+            refresh_url: None,
+            scopes,
+            extensions: OrderedMap::new(alloc),
+        }
+    }
 }
 
 impl Object for ClientCredentialsOAuth2Flow {

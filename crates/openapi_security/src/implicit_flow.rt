@@ -1,4 +1,5 @@
 //! The OAuth Flow Object: the implicit flow.
+ghost use Rattle.std.specs.Prelude.{◌≡◌, [], None};
 ghost use Rattle.openapi_tables.specs.Kind.{implicit_flow};
 ghost use Rattle.openapi_security.specs.Flows.{implicit_flow_rows};
 
@@ -17,6 +18,27 @@ pub struct ImplicitOAuth2Flow {
     pub scopes: OrderedMap<String>,
     /// Extensions: the members whose names begin with `x-`, in their order.
     pub extensions: OrderedMap<Node>,
+}
+
+impl ImplicitOAuth2Flow {
+    /// Creates a flow with what is required: its authorization URL, and a short description of each scope by its name.
+    pub fn new(
+        alloc: Global,
+        authorization_url: String,
+        scopes: OrderedMap<String>,
+    ) -> ImplicitOAuth2Flow
+        ensures authorization_url { result.authorization_url ≡ authorization_url }
+        ensures refresh_url { result.refresh_url ≡ None }
+        ensures scopes { result.scopes ≡ scopes }
+        ensures extensions { result.extensions ≡ [] }
+    {
+        ImplicitOAuth2Flow {
+            authorization_url,
+            refresh_url: None,
+            scopes,
+            extensions: OrderedMap::new(alloc),
+        }
+    }
 }
 
 impl Object for ImplicitOAuth2Flow {

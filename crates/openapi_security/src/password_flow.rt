@@ -1,4 +1,5 @@
 //! The OAuth Flow Object: the flow by the password of the owner.
+ghost use Rattle.std.specs.Prelude.{◌≡◌, [], None};
 ghost use Rattle.openapi_tables.specs.Kind.{password_flow};
 ghost use Rattle.openapi_security.specs.Flows.{password_flow_rows};
 
@@ -17,6 +18,23 @@ pub struct PasswordOAuth2Flow {
     pub scopes: OrderedMap<String>,
     /// Extensions: the members whose names begin with `x-`, in their order.
     pub extensions: OrderedMap<Node>,
+}
+
+impl PasswordOAuth2Flow {
+    /// Creates a flow with what is required: its token URL, and a short description of each scope by its name.
+    pub fn new(alloc: Global, token_url: String, scopes: OrderedMap<String>) -> PasswordOAuth2Flow
+        ensures token_url { result.token_url ≡ token_url }
+        ensures refresh_url { result.refresh_url ≡ None }
+        ensures scopes { result.scopes ≡ scopes }
+        ensures extensions { result.extensions ≡ [] }
+    {
+        PasswordOAuth2Flow {
+            token_url,
+            refresh_url: None,
+            scopes,
+            extensions: OrderedMap::new(alloc),
+        }
+    }
 }
 
 impl Object for PasswordOAuth2Flow {

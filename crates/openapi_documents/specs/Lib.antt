@@ -1,4 +1,5 @@
 pub mod AllOperations
+pub mod ByMethod
 pub mod Documents
 pub mod Fields
 pub mod Headline

@@ -3,6 +3,7 @@
 //! item has operations, these may have callbacks, and these have path items.
 mod callback;
 mod components;
+mod http_method;
 mod iter;
 pub mod laws;
 mod methods;
@@ -17,6 +18,7 @@ mod write;
 
 pub use callback::{Callback, callback_ref_from_node, callback_ref_to_node};
 pub use components::Components;
+pub use http_method::Method;
 pub use iter::{PathItemIntoIter, PathItemIter};
 pub use open_api::OpenAPI;
 pub use operation::Operation;

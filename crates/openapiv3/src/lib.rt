@@ -36,7 +36,8 @@ pub use openapi_documents::Paths;
 
 // 4.7.9 Path Item Object: the operations of one path, by their methods.
 pub use openapi_documents::{
-    PathItem, PathItemIntoIter, PathItemIter, path_item_ref_from_node, path_item_ref_to_node,
+    Method, PathItem, PathItemIntoIter, PathItemIter, path_item_ref_from_node,
+    path_item_ref_to_node,
 };
 
 // 4.7.10 Operation Object: one call of the API.

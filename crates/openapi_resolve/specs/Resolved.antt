@@ -1,7 +1,9 @@
 -- The component to which a reference leads.
 use Rattle.std.specs.Prelude.{ℕ, zero, suc, List, length, string_bytes, Option, Some, None, option_and_then}
 use Rattle.openapi_map.specs.Entries.{Entries, get}
+use Rattle.openapi_documents.specs.declared.components.Components.{Components}
 use Rattle.openapi_pointer.specs.Components.{component_name}
+use Rattle.openapi_resolve.specs.Sections.{Section}
 use Rattle.openapi_values.specs.declared.reference.ReferenceOr.{ReferenceOr}
 use Rattle.openapi_values.specs.declared.reference.ReferenceOr.TheVariants.{Reference, Item}
 
@@ -25,7 +27,7 @@ module _ {X : Type 0} where
   abbrev pub resolved : List ℕ → Entries (ReferenceOr X) → List ℕ → Option X
   resolved section es reference = followed (suc (length es)) section es reference
 
-  -- the same among the components of a document, if it has components
-  abbrev pub component_of : {C : Type 0} → List ℕ → (C → Entries (ReferenceOr X)) → Option C → List ℕ → Option X
-  component_of section in_section None reference = None
-  component_of section in_section (Some c) reference = resolved section (in_section c) reference
+  -- the same in a section of a document, if the document has components
+  abbrev pub component_of : Section X → Option Components → List ℕ → Option X
+  component_of s None reference = None
+  component_of s (Some c) reference = resolved s.name (s.entries c) reference

@@ -1,4 +1,6 @@
 //! The types of components.
+ghost use Rattle.openapi_resolve.specs.Sections as sections;
+
 use openapi_documents::{Callback, Components};
 use openapi_map::OrderedMap;
 use openapi_media_types::Header;
@@ -11,32 +13,23 @@ use openapi_values::ReferenceOr;
 
 /// A type for which the Components Object (OpenAPI 3.0.3, section 4.7.7) has a section.
 pub trait Component: Sized {
-    ghost use Rattle.std.specs.Prelude.{◌≡◌, ℕ, List};
-    ghost use Rattle.openapi_map.specs.Entries.{Entries};
-    ghost use Rattle.openapi_documents.specs.declared.components.Components.{Components};
-    ghost use Rattle.openapi_values.specs.declared.reference.ReferenceOr.{ReferenceOr};
+    ghost use Rattle.std.specs.Prelude.{◌≡◌};
+    ghost use Rattle.openapi_resolve.specs.Sections.{Section};
 
-    /// The name of the section.
-    ghost section_name: { List ℕ };
-
-    /// The components in the section.
-    ghost in_section: { Components → Entries (ReferenceOr Self) };
+    /// The section.
+    ghost the_section: { Section Self };
 
     /// Returns the name of the section, such as `schemas`.
     fn section() -> &'static str
-        ensures { result.now ≡ section_name };
+        ensures { result.now ≡ the_section.name };
 
     /// Returns the components in the section, each an object or a reference.
     fn all(components: &Components) -> &OrderedMap<ReferenceOr<Self>>
-        ensures { result.now ≡ in_section components.now };
+        ensures { result.now ≡ the_section.entries components.now };
 }
 
 impl Component for Schema {
-    ghost use Rattle.std.specs.Prelude.{codes};
-
-    ghost section_name = { codes "schemas" };
-
-    ghost in_section = { λ c. c.schemas };
+    ghost the_section = { sections.schemas };
 
     fn section() -> &'static str {
         "schemas"
@@ -48,11 +41,7 @@ impl Component for Schema {
 }
 
 impl Component for Response {
-    ghost use Rattle.std.specs.Prelude.{codes};
-
-    ghost section_name = { codes "responses" };
-
-    ghost in_section = { λ c. c.responses };
+    ghost the_section = { sections.responses };
 
     fn section() -> &'static str {
         "responses"
@@ -64,11 +53,7 @@ impl Component for Response {
 }
 
 impl Component for Parameter {
-    ghost use Rattle.std.specs.Prelude.{codes};
-
-    ghost section_name = { codes "parameters" };
-
-    ghost in_section = { λ c. c.parameters };
+    ghost the_section = { sections.parameters };
 
     fn section() -> &'static str {
         "parameters"
@@ -80,11 +65,7 @@ impl Component for Parameter {
 }
 
 impl Component for Example {
-    ghost use Rattle.std.specs.Prelude.{codes};
-
-    ghost section_name = { codes "examples" };
-
-    ghost in_section = { λ c. c.examples };
+    ghost the_section = { sections.examples };
 
     fn section() -> &'static str {
         "examples"
@@ -96,11 +77,7 @@ impl Component for Example {
 }
 
 impl Component for RequestBody {
-    ghost use Rattle.std.specs.Prelude.{codes};
-
-    ghost section_name = { codes "requestBodies" };
-
-    ghost in_section = { λ c. c.request_bodies };
+    ghost the_section = { sections.request_bodies };
 
     fn section() -> &'static str {
         "requestBodies"
@@ -112,11 +89,7 @@ impl Component for RequestBody {
 }
 
 impl Component for Header {
-    ghost use Rattle.std.specs.Prelude.{codes};
-
-    ghost section_name = { codes "headers" };
-
-    ghost in_section = { λ c. c.headers };
+    ghost the_section = { sections.headers };
 
     fn section() -> &'static str {
         "headers"
@@ -128,11 +101,7 @@ impl Component for Header {
 }
 
 impl Component for SecurityScheme {
-    ghost use Rattle.std.specs.Prelude.{codes};
-
-    ghost section_name = { codes "securitySchemes" };
-
-    ghost in_section = { λ c. c.security_schemes };
+    ghost the_section = { sections.security_schemes };
 
     fn section() -> &'static str {
         "securitySchemes"
@@ -144,11 +113,7 @@ impl Component for SecurityScheme {
 }
 
 impl Component for Link {
-    ghost use Rattle.std.specs.Prelude.{codes};
-
-    ghost section_name = { codes "links" };
-
-    ghost in_section = { λ c. c.links };
+    ghost the_section = { sections.links };
 
     fn section() -> &'static str {
         "links"
@@ -160,11 +125,7 @@ impl Component for Link {
 }
 
 impl Component for Callback {
-    ghost use Rattle.std.specs.Prelude.{codes};
-
-    ghost section_name = { codes "callbacks" };
-
-    ghost in_section = { λ c. c.callbacks };
+    ghost the_section = { sections.callbacks };
 
     fn section() -> &'static str {
         "callbacks"

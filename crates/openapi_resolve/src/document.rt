@@ -29,9 +29,9 @@ pub trait Resolve {
     /// [`ResolveError::OutOfMemory`] if an allocation fails.
     fn component<'a, T: Component>(&'a self, reference: &'a str) -> Result<&'a T, ResolveError>
         ensures found { IfOk result (λ x.
-            component_of T.section_name T.in_section (components_of self.now) reference.now ≡ Some x.now) }
+            component_of T.the_section (components_of self.now) reference.now ≡ Some x.now) }
         ensures missing { IfErr result (λ e. e ≢ OutOfMemory
-            → component_of T.section_name T.in_section (components_of self.now) reference.now ≡ None) };
+            → component_of T.the_section (components_of self.now) reference.now ≡ None) };
 
     /// Returns the item, or the component to which the reference in its place leads, as [`component`](Resolve::component) does.
     ///
@@ -40,9 +40,9 @@ pub trait Resolve {
     /// Returns the errors of [`component`](Resolve::component).
     fn resolve<'a, T: Component>(&'a self, item: &'a ReferenceOr<T>) -> Result<&'a T, ResolveError>
         ensures found { IfOk result (λ x.
-            item_or (component_of T.section_name T.in_section (components_of self.now)) item.now ≡ Some x.now) }
+            item_or (component_of T.the_section (components_of self.now)) item.now ≡ Some x.now) }
         ensures missing { IfErr result (λ e. e ≢ OutOfMemory
-            → item_or (component_of T.section_name T.in_section (components_of self.now)) item.now ≡ None) }
+            → item_or (component_of T.the_section (components_of self.now)) item.now ≡ None) }
     {
         match item {
             ReferenceOr::Item(item) => Ok(item),
@@ -60,9 +60,9 @@ pub trait Resolve {
         item: &'a ReferenceOr<Box<T>>,
     ) -> Result<&'a T, ResolveError>
         ensures found { IfOk result (λ x.
-            item_or (component_of T.section_name T.in_section (components_of self.now)) (unboxed item.now) ≡ Some x.now) }
+            item_or (component_of T.the_section (components_of self.now)) (unboxed item.now) ≡ Some x.now) }
         ensures missing { IfErr result (λ e. e ≢ OutOfMemory
-            → item_or (component_of T.section_name T.in_section (components_of self.now)) (unboxed item.now) ≡ None) }
+            → item_or (component_of T.the_section (components_of self.now)) (unboxed item.now) ≡ None) }
     {
         match item {
             ReferenceOr::Item(item) => Ok(item),
@@ -85,9 +85,9 @@ fn component_in<'a, T: Component>(
     reference: &'a str,
 ) -> Result<&'a T, ResolveError>
     ensures found { IfOk result (λ x.
-        component_of T.section_name T.in_section document.now.components reference.now ≡ Some x.now) }
+        component_of T.the_section document.now.components reference.now ≡ Some x.now) }
     ensures missing { IfErr result (λ e. e ≢ OutOfMemory
-        → component_of T.section_name T.in_section document.now.components reference.now ≡ None) }
+        → component_of T.the_section document.now.components reference.now ≡ None) }
 {
     match &document.components {
         Some(components) => follow(T::all(components), T::section(), reference),

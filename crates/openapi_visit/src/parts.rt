@@ -1,9 +1,11 @@
 //! What is inside each part.
 use crate::part::{AsPart, Part};
-use openapi_documents::{Components, Operation};
+use openapi_documents::{Components, OpenAPI, Operation, PathItem};
 use openapi_map::OrderedMap;
-use openapi_media_types::ParameterSchemaOrContent;
+use openapi_media_types::{MediaType, ParameterSchemaOrContent};
+use openapi_metadata::Example;
 use openapi_node::ReferenceToken;
+use openapi_responses::Response;
 use openapi_schema::{AdditionalProperties, SchemaKind, Type};
 use openapi_values::ReferenceOr;
 use std::alloc::{AllocError, Global};
@@ -150,45 +152,63 @@ impl<'a> Parts<'a> {
         }
     }
 
+    /// Adds the parts of a document.
+    fn document(&mut self, it: &'a OpenAPI) -> Result<(), AllocError> {
+        self.map("paths", &it.paths.paths)?;
+        match &it.components {
+            Some(it) => self.add("components", Part::Components(it)),
+            None => Ok(()),
+        }
+    }
+
+    /// Adds the parts of a path item.
+    fn path_item(&mut self, it: &'a PathItem) -> Result<(), AllocError> {
+        self.list("parameters", &it.parameters)?;
+        for (method, it) in it.iter() {
+            self.add(method, Part::Operation(it))?;
+        }
+        Ok(())
+    }
+
+    /// Adds the parts of a parameter or a header.
+    fn described(
+        &mut self,
+        format: &'a ParameterSchemaOrContent,
+        examples: &'a OrderedMap<ReferenceOr<Example>>,
+    ) -> Result<(), AllocError> {
+        self.format(format)?;
+        self.map("examples", examples)
+    }
+
+    /// Adds the parts of a response.
+    fn response(&mut self, it: &'a Response) -> Result<(), AllocError> {
+        self.map("headers", &it.headers)?;
+        self.objects("content/", &it.content)?;
+        self.map("links", &it.links)
+    }
+
+    /// Adds the parts of a media type.
+    fn media_type(&mut self, it: &'a MediaType) -> Result<(), AllocError> {
+        self.some("schema", it.schema.as_ref())?;
+        self.map("examples", &it.examples)?;
+        self.objects("encoding/", &it.encoding)
+    }
+
     /// Adds the parts of a part, in the order of its fields.
     pub(crate) fn inside(&mut self, part: Part<'a>) -> Result<(), AllocError> {
         match part {
-            Part::Document(it) => {
-                self.map("paths", &it.paths.paths)?;
-                match &it.components {
-                    Some(it) => self.add("components", Part::Components(it)),
-                    None => Ok(()),
-                }
-            }
+            Part::Document(it) => self.document(it),
             Part::Components(it) => self.components(it),
-            Part::PathItem(it) => {
-                self.list("parameters", &it.parameters)?;
-                for (method, it) in it.iter() {
-                    self.add(method, Part::Operation(it))?;
-                }
-                Ok(())
-            }
+            Part::PathItem(it) => self.path_item(it),
             Part::Operation(it) => self.operation(it),
             Part::Parameter(it) => {
                 let it = it.parameter_data_ref();
-                self.format(&it.format)?;
-                self.map("examples", &it.examples)
+                self.described(&it.format, &it.examples)
             }
             Part::RequestBody(it) => self.objects("content/", &it.content),
-            Part::Response(it) => {
-                self.map("headers", &it.headers)?;
-                self.objects("content/", &it.content)?;
-                self.map("links", &it.links)
-            }
-            Part::Header(it) => {
-                self.format(&it.format)?;
-                self.map("examples", &it.examples)
-            }
-            Part::MediaType(it) => {
-                self.some("schema", it.schema.as_ref())?;
-                self.map("examples", &it.examples)?;
-                self.objects("encoding/", &it.encoding)
-            }
+            Part::Response(it) => self.response(it),
+            Part::Header(it) => self.described(&it.format, &it.examples),
+            Part::MediaType(it) => self.media_type(it),
             Part::Encoding(it) => self.map("headers", &it.headers),
             Part::Callback(it) => self.objects("", &it.paths),
             Part::Schema(it) => self.schema(&it.schema_kind),

@@ -16,6 +16,10 @@ mod listed;
 #[cfg(test)]
 mod loops;
 #[cfg(test)]
+mod made;
+#[cfg(test)]
+mod methods;
+#[cfg(test)]
 mod parameters;
 #[cfg(test)]
 mod printed;

@@ -1,8 +1,8 @@
 //! References that are resolved to components.
 use openapi_test_support::trees::check_same;
 use openapiv3::{
-    OpenAPI, ReferenceOr, Resolve, ResolveError, Response, Schema, SchemaKind, Steps, Type,
-    from_json,
+    Callback, Component, Example, Header, Link, OpenAPI, Parameter, ReferenceOr, RequestBody,
+    Resolve, ResolveError, Response, Schema, SchemaKind, SecurityScheme, Steps, Type, from_json,
 };
 use std::test::Fail;
 
@@ -18,13 +18,18 @@ const DOCUMENT: &str =
 
 // Each test makes the document, and lets a function check it that borrows it: a document that is alive at a `?` is expensive to prove.
 
-/// Returns the document of the tests.
-fn document(rt: &HostRuntime) -> Result<OpenAPI, Fail> {
+/// Returns the document of a text.
+fn read(rt: &HostRuntime, text: &str) -> Result<OpenAPI, Fail> {
     let mut steps = Steps::new(rt);
-    match from_json(rt.alloc(), DOCUMENT.as_bytes(), &mut steps) {
+    match from_json(rt.alloc(), text.as_bytes(), &mut steps) {
         Ok(document) => Ok(document),
         Err(_) => Err(Fail::from("the document is refused")),
     }
+}
+
+/// Returns the document of the tests.
+fn document(rt: &HostRuntime) -> Result<OpenAPI, Fail> {
+    read(rt, DOCUMENT)
 }
 
 /// Returns the title of a schema, or the error.
@@ -183,4 +188,40 @@ fn check_items(rt: &HostRuntime, document: &OpenAPI) -> Result<(), Fail> {
 fn items_are_their_own_targets(rt: HostRuntime) -> Result<(), Fail> {
     let document = document(&rt)?;
     check_items(&rt, &document)
+}
+
+/// A document with a component in each section.
+const SECTIONS: &str =
+    r##"{"openapi":"3.0.3","info":{"title":"t","version":"1"},"paths":{},"components":{
+    "schemas":{"Schema":{}},"responses":{"Response":{"description":""}},"examples":{"Example":{}},
+    "parameters":{"Parameter":{"name":"p","in":"query","schema":{}}},"requestBodies":{"Body":{"content":{}}},
+    "headers":{"Header":{"schema":{}}},"securitySchemes":{"Scheme":{"type":"http","scheme":"basic"}},
+    "links":{"Link":{"operationId":"o"}},"callbacks":{"Callback":{}}}}"##;
+
+/// Checks that a reference leads to a component of a type.
+fn check_section<T: Component>(document: &OpenAPI, reference: &str) -> Result<(), Fail> {
+    let found: Result<&T, ResolveError> = document.component(reference);
+    match found {
+        Ok(_) => Ok(()),
+        Err(_) => Err(Fail::from("a section lacks its component")),
+    }
+}
+
+/// Checks that each section has its component.
+fn check_sections(document: &OpenAPI) -> Result<(), Fail> {
+    check_section::<Schema>(document, "#/components/schemas/Schema")?;
+    check_section::<Response>(document, "#/components/responses/Response")?;
+    check_section::<Parameter>(document, "#/components/parameters/Parameter")?;
+    check_section::<Example>(document, "#/components/examples/Example")?;
+    check_section::<RequestBody>(document, "#/components/requestBodies/Body")?;
+    check_section::<Header>(document, "#/components/headers/Header")?;
+    check_section::<SecurityScheme>(document, "#/components/securitySchemes/Scheme")?;
+    check_section::<Link>(document, "#/components/links/Link")?;
+    check_section::<Callback>(document, "#/components/callbacks/Callback")
+}
+
+#[test]
+fn each_section_has_components(rt: HostRuntime) -> Result<(), Fail> {
+    let document = read(&rt, SECTIONS)?;
+    check_sections(&document)
 }

@@ -14,7 +14,7 @@ fn component<'a>(document: &'a OpenAPI, reference: &'a str) -> Option<&'a Schema
 }
 
 /// Returns the name and the title of each property of the schema to which a reference leads.
-pub fn properties(document: &OpenAPI, reference: &str) -> Option<Vec<String>> {
+pub fn properties_of(document: &OpenAPI, reference: &str) -> Option<Vec<String>> {
     let mut found = Vec::new();
     if let SchemaKind::Type(Type::Object(object)) = &component(document, reference)?.schema_kind {
         for (name, property) in &object.properties {

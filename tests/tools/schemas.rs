@@ -30,7 +30,7 @@ fn collect(location: &str, schema: &Schema, found: &mut Vec<String>) {
 }
 
 /// Returns the location of each schema without a title among the components: those of operations need as much again.
-pub fn schemas(document: &OpenAPI) -> Vec<String> {
+pub fn untitled_schemas(document: &OpenAPI) -> Vec<String> {
     let mut found = Vec::new();
     for components in &document.components {
         for (name, item) in &components.schemas {

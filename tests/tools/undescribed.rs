@@ -1,7 +1,7 @@
 use openapiv3::OpenAPI;
 
 /// Returns the method and the path of each operation without a description.
-pub fn undescribed(document: &OpenAPI) -> Vec<String> {
+pub fn undescribed_operations(document: &OpenAPI) -> Vec<String> {
     document
         .operations()
         .filter(|(_, _, operation)| operation.description.is_none())

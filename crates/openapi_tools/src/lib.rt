@@ -12,6 +12,6 @@ mod undescribed;
 
 pub use built::pets;
 pub use deprecated::deprecate;
-pub use properties::properties;
-pub use schemas::schemas;
-pub use undescribed::undescribed;
+pub use properties::properties_of;
+pub use schemas::untitled_schemas;
+pub use undescribed::undescribed_operations;

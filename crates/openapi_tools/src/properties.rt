@@ -8,7 +8,7 @@ use std::alloc::Global;
 /// # Errors
 ///
 /// An error if the reference, or that of a property, leads nowhere, or if an allocation fails.
-pub fn properties(alloc: Global, document: &OpenAPI, reference: &str) -> Result<Vec<String>> {
+pub fn properties_of(alloc: Global, document: &OpenAPI, reference: &str) -> Result<Vec<String>> {
     let mut found = Vec::new(alloc);
     let schema: &Schema = document.component(reference)?;
     if let SchemaKind::Typed(SchemaType::Object(object)) = &schema.schema_kind {

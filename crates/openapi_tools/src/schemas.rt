@@ -25,7 +25,7 @@ impl Visitor for Untitled {
 /// # Errors
 ///
 /// [`AllocError`] if an allocation fails.
-pub fn schemas(alloc: Global, document: &OpenAPI) -> Result<Vec<String>, AllocError> {
+pub fn untitled_schemas(alloc: Global, document: &OpenAPI) -> Result<Vec<String>, AllocError> {
     let mut untitled = Untitled {
         alloc,
         found: Vec::new(alloc),

@@ -1,5 +1,5 @@
 //! What the tools return.
-use crate::{deprecate, pets, properties, schemas, undescribed};
+use crate::{deprecate, pets, properties_of, undescribed_operations, untitled_schemas};
 use openapi_test_support::trees::{check_same, check_written};
 use openapiv3::{OpenAPI, Steps, ToNode, from_json_in_order};
 use std::test::Fail;
@@ -36,9 +36,9 @@ fn check_texts(rt: &HostRuntime, found: &[String], wanted: &str) -> Result<(), F
 
 /// Checks what is found in a document.
 fn check_found(rt: &HostRuntime, document: &OpenAPI) -> Result<(), Fail> {
-    let found = undescribed(rt.alloc(), document)?;
+    let found = undescribed_operations(rt.alloc(), document)?;
     check_texts(rt, found.as_slice(), "post /pets, delete /pets/{id}")?;
-    let found = schemas(rt.alloc(), document)?;
+    let found = untitled_schemas(rt.alloc(), document)?;
     let wanted =
         "/paths/~1pets/post/requestBody/content/application~1json/schema, /components/schemas/Animal/properties/tag, /components/schemas/Odd";
     check_texts(rt, found.as_slice(), wanted)
@@ -57,7 +57,7 @@ fn check_properties(
     reference: &str,
     wanted: &str,
 ) -> Result<(), Fail> {
-    match properties(rt.alloc(), document, reference) {
+    match properties_of(rt.alloc(), document, reference) {
         Ok(found) => check_texts(rt, found.as_slice(), wanted),
         Err(error) => check_same(rt, format!(in rt.alloc(); "{error}")?.as_str(), wanted),
     }

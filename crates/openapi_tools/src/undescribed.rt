@@ -7,7 +7,10 @@ use std::alloc::{AllocError, Global};
 /// # Errors
 ///
 /// [`AllocError`] if an allocation fails.
-pub fn undescribed(alloc: Global, document: &OpenAPI) -> Result<Vec<String>, AllocError> {
+pub fn undescribed_operations(
+    alloc: Global,
+    document: &OpenAPI,
+) -> Result<Vec<String>, AllocError> {
     let mut found = Vec::new(alloc);
     for (path, method, operation) in document.operations() {
         if operation.description.is_none() {

@@ -164,6 +164,16 @@ impl Node {
         }
     }
 
+    /// Returns what the node is and holds, borrowed, as [`Node::open`] does, but counts no access for the caller.
+    ///
+    /// It is for programs and tests, which have the runtime. A reader is passed an allocator and no runtime. So it can't
+    /// call this function, and the bound on its accesses counts all of them.
+    pub fn view(&self, rt: &HostRuntime) -> View<'_>
+        ensures { shown result ≡ self.now }
+    {
+        self.open(&mut Steps::new(rt))
+    }
+
     /// What the node holds, which is taken out of it after a look. So it raises the count by one, as the look does.
     pub(crate) fn take(self, steps: &mut Steps) -> Shape
         ensures held { tree_of result ≡ self }

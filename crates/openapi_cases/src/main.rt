@@ -23,6 +23,7 @@ mod row;
 mod samples;
 mod sorts;
 mod table;
+mod taken;
 mod texts;
 mod told;
 mod typed;

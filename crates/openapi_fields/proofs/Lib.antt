@@ -29,3 +29,4 @@ pub mod PresentRows
 pub mod Puts
 pub mod Cleaning
 pub mod Measures
+pub mod Moving

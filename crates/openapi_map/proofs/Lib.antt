@@ -9,4 +9,3 @@ mod PlaceLemmas
 mod RemoveLemmas
 mod RetainLemmas
 mod MarkLemmas
-mod ZipLemmas

@@ -4,6 +4,5 @@ pub mod Equality
 pub mod Former
 pub mod Held
 pub mod Index
-pub mod IterMut
 pub mod Lends
 pub mod formers

@@ -6,6 +6,7 @@ mod info;
 mod license;
 mod link;
 mod link_operation;
+mod moved;
 mod server;
 mod server_variable;
 mod tag;

@@ -1,0 +1,13 @@
+use Rattle.std.proofs.Common.{◌≡◌, ◌≤◌, ◌-◌, vec_len}
+use Rattle.std.specs.Map.Calls.{CalledAtPair}
+use Rattle.openapi_map.proofs.RetainLemmas.{Sifted}
+use Rattle.openapi_map.proofs.retain.retain_entries.Given as goal
+
+abbrev pub invariant-loop-place : goal.invariant-loop-place
+invariant-loop-place g l =
+    goal.F-IsAlwaysCallable g l.keep
+    × ((l.len ≡ vec_len l.entries) × (l.kept ≤ l.place) × (l.place ≤ l.len))
+    × Sifted (CalledAtPair g.F.FnMut) l.fn.keep l.fn.entries.items l.keep l.entries.items l.kept l.place
+
+abbrev pub decreases-loop-place : goal.decreases-loop-place
+decreases-loop-place g l = l.len - l.place

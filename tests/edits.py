@@ -29,7 +29,7 @@ its name, a hash of what the verdict rests on, and the reason, in one of these w
 - `shape`: the mutation adds a function or a loop, so the refusal may tell of what the contract of that function leaves out, or
   of an invariant that the loop has not.
 The last three are no refusals: the mutation is rewritten, or gets a twin. A verdict without a reason was kept before reasons were, or
-what it rests on changed while it had none. It decides nothing: the mutation is tried again when its crate is. `--compare` fails for
+written by hand for a mutation that was not tried on the text as it stands. It decides nothing: the mutation is tried again when its crate is. `--compare` fails for
 `proof`, `limit` and `shape`, and for a mutation that has no verdict on the text; those without a reason are undecided, and count
 neither as passed nor as failed.
 

@@ -8,7 +8,6 @@ use crate::objects::rewritten;
 use crate::row::Row;
 use crate::sorts::{operations, sort};
 use crate::table::{expected_of, full_object, other_objects};
-use crate::taken::{given, taken};
 use crate::texts::{by_name, in_order, ordered_text, position, positions, pretty, with_zeros};
 use crate::types::of_type;
 use crate::visited::visited;
@@ -63,7 +62,6 @@ fn typed(rt: &HostRuntime, command: &str, name: &str, node: &Node) -> Result<Str
         "clean" => clean(rt, name, node),
         "settle" => of_type(rt, name, Ask::Settle(node)),
         "again" => of_type(rt, name, Ask::Again(node)),
-        "take" => told_if_known(rt, taken(rt, name, node)),
         "faults" => all_faults(rt, name, node),
         "dropped" => all_dropped(rt, name, node),
         "references" => all_references(rt, name, node),
@@ -72,14 +70,14 @@ fn typed(rt: &HostRuntime, command: &str, name: &str, node: &Node) -> Result<Str
     }
 }
 
-/// What a tree is cleaned to by the type, and by functions of its own or by a tree that is given up, where there is such
-/// a way. The faults of the tree have to agree.
+/// What a tree is cleaned to by the type, and by functions of its own where it has any. The faults of the tree have to
+/// agree.
 fn clean(rt: &HostRuntime, name: &str, node: &Node) -> Result<String, Fail> {
     let answer = of_type(rt, name, Ask::Clean(node))?;
     if !agree_with(rt, name, node, answer.as_str())? {
         return Ok(format!(in rt.alloc(); "{}its faults differ\n", answer.as_str())?);
     }
-    match by_functions(rt, name, node).or(given(rt, name, node)) {
+    match by_functions(rt, name, node) {
         Some(written) => {
             let other = told(rt, written)?;
             if other.as_str() == answer.as_str() {

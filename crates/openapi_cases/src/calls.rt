@@ -35,7 +35,6 @@ pub fn on_sample(rt: &HostRuntime, call: &str, sample: Sample) -> Result<Told, F
     match call {
         "from_value" => nodes::from_value(rt, sample.text()),
         "to_value" => nodes::to_value(rt, sample.text()),
-        "into_value" => nodes::into_value(rt, sample.text()),
         "copy" => nodes::copy(rt, sample.text()),
         "clone" => nodes::clone(rt, sample.text()),
         "node_from_json" => nodes::node_from_json(rt, sample.text()),
@@ -52,18 +51,6 @@ pub fn on_sample(rt: &HostRuntime, call: &str, sample: Sample) -> Result<Told, F
         "references" => findings::references_of(rt, sample),
         "to_json" | "to_json_in_order" | "to_json_pretty" => objects::written(rt, call, sample),
         "locate" => objects::locate(rt, sample),
-        "from_owned_node" => match sample {
-            Sample::Schema => typed::from_owned_node::<Schema>(rt, sample),
-            Sample::Document => typed::from_owned_node::<OpenAPI>(rt, sample),
-            Sample::Tag => typed::from_owned_node::<Tag>(rt, sample),
-            _ => Err(Fail::new("no such call of this sample")),
-        },
-        "into_node" => match sample {
-            Sample::Schema => typed::into_node::<Schema>(rt, sample),
-            Sample::Document => typed::into_node::<OpenAPI>(rt, sample),
-            Sample::Tag => typed::into_node::<Tag>(rt, sample),
-            _ => Err(Fail::new("no such call of this sample")),
-        },
         _ => match sample {
             Sample::Schema => typed::on_sample::<Schema>(rt, call, sample),
             Sample::Responses | Sample::Refused => typed::on_sample::<Responses>(rt, call, sample),

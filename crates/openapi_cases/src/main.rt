@@ -23,7 +23,6 @@ mod row;
 mod samples;
 mod sorts;
 mod table;
-mod taken;
 mod texts;
 mod told;
 mod typed;

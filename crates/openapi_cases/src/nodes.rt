@@ -42,22 +42,6 @@ pub fn to_value(rt: &HostRuntime, text: &str) -> Result<Told, Fail> {
     Ok(told_by(answer, &wanted).if_kept(&node, &before))
 }
 
-/// Makes a value of a node, which is taken for it.
-///
-/// # Errors
-///
-/// `Fail` when memory runs out, or when the text of the sample is not read.
-pub fn into_value(rt: &HostRuntime, text: &str) -> Result<Told, Fail> {
-    let alloc = rt.alloc();
-    let node = tree(rt, text)?;
-    let wanted = Value::from_slice(alloc, text.as_bytes())?;
-    let mut steps = Steps::new(rt);
-    mark(alloc, Moment::CallBegins)?;
-    let answer = node.into_value(alloc, &mut steps);
-    mark(alloc, Moment::CallEnds)?;
-    Ok(told_by(answer, &wanted))
-}
-
 /// Reads a node of JSON text.
 ///
 /// # Errors

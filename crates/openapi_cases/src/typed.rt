@@ -6,8 +6,7 @@ use crate::samples::Sample;
 use crate::told::{Told, told_by, told_by_fault, told_by_value};
 use openapi_test_support::trees::{fault_text, tree};
 use openapiv3::{
-    Fault, FromNode, IntoNode, Node, ReadError, Settle, Steps, ToNode, from_json,
-    from_json_in_order,
+    Fault, FromNode, Node, ReadError, Settle, Steps, ToNode, from_json, from_json_in_order,
 };
 use std::test::Fail;
 
@@ -128,38 +127,4 @@ fn write<T: ToNode + Clone + PartialEq + Drop>(
     mark(alloc, Moment::CallEnds)?;
     let told = told_by_tree(rt, answer, sample.cleaned())?;
     Ok(told.if_kept(value, &before))
-}
-
-/// Turns what was read of a tree into the tree that it is written as.
-///
-/// # Errors
-///
-/// `Fail` when memory runs out, or when the text of the sample is not read.
-pub fn into_node<T: IntoNode>(rt: &HostRuntime, sample: Sample) -> Result<Told, Fail> {
-    let alloc = rt.alloc();
-    let mut steps = Steps::new(rt);
-    let value = T::from_node(alloc, &tree(rt, sample.text())?, &mut steps)?;
-    mark(alloc, Moment::CallBegins)?;
-    let answer = value.into_node(alloc);
-    mark(alloc, Moment::CallEnds)?;
-    told_by_tree(rt, answer, sample.cleaned())
-}
-
-/// Reads a tree that is given up. What was read is told by what is written of it.
-///
-/// # Errors
-///
-/// `Fail` when memory runs out, or when the text of the sample is not read.
-pub fn from_owned_node<T: ToNode + Drop>(rt: &HostRuntime, sample: Sample) -> Result<Told, Fail> {
-    let alloc = rt.alloc();
-    let node = tree(rt, sample.text())?;
-    let mut steps = Steps::new(rt);
-    mark(alloc, Moment::CallBegins)?;
-    let answer = T::from_owned_node(alloc, node, &mut steps);
-    mark(alloc, Moment::CallEnds)?;
-    let written = match answer {
-        Ok(value) => value.to_node(alloc),
-        Err(fault) => Err(fault),
-    };
-    told_by_tree(rt, written, sample.cleaned())
 }

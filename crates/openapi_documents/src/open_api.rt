@@ -6,7 +6,7 @@ ghost use Rattle.openapi_documents.specs.Documents.{open_api_rows};
 use crate::components::Components;
 use crate::paths::Paths;
 use openapi_fields::{
-    IntoNode, Object, Record, extensions, join, optional, or_implied, required, write_rows,
+    Object, Record, extensions, join, optional, or_implied, required, write_rows,
 };
 use openapi_metadata::{Info, Server, Tag};
 use openapi_node::{Members, Node, OrderedMap, Result, Steps};
@@ -122,6 +122,3 @@ impl Record for OpenAPI {
         })
     }
 }
-
-/// A document is written and then let go of: nothing of it is moved.
-impl IntoNode for OpenAPI {}

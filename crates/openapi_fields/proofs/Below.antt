@@ -1,11 +1,11 @@
 -- What was read one step below, as it is seen from here; and refusals at the root.
 use Rattle.std.proofs.Common.{◌≡◌, ℕ, ◌+◌, ◌*◌, Bool, true, ◌≤◌, List, [], ◌∷◌, Result, Ok, Err, IfOk, IfErr, map, refl, sym, ap}
-use Rattle.std.proofs.Common.{◌∙◌, subst, inl, inr, arith, Some, None}
+use Rattle.std.proofs.Common.{◌∙◌, subst, inl, inr, arith}
 use Rattle.std.specs.Borrow.{Bor}
 use Rattle.openapi_map.specs.declared.OrderedMap.{OrderedMap}
 use Rattle.openapi_node.specs.Fault.{IsMemory, GoesUp, place_of, step_of}
 use Rattle.openapi_node.specs.Place.{Step, Place}
-use Rattle.openapi_node.specs.Tree.{Tree, null, object, Members, members_in, size_of}
+use Rattle.openapi_node.specs.Tree.{Tree, null, size_of}
 use Rattle.openapi_node.specs.View.{shown}
 use Rattle.openapi_node.specs.declared.fault.Cause.{Cause}
 use Rattle.openapi_node.specs.declared.fault.Cause.TheVariants.{Missing, MissingEither, WrongKind, NotAllowed}
@@ -133,16 +133,6 @@ pub not_object : (i : _) (w : View) → ((m : Bor (OrderedMap Node)) → w ≡ v
     → Among (wrong_kind words.Object) (causes final_tables (by i) (shown w))
 not_object i (v.Object m) h = absurd (h m refl)
 not_object i w h = inl refl
-
--- a tree that holds members is an object of these
-pub members_held : (ms : Members) (t : Tree) → Some ms ≡ members_in t → t ≡ object ms
-members_held ms (object ns) h = cc
-members_held ms t h = cc
-
--- a tree that holds none, where an object by a table is asked
-pub no_object : (i : _) (t : Tree) → None ≡ members_in t → Among (wrong_kind words.Object) (causes final_tables (by i) t)
-no_object i (object ms) h = cc
-no_object i t h = inl refl
 
 -- a tree holds at least one value, itself
 pub size-positive : (t : Tree) → 1 ≤ size_of t

@@ -100,7 +100,7 @@ module _ (c : Class) (k : Kind) where
       ≡ name n)
       {X : Type 0} (view : X → Form) where
     -- what the class gives, where the entries whose names pass the test were read
-    pub class_taken : (m : Entries X) (ms : Entries Tree) → EntriesReadAs view (Ok m) k (chosen test ms)
+    class_taken : (m : Entries X) (ms : Entries Tree) → EntriesReadAs view (Ok m) k (chosen test ms)
         → RowGives final_tables (class c k) (members_of ms) (map_form view m)
     unfolding row_form
     class_taken m ms h =

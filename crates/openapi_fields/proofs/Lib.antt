@@ -29,4 +29,3 @@ pub mod PresentRows
 pub mod Puts
 pub mod Cleaning
 pub mod Measures
-pub mod Moving

@@ -1,14 +1,14 @@
 //! The members of an object whose names are of a class.
 ghost use Rattle.std.specs.Prelude.{◌≡◌, ◌+◌, ◌≤◌, ◌*◌, OnOk, IfErr, Some};
 ghost use Rattle.openapi_node.specs.Tree.{members_of};
-ghost use Rattle.openapi_tables.specs.ByRow.{is_class, row_where, row_weight, rows_asked, RowGives};
+ghost use Rattle.openapi_tables.specs.ByRow.{is_class, row_where, row_weight, rows_asked};
 ghost use Rattle.openapi_tables.specs.Kind as kinds;
 ghost use Rattle.openapi_tables.specs.Slots.{slot_where, before, through, slots_lost, IsWritten};
 ghost use Rattle.openapi_tables.specs.Tables.{final_tables};
 ghost use Rattle.openapi_fields.specs.Forms.{map_form, extensions_form};
 ghost use Rattle.openapi_fields.specs.Returned.{RowReadAs, NotWritable};
 
-use crate::entries::{keep_entries, put_entries, read_entries};
+use crate::entries::{put_entries, read_entries};
 use crate::from_node::FromNode;
 use crate::names::{ClassNames, Extensions};
 use crate::object::HasSlots;
@@ -46,15 +46,6 @@ pub fn extensions<R: HasSlots>(
         (members_of members.now) }
 {
     class_entries::<R, Extensions, Node>(alloc, members, steps)
-}
-
-/// The extensions of an object that is given up, in order: they are moved, and no look is taken at them.
-pub fn into_extensions(mut members: Members) -> Members
-    ensures { RowGives final_tables (kinds.class kinds.extensions kinds.any_tree) (members_of members)
-        (extensions_form result) }
-{
-    keep_entries::<Extensions>(&mut members);
-    members
 }
 
 /// Writes entries whose names are to be of a class.

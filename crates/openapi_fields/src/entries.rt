@@ -11,7 +11,7 @@ use crate::names::Names;
 use crate::put_rows::put_value;
 use crate::reading::put_read;
 use crate::to_node::ToNode;
-use openapi_node::{Cause, Fault, Members, Node, OrderedMap, Result, Steps};
+use openapi_node::{Cause, Fault, Members, OrderedMap, Result, Steps};
 use std::alloc::Global;
 
 /// Reads the members whose names are in a set, in order.
@@ -35,17 +35,6 @@ pub fn read_entries<N: Names, T: FromNode + Drop>(
         }
     }
     Ok(values)
-}
-
-/// Keeps the members whose names are in a set, in order, and lets go of the others.
-pub(crate) fn keep_entries<N: Names>(members: &mut Members)
-    ensures { members.new ≡ chosen N.test members.old }
-{
-    members.retain(
-        |name: &str, node: &mut Node| -> bool
-            ensures { (result ≡ N.test name.now) × (node.new ≡ node.old) }
-        { N::contains(name) },
-    );
 }
 
 /// Writes entries whose names are all to be in a set, in order, behind the members that are there.

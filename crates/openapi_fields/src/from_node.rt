@@ -36,17 +36,6 @@ pub trait FromNode: Sized {
         Self::from_view(alloc, &view, steps)
     }
 
-    /// The value that [`from_node`](FromNode::from_node) reads, made of the tree itself: what need not be copied may be
-    /// moved. It is refused as there, and the tree is gone then too.
-    fn from_owned_node(alloc: Global, node: Node, steps: &mut Steps) -> Result<Self>
-        ensures reads { ReadAs form_of result kind node }
-        ensures refuses { Refuses result kind node }
-        ensures rises { steps.old + 1 ≤ steps.new }
-        ensures count { steps.new ≤ steps.old + 3 * size_of node }
-    {
-        Self::from_node(alloc, &node, steps)
-    }
-
     /// The kind is well made.
     ghost well_made: { sound final_tables kind ≡ true };
 }

@@ -64,15 +64,6 @@ pub trait Record: Object + Sized {
         ensures rises { steps.old ≤ steps.new }
         ensures count { steps.new ≤ steps.old + 3 * rows_weight (final_tables Self.table) (members_of members.now) };
 
-    /// Reads the rows among the members of an object that is given up: what need not be copied may be moved.
-    fn from_owned_members(alloc: Global, members: Members, steps: &mut Steps) -> Result<Self>
-        ensures reads { RowsReadAs Self.rows_of result (by Self.table) (members_of members) }
-        ensures rises { steps.old ≤ steps.new }
-        ensures count { steps.new ≤ steps.old + 3 * rows_weight (final_tables Self.table) (members_of members) }
-    {
-        Self::from_members(alloc, &members, steps)
-    }
-
     /// Writes the rows into an object that has no members yet.
     fn put_rows(&self, alloc: Global, out: &mut Members) -> Result<()>
         requires { IsWritten final_tables [] out.old }
@@ -90,13 +81,6 @@ impl<T: Record> FromNode for T {
         match view {
             View::Object(members) => T::from_members(alloc, members, steps),
             _ => Err(Fault::new(alloc, Cause::WrongKind(Expected::Object))),
-        }
-    }
-
-    fn from_owned_node(alloc: Global, node: Node, steps: &mut Steps) -> Result<T> {
-        match node.into_object(steps) {
-            Some(members) => T::from_owned_members(alloc, members, steps),
-            None => Err(Fault::new(alloc, Cause::WrongKind(Expected::Object))),
         }
     }
 

@@ -1,39 +1,40 @@
 -- A clone of what the code keeps, beside the entries.
-use Rattle.std.proofs.Common.{◌≡◌, ℕ, List, [], ◌∷◌, Option, Some, None, Vec, string_bytes, refl, ◌∙◌, get_or, length}
+use Rattle.std.proofs.Common.{◌≡◌, ℕ, List, [], ◌∷◌, Option, Some, None, Vec, String, string_bytes, refl, ◌∙◌, get_or, length}
 use Rattle.std.proofs.Common.{slice_index, vec_len, sym, ap, arith}
 use Rattle.std.proofs.lemmas.List.Elements.{same_from_all_zip}
-use Rattle.std.specs.List.{AllZip}
+use Rattle.std.specs.List.{AllZip, zip}
 use Rattle.std.specs.declared.alloc.Global.{Global}
 use Rattle.std.specs.declared.boxed.Box.{Box}
-use Rattle.openapi_map.specs.declared.Member.{Member}
 use Rattle.std.proofs.Common.{subst}
 use Rattle.std.specs.List.{IsDistinct}
 use Rattle.std.specs.Str.{bytes_eq}
-use Rattle.openapi_map.specs.Held.{kept, IsHeldIndexed}
+use Rattle.openapi_map.specs.Held.{held_entries, kept, IsConsistent, IsHeldConsistent}
 use Rattle.openapi_map.specs.declared.Held.{Held}
-use Rattle.openapi_map.specs.Entries.{entries_of, names_of, IsCloneOf}
+use Rattle.openapi_map.specs.Entries.{names_of, HasDistinctNames, IsCloneOf}
 use Rattle.openapi_map.specs.Index.{AreMarked, IsIndex, IsIndexAt, bucket, link_at}
+use Rattle.openapi_map.proofs.HeldLemmas.{held_names}
 use Rattle.openapi_map.specs.declared.index.NameIndex.{NameIndex}
-use Rattle.openapi_map.specs.declared.lookup.Names.{Names}
-use Rattle.openapi_map.specs.declared.lookup.Names.TheVariants.{Few, Many}
+use Rattle.openapi_map.specs.declared.lookup.Finder.{Finder}
+use Rattle.openapi_map.specs.declared.lookup.Finder.TheVariants.{Few, Many}
 
-module _ {V : Type 0} (C : V → V → Type 0) where
-  -- the second has the first's name, by its bytes, and a clone of its value
-  abbrev pub IsEntryClone : Member V → Member V → Type 0
-  IsEntryClone e f = (string_bytes f.name ≡ string_bytes e.name) × C e.value f.value
+-- clones of names are the same names
+abbrev pub IsNameClone : String Global → String Global → Type 0
+IsNameClone n m = string_bytes m ≡ string_bytes n
 
-  pub entries_of-clone : (es fs : List (Member V)) → AllZip IsEntryClone es fs
-      → IsCloneOf C (entries_of es) (entries_of fs)
-  entries_of-clone [] [] h = tt
-  entries_of-clone [] (f ∷ fs) h = absurd h
-  entries_of-clone (e ∷ es) [] h = absurd h
-  entries_of-clone (e ∷ es) (f ∷ fs) h = (h.0, entries_of-clone es fs h.1)
+names_of-clone : (ns ms : List (String Global)) → AllZip IsNameClone ns ms → names_of ms ≡ names_of ns
+names_of-clone [] [] h = refl
+names_of-clone [] (m ∷ ms) h = absurd h
+names_of-clone (n ∷ ns) [] h = absurd h
+names_of-clone (n ∷ ns) (m ∷ ms) h = λ i. h.0 i ∷ names_of-clone ns ms h.1 i
 
-  pub names_of-clone : (es fs : List (Member V)) → AllZip IsEntryClone es fs → names_of fs ≡ names_of es
-  names_of-clone [] [] h = refl
-  names_of-clone [] (f ∷ fs) h = absurd h
-  names_of-clone (e ∷ es) [] h = absurd h
-  names_of-clone (e ∷ es) (f ∷ fs) h = λ i. h.0.0 i ∷ names_of-clone es fs h.1 i
+-- clones of values beside the same names
+zip-clone : {V : Type 0} (C : V → V → Type 0) (ks : List (List ℕ)) (vs ws : List V) → AllZip C vs ws
+    → IsCloneOf C (zip ks vs) (zip ks ws)
+zip-clone C [] vs ws h = tt
+zip-clone C (k ∷ ks) [] [] h = tt
+zip-clone C (k ∷ ks) [] (w ∷ ws) h = absurd h
+zip-clone C (k ∷ ks) (v ∷ vs) [] h = absurd h
+zip-clone C (k ∷ ks) (v ∷ vs) (w ∷ ws) h = ((refl, h.0), zip-clone C ks vs ws h.1)
 
 -- clones of links are the same links
 abbrev AreLinkClones : Vec ℕ Global → Vec ℕ Global → Type 0
@@ -57,41 +58,51 @@ IsIndex-clone names i j h is =
     }
 
 -- both have the same marks, or the second has a clone of the first's index
-abbrev pub IsNamesClone : Names → Names → Type 0
-IsNamesClone (Few m) (Few n) = n ≡ m
-IsNamesClone (Few m) (Many c) = ⊥
-IsNamesClone (Many b) (Few n) = ⊥
-IsNamesClone (Many b) (Many c) = AreLinkClones b.value.heads c.value.heads × AreLinkClones b.value.next c.value.next
+abbrev pub IsFinderClone : Finder → Finder → Type 0
+IsFinderClone (Few m) (Few n) = n ≡ m
+IsFinderClone (Few m) (Many c) = ⊥
+IsFinderClone (Many b) (Few n) = ⊥
+IsFinderClone (Many b) (Many c) = AreLinkClones b.value.heads c.value.heads × AreLinkClones b.value.next c.value.next
 
 -- a clone finds the same names
-pub IsIndexAt-clone : (names : List (List ℕ)) (a b : Names) → IsNamesClone a b → IsIndexAt names a → IsIndexAt names b
+IsIndexAt-clone : (names : List (List ℕ)) (a b : Finder) → IsFinderClone a b → IsIndexAt names a → IsIndexAt names b
 IsIndexAt-clone names (Few m) (Few n) h is = subst (AreMarked names) (sym h) is
 IsIndexAt-clone names (Few m) (Many c) h is = absurd h
 IsIndexAt-clone names (Many b) (Few n) h is = absurd h
 IsIndexAt-clone names (Many b) (Many c) h is = IsIndex-clone names b.value c.value h is
 
 module _ {V : Type 0} (C : V → V → Type 0) where
+  -- the second keeps clones of the first's names, values and finder
+  abbrev pub IsColumnsClone : Held V → Held V → Type 0
+  IsColumnsClone b c =
+      (AllZip IsNameClone b.names.items c.names.items × (vec_len c.names ≡ vec_len b.names))
+      × ((AllZip C b.values.items c.values.items × (vec_len c.values ≡ vec_len b.values))
+      × IsFinderClone b.finder c.finder)
+
   -- both maps keep entries, and the second the clones of the first's, or neither does
   abbrev pub IsHeldClone : Option (Box (Held V) Global) → Option (Box (Held V) Global) → Type 0
   IsHeldClone None None = Unit {0}
   IsHeldClone None (Some c) = ⊥
   IsHeldClone (Some b) None = ⊥
-  IsHeldClone (Some b) (Some c) =
-      (AllZip (IsEntryClone C) b.value.entries.items c.value.entries.items
-      × (vec_len c.value.entries ≡ vec_len b.value.entries)) × IsNamesClone b.value.names c.value.names
+  IsHeldClone (Some b) (Some c) = IsColumnsClone b.value c.value
 
-  -- the clone has the names, an index of them and clones of the values
+  -- the clone has the names, finds them, and has clones of the values
   pub kept-clone : (a b : Option (Box (Held V) Global)) → IsHeldClone a b
-      → IsDistinct bytes_eq (names_of (kept a)) × IsHeldIndexed a → (IsDistinct bytes_eq (names_of (kept b)) × IsHeldIndexed b)
-      × IsCloneOf C (entries_of (kept a)) (entries_of (kept b))
+      → HasDistinctNames (kept a) × IsHeldConsistent a
+      → (HasDistinctNames (kept b) × IsHeldConsistent b) × IsCloneOf C (kept a) (kept b)
   kept-clone None None h is = (is, tt)
   kept-clone None (Some c) h is = absurd h
   kept-clone (Some b) None h is = absurd h
   kept-clone (Some b) (Some c) h is =
-      let es = b.value.entries.items in
-      let fs = c.value.entries.items in
-      let names = sym (names_of-clone C es fs h.0.0) in (
-        subst (λ ns. IsDistinct bytes_eq ns × IsIndexAt ns c.value.names) names
-            (is.0, IsIndexAt-clone (names_of es) b.value.names c.value.names h.1 is.1),
-        entries_of-clone C es fs h.0.0,
-      )
+      let k = b.value in
+      let l = c.value in
+      let names = sym (names_of-clone k.names.items l.names.items h.0.0) in
+      let cloned = subst (λ ns. IsCloneOf C (held_entries k) (zip ns l.values.items)) names
+      (zip-clone C (names_of k.names.items) k.values.items l.values.items h.1.0.0) in
+      let consistent : IsConsistent l = record {
+        even = omega (arith, h.0.1, h.1.0.1, is.1.even, k.names.ok.0, k.values.ok.0, l.names.ok.0, l.values.ok.0);
+        index = subst (λ ns. IsIndexAt ns l.finder) names
+            (IsIndexAt-clone (names_of k.names.items) k.finder l.finder h.1.1 is.1.index);
+      } in
+      let keys = sym (held_names k is.1) ∙ names ∙ held_names l consistent in
+      ((subst (IsDistinct bytes_eq) keys is.0, consistent), cloned)

@@ -1,146 +1,118 @@
 -- The entries of a map: what the code keeps of them, the place of a name, and one entry after another.
-use Rattle.std.proofs.Common.{◌≡◌, ℕ, zero, suc, ◌+◌, ◌<◌, Bool, false, cond, not, List, [], ◌∷◌, ◌++◌, map, length}
-use Rattle.std.proofs.Common.{get_or, set, position, slice_get, Option, Some, None, is_some, nat_lt, string_bytes, take}
-use Rattle.std.proofs.Common.{drop, drop-cons, refl, sym, ap, subst, ◌∙◌, arith, true≢false}
-use Rattle.std.proofs.lemmas.List.{map-append, take-append-drop, take_more}
+use Rattle.std.proofs.Common.{◌≡◌, ℕ, zero, suc, ◌+◌, ◌<◌, Bool, false, cond, not, List, [], ◌∷◌, ◌++◌, length}
+use Rattle.std.proofs.Common.{get_or, set, remove, position, slice_get, Option, Some, None, is_some, nat_lt, String, string_bytes}
+use Rattle.std.proofs.Common.{take, drop, drop-cons, refl, sym, ap, subst, ◌∙◌, arith, true≢false}
+use Rattle.std.proofs.lemmas.List.{take-append-drop, take_more}
 use Rattle.std.proofs.lemmas.Map.Made.{is_some-lookup}
 use Rattle.std.proofs.lemmas.Option.{slice_get_within, get_or_from_slice_get}
 use Rattle.std.specs.Cmp.Lexicographic.{nat_list_eq_equiv}
-use Rattle.std.specs.List.{list_any, position_or_len}
+use Rattle.std.specs.List.{list_any, position_or_len, swap, zip}
 use Rattle.std.specs.Map.{keys_of, values_of}
 use Rattle.std.specs.Str.{bytes_eq}
+use Rattle.std.specs.declared.alloc.Global.{Global}
 use Rattle.indexmap.proofs.MapLemmas.{Found-position, insert_entry-first, insert_entry-absent, absent_from_lookup}
 use Rattle.indexmap.proofs.MapLemmas.{absent_before, some_index}
 use Rattle.indexmap.specs.IndexMap.{set_value_at}
 use Rattle.openapi_map.specs.Entries.{Entries, entries_of, names_of, get, insert_entry, HasDistinctNames}
-use Rattle.openapi_map.specs.declared.Member.{Member}
+use Rattle.openapi_map.specs.Former.{length-names_of}
+use Rattle.openapi_map.proofs.ZipLemmas.{length-keys_of, length-values_of, zip-columns}
 
--- ---- what the code keeps
-module _ {V : Type 0} where
-  -- there is an entry for each element that the code keeps
-  pub length-entries_of : (es : List (Member V)) → length (entries_of es) ≡ length es
-  length-entries_of [] = refl
-  length-entries_of (e ∷ es) = ap suc (length-entries_of es)
+-- ---- names by their bytes
+-- the name at a place
+pub name-get_or : (ns : List (String Global)) (i : ℕ) (d : String Global) → i < length ns
+    → get_or (names_of ns) i [] ≡ string_bytes (get_or ns i d)
+name-get_or [] i d h = absurd (omega arith)
+name-get_or (n ∷ ns) zero d h = refl
+name-get_or (n ∷ ns) (suc i) d h = name-get_or ns i d (omega arith)
 
-  -- and a name for each
-  pub length-names_of : (es : List (Member V)) → length (names_of es) ≡ length es
-  length-names_of [] = refl
-  length-names_of (e ∷ es) = ap suc (length-names_of es)
+-- the names as far as the next
+names-next : (ns : List (String Global)) (i : ℕ) (d : String Global) → i < length ns
+    → take i (names_of ns) ++ string_bytes (get_or ns i d) ∷ [] ≡ take (i + 1) (names_of ns)
+names-next ns i d h =
+    let names = names_of ns in
+    ap (λ x. take i names ++ x ∷ []) (sym (name-get_or ns i d h))
+    ∙ sym (take_more names i [] (omega (arith, h, length-names_of ns)))
 
-  -- a place among the entries of a map is one among the elements that the code keeps for it
-  pub within-entries : (es : List (Member V)) (m : Entries V) (i : ℕ) → entries_of es ≡ m → i < length m
-      → i < length es
-  within-entries es m i e h = omega (arith, ap length e, length-entries_of es)
+-- the same of a name that is told by its bytes, where the names are told by what is walked over
+pub names-longer : (ns : List (String Global)) (i : ℕ) (n : String Global) {items : List (String Global)} {name : List ℕ}
+    → items ≡ ns → i < length items → n ≡ get_or items i n → name ≡ string_bytes n
+    → take i (names_of ns) ++ name ∷ [] ≡ take (i + 1) (names_of ns)
+names-longer ns i n items h is name =
+    ap (λ x. take i (names_of ns) ++ x ∷ [])
+    (name ∙ ap string_bytes (is ∙ ap (λ xs. get_or xs i n) items))
+    ∙ names-next ns i n (omega (arith, h, ap length items))
 
-  -- the same of the elements as they are walked over
-  pub within-items : (es : List (Member V)) (m : Entries V) (i : ℕ) {items : List (Member V)} → entries_of es ≡ m
-      → i < length m → items ≡ es → i < length items
-  within-items es m i e h is = omega (arith, within-entries es m i e h, ap length is)
+-- a name that goes last
+pub names_of-push : (ns : List (String Global)) (n : String Global)
+    → names_of (ns ++ n ∷ []) ≡ names_of ns ++ string_bytes n ∷ []
+names_of-push [] n = refl
+names_of-push (x ∷ ns) n = ap (λ r. string_bytes x ∷ r) (names_of-push ns n)
 
-  -- the entry at a place has the name, by its bytes, and the value of the element there
-  pub entry-entries_of : (es : List (Member V)) (i : ℕ) (d : Member V) → i < length es
-      → slice_get (entries_of es) i ≡ Some (string_bytes (get_or es i d).name, (get_or es i d).value)
-  entry-entries_of [] i d h = absurd (omega arith)
-  entry-entries_of (e ∷ es) zero d h = refl
-  entry-entries_of (e ∷ es) (suc i) d h = entry-entries_of es i d (omega arith)
+-- a name that goes
+pub names_of-remove : (ns : List (String Global)) (i : ℕ) → names_of (remove ns i) ≡ remove (names_of ns) i
+names_of-remove (n ∷ ns) (suc i) = ap (λ r. string_bytes n ∷ r) (names_of-remove ns i)
+names_of-remove ns zero = refl
+names_of-remove ns i = refl
 
-  -- the name at a place is that of the element there, by its bytes
-  pub name-get_or : (es : List (Member V)) (i : ℕ) (d : Member V) → i < length es
-      → get_or (names_of es) i [] ≡ string_bytes (get_or es i d).name
-  name-get_or [] i d h = absurd (omega arith)
-  name-get_or (e ∷ es) zero d h = refl
-  name-get_or (e ∷ es) (suc i) d h = name-get_or es i d (omega arith)
+names_of-set : (ns : List (String Global)) (i : ℕ) (n : String Global)
+    → names_of (set ns i n) ≡ set (names_of ns) i (string_bytes n)
+names_of-set [] i n = refl
+names_of-set (x ∷ ns) zero n = refl
+names_of-set (x ∷ ns) (suc i) n = ap (λ r. string_bytes x ∷ r) (names_of-set ns i n)
 
-  -- the names as far as the next
-  pub names-next : (es : List (Member V)) (i : ℕ) (d : Member V) → i < length es
-      → take i (names_of es) ++ string_bytes (get_or es i d).name ∷ [] ≡ take (i + 1) (names_of es)
-  names-next es i d h =
-      let names = names_of es in
-      ap (λ x. take i names ++ x ∷ []) (sym (name-get_or es i d h))
-      ∙ sym (take_more names i [] (omega (arith, h, length-names_of es)))
+pub names_of-get_or : (ns : List (String Global)) (i : ℕ) (d : String Global)
+    → string_bytes (get_or ns i d) ≡ get_or (names_of ns) i (string_bytes d)
+names_of-get_or [] i d = refl
+names_of-get_or (n ∷ ns) zero d = refl
+names_of-get_or (n ∷ ns) (suc i) d = names_of-get_or ns i d
 
-  -- the same of a name that is told by the element, where the elements are told by what is walked over
-  pub names-longer : (es : List (Member V)) (i : ℕ) (e : Member V) {items : List (Member V)} {name : List ℕ}
-      → items ≡ es → i < length items → e ≡ get_or items i e → name ≡ string_bytes e.name
-      → take i (names_of es) ++ name ∷ [] ≡ take (i + 1) (names_of es)
-  names-longer es i e items h is name =
-      ap (λ x. take i (names_of es) ++ x ∷ [])
-      (name ∙ ap (λ x. string_bytes x.name) (is ∙ ap (λ xs. get_or xs i e) items))
-      ∙ names-next es i e (omega (arith, h, ap length items))
+-- names that change places
+pub names_of-swap : (ns : List (String Global)) (i j : ℕ) → names_of (swap ns i j) ≡ swap (names_of ns) i j
+names_of-swap [] i j = refl
+names_of-swap (n ∷ ns) i j =
+    let ms = n ∷ ns in
+    names_of-set (set ms i (get_or ms j n)) j (get_or ms i n)
+    ∙ ap (λ l. set l j (string_bytes (get_or ms i n))) (names_of-set ms i (get_or ms j n))
+    ∙ (λ k. set (set (names_of ms) i (names_of-get_or ms j n k)) j (names_of-get_or ms i n k))
 
-  -- the value at a place is that of the element there
-  pub value-entries_of : (es : List (Member V)) (i : ℕ) (d : Member V) → i < length es
-      → slice_get (values_of (entries_of es)) i ≡ Some (get_or es i d).value
-  value-entries_of [] i d h = absurd (omega arith)
-  value-entries_of (e ∷ es) zero d h = refl
-  value-entries_of (e ∷ es) (suc i) d h = value-entries_of es i d (omega arith)
+pub names_of-take : (k : ℕ) (ns : List (String Global)) → names_of (take k ns) ≡ take k (names_of ns)
+names_of-take zero ns = refl
+names_of-take (suc k) [] = refl
+names_of-take (suc k) (n ∷ ns) = ap (λ r. string_bytes n ∷ r) (names_of-take k ns)
 
-  -- an element that goes last makes an entry that goes last
-  pub entries_of-push : (es : List (Member V)) (e : Member V)
-      → entries_of (es ++ e ∷ []) ≡ entries_of es ++ (string_bytes e.name, e.value) ∷ []
-  entries_of-push [] e = refl
-  entries_of-push (x ∷ es) e = ap (λ r. (string_bytes x.name, x.value) ∷ r) (entries_of-push es e)
+-- a name is at the same place by its bytes
+pub position-names_of : (t : List ℕ → Bool) (ns : List (String Global))
+    → position (λ n. t (string_bytes n)) ns ≡ position t (names_of ns)
+position-names_of t ns = λ i. cond (nat_lt (places ns i) (sym (length-names_of ns) i)) (Some (places ns i)) None
+  where
+    places : (ms : List (String Global)) → position_or_len (λ n. t (string_bytes n)) ms ≡ position_or_len t (names_of ms)
+    places [] = refl
+    places (n ∷ ms) = ap (λ p. cond (not (t (string_bytes n))) (1 + p) 0) (places ms)
 
-  -- and its name goes last among the names
-  pub names_of-push : (es : List (Member V)) (e : Member V)
-      → names_of (es ++ e ∷ []) ≡ names_of es ++ string_bytes e.name ∷ []
-  names_of-push es e =
-      ap keys_of (entries_of-push es e)
-      ∙ map-append (λ x. x.0) (entries_of es) ((string_bytes e.name, e.value) ∷ [])
+-- ---- names and values that are those of entries
+module _ {V : Type 0} (ns : List (String Global)) (vs : List V) (es : Entries V) (names : names_of ns ≡ keys_of es)
+    (values : vs ≡ values_of es) where
+  pub length-names : length ns ≡ length es
+  length-names = sym (length-names_of ns) ∙ ap length names ∙ length-keys_of es
 
-  -- a value that is put at a place is set there among the entries
-  pub entries_of-set : (es : List (Member V)) (i : ℕ) (d : Member V) (v : V)
-      → entries_of (set es i (record { name = (get_or es i d).name; value = v })) ≡ set_value_at (entries_of es) i v
-  entries_of-set [] i d v = refl
-  entries_of-set (e ∷ es) zero d v = refl
-  entries_of-set (e ∷ es) (suc i) d v = ap (λ r. (string_bytes e.name, e.value) ∷ r) (entries_of-set es i d v)
+  pub even-columns : length vs ≡ length ns
+  even-columns = ap length values ∙ length-values_of es ∙ sym length-names
 
-  -- the names are the same once a value is put at a place
-  pub names_of-set : (es : List (Member V)) (i : ℕ) (d : Member V) (v : V)
-      → names_of (set es i (record { name = (get_or es i d).name; value = v })) ≡ names_of es
-  names_of-set [] i d v = refl
-  names_of-set (e ∷ es) zero d v = refl
-  names_of-set (e ∷ es) (suc i) d v = ap (λ r. string_bytes e.name ∷ r) (names_of-set es i d v)
+  pub entries-columns : entries_of ns vs ≡ es
+  entries-columns = (λ i. zip (names i) (values i)) ∙ zip-columns es
 
 -- ---- the place of a name
--- a name is at the place of the element that it is read from
-pub position-map : {A B : Type 0} (f : A → B) (t : B → Bool) (xs : List A)
-    → position (λ x. t (f x)) xs ≡ position t (map f xs)
-position-map {A} f t xs = λ i. cond (nat_lt (places xs i) (lengths xs i)) (Some (places xs i)) None
-  where
-    places : (ys : List A) → position_or_len (λ x. t (f x)) ys ≡ position_or_len t (map f ys)
-    places [] = refl
-    places (y ∷ ys) = ap (λ n. cond (not (t (f y))) (1 + n) 0) (places ys)
-
-    lengths : (ys : List A) → length ys ≡ length (map f ys)
-    lengths [] = refl
-    lengths (y ∷ ys) = ap suc (lengths ys)
-
--- the bytes of the names that the code keeps are the names of the entries
-pub names_of-map : {V : Type 0} (es : List (Member V)) → map (λ e. string_bytes e.name) es ≡ names_of es
-names_of-map [] = refl
-names_of-map (e ∷ es) = ap (λ r. string_bytes e.name ∷ r) (names_of-map es)
-
 -- what the look for a name answered, at the name's bytes and the map's entries
-pub at_bytes : {V : Type 0} (es : List (Member V)) (m : Entries V) → entries_of es ≡ m → (r : Option ℕ)
-    (n name : List ℕ) → r ≡ position (bytes_eq n) (names_of es) → n ≡ name → r ≡ position (bytes_eq name) (keys_of m)
+pub at_bytes : {V : Type 0} (es m : Entries V) → es ≡ m → (r : Option ℕ) (n name : List ℕ)
+    → r ≡ position (bytes_eq n) (keys_of es) → n ≡ name → r ≡ position (bytes_eq name) (keys_of m)
 at_bytes es m shows r n name found is = found ∙ (λ j. position (bytes_eq (is j)) (keys_of (shows j)))
 
 module _ {V : Type 0} (name : List ℕ) where
-  -- a name with a place has the value there
-  pub get-found : (es : List (Member V)) (i : ℕ) (d : Member V) → Some i ≡ position (bytes_eq name) (names_of es)
-      → Some (get_or es i d).value ≡ get name (entries_of es)
-  get-found es i d p =
-      let found = Found-position (bytes_eq name) (entries_of es) i (sym p) in
-      sym (found.value ∙ value-entries_of es i d (omega (arith, found.within, length-entries_of es)))
+  -- the place of a name is one among the entries
+  pub found-within : (es : Entries V) (i : ℕ) → Some i ≡ position (bytes_eq name) (keys_of es) → i < length es
+  found-within es i p = (Found-position (bytes_eq name) es i (sym p)).within
 
-  -- the place of a name is one among the elements that the code keeps
-  pub found-within : (es : List (Member V)) (i : ℕ) → Some i ≡ position (bytes_eq name) (names_of es)
-      → i < length es
-  found-within es i p =
-      omega (arith, (Found-position (bytes_eq name) (entries_of es) i (sym p)).within, length-entries_of es)
-
-  -- and one with none has no value
+  -- a name with no place has no value
   pub get-missing : (es : Entries V) → None ≡ position (bytes_eq name) (keys_of es) → None ≡ get name es
   get-missing es p = by (get name es) (ap is_some p ∙ some_index (bytes_eq name) es)
     where

@@ -11,19 +11,19 @@ use Rattle.std.proofs.lemmas.Map.Keys.{IsDistinct-push, apart_from_distinct}
 use Rattle.std.proofs.lemmas.Slice.Eq.{bytes_eq-Decides}
 use Rattle.std.proofs.Math.ListN.{get_or-append}
 use Rattle.std.proofs.Math.Seq.{get_or-append_seam}
-use Rattle.std.proofs.lemmas.List.{length-append, get_or-replicate}
+use Rattle.std.proofs.lemmas.List.{length-append, get_or-replicate, map-append}
 use Rattle.std.specs.Cmp.Lexicographic.{nat_list_eq_equiv}
 use Rattle.std.specs.List.{IsDistinct, position_or_len}
 use Rattle.std.specs.Str.{bytes_eq}
 use Rattle.std.specs.Vec.{with_item}
 use Rattle.std.specs.declared.alloc.Global.{Global}
 use mathlib.Core.Logic.{inl, inr}
-use Rattle.openapi_map.specs.Entries.{Entries, entries_of, names_of, get, HasDistinctNames}
+use Rattle.openapi_map.specs.Entries.{Entries, get, HasDistinctNames}
+use Rattle.std.specs.Map.{keys_of}
 use Rattle.openapi_map.specs.Index.{bucket, link_at, moved_link, HasPlace, IsIndex, IsIndexAt}
-use Rattle.openapi_map.specs.declared.Member.{Member}
 use Rattle.openapi_map.specs.declared.index.NameIndex.{NameIndex}
-use Rattle.openapi_map.specs.declared.lookup.Names.{Names}
-use Rattle.openapi_map.specs.declared.lookup.Names.TheVariants.{Few, Many}
+use Rattle.openapi_map.specs.declared.lookup.Finder.{Finder}
+use Rattle.openapi_map.specs.declared.lookup.Finder.TheVariants.{Few, Many}
 use Rattle.openapi_map.proofs.EntryLemmas.{none-among}
 use Rattle.openapi_map.proofs.LinkLemmas.{link_at-same, link_at-push, link_at-moved, link_at-below, Leads}
 use Rattle.openapi_map.proofs.LinkLemmas.{link_at-Leads, moved-low}
@@ -33,14 +33,12 @@ pub distinct-nil : IsDistinct bytes_eq []
 unfolding IsDistinct
 distinct-nil = tt
 
--- a name that the map lacks goes with those of the entries es, of which rs is another writing
-pub distinct-names : {V : Type 0} (name : List ℕ) (es rs : List (Member V)) (m : Entries V) → rs ≡ es
-    → entries_of es ≡ m → HasDistinctNames (entries_of es) → get name m ≡ None
-    → IsDistinct bytes_eq (names_of rs ++ name ∷ [])
-distinct-names name es rs m same shows distinct absent =
-    subst (λ l. IsDistinct bytes_eq (names_of l ++ name ∷ [])) (sym same)
-    (IsDistinct-push nat_list_eq_equiv (names_of es) name distinct
-    (none-among name (entries_of es) (ap (get name) shows ∙ absent)))
+-- a name that the map lacks goes with its names
+pub distinct-names : {V : Type 0} (name : List ℕ) (m : Entries V) (v : V) → HasDistinctNames m → get name m ≡ None
+    → HasDistinctNames (m ++ (name, v) ∷ [])
+distinct-names name m v distinct absent =
+    subst (IsDistinct bytes_eq) (sym (map-append (λ x. x.0) m ((name, v) ∷ [])))
+    (IsDistinct-push nat_list_eq_equiv (keys_of m) name distinct (none-among name m absent))
 
 -- ---- a name goes last
 module _ (names : List (List ℕ)) (name : List ℕ) (index : NameIndex) (is : IsIndex names index) where
@@ -170,7 +168,7 @@ module _ (names : List (List ℕ)) (index : NameIndex) (is : IsIndex names index
   }
 
 -- an index has a link at each place
-pub linked : (names : List (List ℕ)) (found : Names) (i : ℕ) → IsIndexAt names found → i < length names → HasPlace i found
+pub linked : (names : List (List ℕ)) (found : Finder) (i : ℕ) → IsIndexAt names found → i < length names → HasPlace i found
 linked names (Few marks) i is within = tt
 linked names (Many b) i is within = omega (arith, is.len, within)
 

@@ -1,8 +1,8 @@
 -- What runs of the iterators give.
-use Rattle.std.proofs.Common.{length, ap}
+use Rattle.std.proofs.Common.{List, length, ap}
 use Rattle.std.proofs.iter.runs.Sources.{from_front}
 use Rattle.std.specs.Map.{values_of}
-use Rattle.std.specs.Map.Iter.{TakesFirst, ShowsInOrder, ShowsValuesInOrder}
+use Rattle.std.specs.Map.Iter.{TakesFirst, LendsFirst, ShowsInOrder, ShowsValuesInOrder, LendsValuesInOrder}
 
 -- an iterator that is seen as the list of what it has left gives that list
 pub shows_in_order : {A X : Type 0} (shows : A → X) → ShowsInOrder shows
@@ -13,4 +13,10 @@ shows_in_order shows =
 pub shows_values_in_order : {A K X : Type 0} (shows : A → K × X) → ShowsValuesInOrder shows
 shows_values_in_order shows =
     from_front (TakesFirst shows) (λ x. (shows x).1) values_of
+    (λ s t h. ap (λ l. length (values_of l)) h.0) (λ s x t h. ap values_of h)
+
+-- the same where the values are borrowed mutably
+pub lends_values_in_order : {S K X : Type 0} (rest : S → List (K × X)) → LendsValuesInOrder rest
+lends_values_in_order rest =
+    from_front (LendsFirst rest) (λ x. x.1.now) (λ s. values_of (rest s))
     (λ s t h. ap (λ l. length (values_of l)) h.0) (λ s x t h. ap values_of h)

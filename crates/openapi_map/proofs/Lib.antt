@@ -9,3 +9,4 @@ mod PlaceLemmas
 mod RemoveLemmas
 mod RetainLemmas
 mod MarkLemmas
+mod ZipLemmas

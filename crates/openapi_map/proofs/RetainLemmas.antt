@@ -1,14 +1,16 @@
 -- What the loop of `retain` keeps.
 use Rattle.std.proofs.Common.{◌≡◌, ℕ, zero, suc, ◌+◌, ◌<◌, ◌≤◌, Bool, true, false, cond, List, [], ◌∷◌, ◌++◌, length, get_or, set}
-use Rattle.std.proofs.Common.{take, drop, drop-cons, string_bytes, refl, sym, ap, subst, ◌∙◌, arith}
+use Rattle.std.proofs.Common.{take, drop, drop-cons, String, string_bytes, refl, sym, ap, subst, ◌∙◌, arith}
 use Rattle.std.proofs.lemmas.List.{append_assoc, append-nil, take-set-le, drop-set-lt, get_or-set_same, drop_all, length-set}
-use Rattle.std.specs.List.{swap, IsDistinct, AllByRecursion}
+use Rattle.std.specs.List.{swap, zip, IsDistinct, AllByRecursion}
 use Rattle.std.specs.Map.{keys_of}
 use Rattle.std.specs.Str.{bytes_eq}
 use Rattle.std.specs.Map.Calls.{RetainsPairs}
-use Rattle.openapi_map.specs.Entries.{Entries, entries_of, HasDistinctNames}
-use Rattle.openapi_map.specs.declared.Member.{Member}
-use Rattle.openapi_map.proofs.EntryLemmas.{entries_of-push}
+use Rattle.std.specs.declared.alloc.Global.{Global}
+use Rattle.openapi_map.specs.Entries.{Entries, entries_of, names_of, HasDistinctNames}
+use Rattle.openapi_map.specs.Former.{length-names_of}
+use Rattle.openapi_map.proofs.EntryLemmas.{names_of-get_or, names_of-swap, names_of-take}
+use Rattle.openapi_map.proofs.ZipLemmas.{zip-put, zip-swap, zip-take}
 
 -- ---- an element that is moved to the front
 module _ {X : Type 0} where
@@ -46,36 +48,36 @@ module _ {X : Type 0} where
 
 module _ {F V : Type 0} (T : F → List ℕ → V → Bool → V → F → Type 0) where
   -- the first i entries were asked about, and the first n are those that stay
-  pub record Sifted (f₀ : F) (es₀ : List (Member V)) (f : F) (es : List (Member V)) (n i : ℕ) : Type 0 where
-    pub rest : (left : Entries V) → RetainsPairs T f (entries_of (drop i es)) left
-        → RetainsPairs T f₀ (entries_of es₀) (entries_of (take n es) ++ left)
+  pub record Sifted (f₀ : F) (es₀ : Entries V) (f : F) (es : Entries V) (n i : ℕ) : Type 0 where
+    pub rest : (left : Entries V) → RetainsPairs T f (drop i es) left
+        → RetainsPairs T f₀ es₀ (take n es ++ left)
 
-  module _ {f₀ : F} {es₀ : List (Member V)} {f : F} {es : List (Member V)} {n i : ℕ} (s : Sifted f₀ es₀ f es n i)
-      (le : n ≤ i) (within : i < length es) (e : Member V) (at : e ≡ get_or es i e) (w : V) (f' : F) where
+  module _ {f₀ : F} {es₀ : Entries V} {f : F} {es : Entries V} {n i : ℕ} (s : Sifted f₀ es₀ f es n i)
+      (le : n ≤ i) (within : i < length es) (e : List ℕ × V) (at : e ≡ get_or es i e) (w : V) (f' : F) where
     -- the next entry, with what was left at its value
-    abbrev written : Member V
-    written = record { name = e.name; value = w }
+    abbrev written : List ℕ × V
+    written = (e.0, w)
 
     -- what is found of the entries behind it
-    onward : (b : Bool) (left left' : Entries V) → T f (string_bytes e.name) e.value b w f'
-        → RetainsPairs T f' (entries_of (drop (i + 1) es)) left
-        → left' ≡ cond b ((string_bytes e.name, w) ∷ left) left
-        → RetainsPairs T f₀ (entries_of es₀) (entries_of (take n es) ++ left')
+    onward : (b : Bool) (left left' : Entries V) → T f e.0 e.1 b w f'
+        → RetainsPairs T f' (drop (i + 1) es) left
+        → left' ≡ cond b ((e.0, w) ∷ left) left
+        → RetainsPairs T f₀ es₀ (take n es ++ left')
     onward b left left' t on is =
         s.rest left'
-        (subst (λ xs. RetainsPairs T f (entries_of xs) left') (sym (begins es i e within at)) (b, w, f', left, t, on, is))
+        (subst (λ xs. RetainsPairs T f xs left') (sym (begins es i e within at)) (b, w, f', left, t, on, is))
 
     -- the next one goes
-    pub sifted-passed : T f (string_bytes e.name) e.value false w f' → Sifted f₀ es₀ f' (set es i written) n (i + 1)
+    pub sifted-passed : T f e.0 e.1 false w f' → Sifted f₀ es₀ f' (set es i written) n (i + 1)
     sifted-passed t = record {
       rest = λ left r.
-          let on = subst (λ xs. RetainsPairs T f' (entries_of xs) left) (drop-set-lt (i + 1) es i written (omega arith)) r in
-          subst (λ xs. RetainsPairs T f₀ (entries_of es₀) (entries_of xs ++ left)) (sym (take-set-le n es i written le))
+          let on = subst (λ xs. RetainsPairs T f' xs left) (drop-set-lt (i + 1) es i written (omega arith)) r in
+          subst (λ xs. RetainsPairs T f₀ es₀ (xs ++ left)) (sym (take-set-le n es i written le))
           (onward false left left t on refl);
     }
 
     -- the next one stays
-    pub sifted-kept : T f (string_bytes e.name) e.value true w f'
+    pub sifted-kept : T f e.0 e.1 true w f'
         → Sifted f₀ es₀ f' (swap (set es i written) n i) (n + 1) (i + 1)
     sifted-kept t =
         let put = set es i written in
@@ -87,20 +89,19 @@ module _ {F V : Type 0} (T : F → List ℕ → V → Bool → V → F → Type 
         moved_back put n i le ∙ drop-set-lt (i + 1) es i written (omega arith) in
         record {
           rest = λ left r.
-              let on = subst (λ xs. RetainsPairs T f' (entries_of xs) left) behind r in
-              let entry : List ℕ × V = (string_bytes e.name, w) in
-              subst (λ xs. RetainsPairs T f₀ (entries_of es₀) xs)
-              (sym (ap (λ xs. entries_of xs ++ left) first ∙ ap (λ xs. xs ++ left) (entries_of-push (take n es) written)
-              ∙ append_assoc (entries_of (take n es)) (entry ∷ []) left))
+              let on = subst (λ xs. RetainsPairs T f' xs left) behind r in
+              let entry : List ℕ × V = (e.0, w) in
+              subst (λ xs. RetainsPairs T f₀ es₀ xs)
+              (sym (ap (λ xs. xs ++ left) first ∙ append_assoc (take n es) (entry ∷ []) left))
               (onward true left (entry ∷ left) t on refl);
         }
 
   -- and so on to the last
-  pub sifted-all : {f₀ : F} {es₀ : List (Member V)} {f : F} {es : List (Member V)} {n i : ℕ} → Sifted f₀ es₀ f es n i
-      → length es ≤ i → RetainsPairs T f₀ (entries_of es₀) (entries_of (take n es))
+  pub sifted-all : {f₀ : F} {es₀ : Entries V} {f : F} {es : Entries V} {n i : ℕ} → Sifted f₀ es₀ f es n i
+      → length es ≤ i → RetainsPairs T f₀ es₀ (take n es)
   sifted-all {f₀ = f₀} {es₀ = es₀} {f = f} {es = es} {n = n} {i = i} s done =
-      let none = subst (λ xs. RetainsPairs T f (entries_of xs) []) (sym (drop_all i es done)) refl in
-      subst (RetainsPairs T f₀ (entries_of es₀)) (append-nil (entries_of (take n es))) (s.rest [] none)
+      let none = subst (λ xs. RetainsPairs T f xs []) (sym (drop_all i es done)) refl in
+      subst (RetainsPairs T f₀ es₀) (append-nil (take n es)) (s.rest [] none)
 
   -- a name that is none of the entries' is none of those that are left
   apart-retained : (name : List ℕ) (f : F) (es left : Entries V) → RetainsPairs T f es left
@@ -124,3 +125,21 @@ module _ {F V : Type 0} (T : F → List ℕ → V → Bool → V → F → Type 
         | true ↦ (apart-retained e.0 r.2 es r.3 r.5 d.0, rest)
         | false ↦ rest
       ])
+
+-- ---- names and values in two lists
+module _ {V : Type 0} (ns : List (String Global)) (vs : List V) where
+  -- a value that is written at a place, beside its name
+  pub column-written : (i : ℕ) (n : String Global) (w : V) → n ≡ get_or ns i n
+      → entries_of ns (set vs i w) ≡ set (entries_of ns vs) i (string_bytes n, w)
+  column-written i n w is = zip-put (names_of ns) vs i (string_bytes n) w (ap string_bytes is ∙ names_of-get_or ns i n)
+
+  -- names and values that change places
+  pub columns-swapped : (i j : ℕ) → length vs ≡ length ns
+      → entries_of (swap ns i j) (swap vs i j) ≡ swap (entries_of ns vs) i j
+  columns-swapped i j even =
+      ap (λ ks. zip ks (swap vs i j)) (names_of-swap ns i j)
+      ∙ zip-swap (names_of ns) vs i j (even ∙ sym (length-names_of ns))
+
+  -- as many names as values from the front
+  pub columns-taken : (k : ℕ) → entries_of (take k ns) (take k vs) ≡ take k (entries_of ns vs)
+  columns-taken k = ap (λ ks. zip ks (take k vs)) (names_of-take k ns) ∙ zip-take k (names_of ns) vs

@@ -1,26 +1,25 @@
 -- A map as the list of its entries: each name, by its bytes, beside its value.
 use Rattle.std.specs.Prelude.{◌≡◌, ℕ, List, [], ◌∷◌, Option, String, string_bytes}
-use Rattle.std.specs.List.{IsDistinct, AllZip}
+use Rattle.std.specs.List.{IsDistinct, AllZip, zip}
 use Rattle.std.specs.Map.{keys_of, lookup}
 use Rattle.std.specs.Map as map
 use Rattle.std.specs.Str.{bytes_eq}
 use Rattle.std.specs.declared.alloc.Global.{Global}
 use Rattle.indexmap.specs.IndexMap as index_map
-use Rattle.openapi_map.specs.declared.Member.{Member}
 
 -- entries in their order, each a name and a value
 abbrev pub Entries : Type 0 → Type 0
 Entries V = List (List ℕ × V)
 
-module _ {V : Type 0} where
-  -- what the code keeps, with each name by its bytes
-  abbrev pub entries_of : List (Member V) → Entries V
-  entries_of [] = []
-  entries_of (e ∷ es) = (string_bytes e.name, e.value) ∷ entries_of es
+-- names by their bytes
+abbrev pub names_of : List (String Global) → List (List ℕ)
+names_of [] = []
+names_of (n ∷ ns) = string_bytes n ∷ names_of ns
 
-  -- the names of what the code keeps
-  abbrev pub names_of : List (Member V) → List (List ℕ)
-  names_of es = keys_of (entries_of es)
+module _ {V : Type 0} where
+  -- the entries that the code keeps as names and, at the same places, values
+  abbrev pub entries_of : List (String Global) → List V → Entries V
+  entries_of names values = zip (names_of names) values
 
   -- an entry whose name is owned, with the name by its bytes
   abbrev pub owned_entry : String Global × V → List ℕ × V

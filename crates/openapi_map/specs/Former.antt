@@ -1,9 +1,9 @@
 -- A list of entries as a former of its values.
-use Rattle.std.specs.Prelude.{◌≡◌, ℕ, max, Bool, true, false, cond, ◌&&◌, List, [], ◌∷◌, map, Option, Some, None}
-use Rattle.std.specs.Prelude.{String, string_bytes}
+use Rattle.std.specs.Prelude.{◌≡◌, ℕ, suc, length, max, Bool, true, false, cond, ◌&&◌, List, [], ◌∷◌, map, Option, Some, None}
+use Rattle.std.specs.Prelude.{String}
 use Rattle.std.specs.HashMap.{entries_eq}
 use Rattle.std.specs.Int.{bit_at}
-use Rattle.std.specs.List.{IsDistinct, IsDistinct-prop, list_all}
+use Rattle.std.specs.List.{IsDistinct-prop, list_all, zip}
 use Rattle.std.specs.Map.{keys_of, values_of, lookup_entry}
 use Rattle.std.specs.Option.{option_eq, option_map}
 use Rattle.std.specs.Str.{bytes_eq}
@@ -11,9 +11,10 @@ use Rattle.std.specs.declared.alloc.Global.{Global}
 use Rattle.std.specs.declared.boxed.Box.{Box}
 use Rattle.std.proofs.Math.Bridge.{le_prop}
 use Rattle.std.proofs.Math.Nat.{ℕ_set}
+use native.Mathlib.Omega.{arith}
 use mathlib.Core.Path.{refl, sym, ap, ◌∙◌}
 use mathlib.Core.HLevel.{×_prop}
-use mathlib.Core.Former.{Former, Count, Row, one_more, this, const, pair, list, via, list_count, list_put, children}
+use mathlib.Core.Former.{Former, Count, Row, one_more, this, const, pair, list, list_count, list_put, children}
 use base.Stored.{code_map, coded×, coded_list, coded_ℕ, gcons}
 use denote.RattleType.{RattleType}
 use denote.HolePlaces.{Recodes}
@@ -21,14 +22,13 @@ use denote.Hole.Carrier.{listed}
 use denote.Model.Placed.{held}
 use denote.Param.Nested.{deepest}
 use denote.Param.Weighed.{Weighed, most, none_max, List-puts, w_pair, w_const}
-use Rattle.openapi_map.specs.declared.Member.{Member}
-use Rattle.openapi_map.specs.Entries.{Entries, entries_of, names_of}
+use Rattle.openapi_map.specs.Entries.{Entries, HasDistinctNames, names_of}
 use Rattle.openapi_map.specs.Index.{AreMarked, IsIndex, IsIndexAt, mark}
-use Rattle.openapi_map.specs.Held.{kept, IsHeldIndexed}
+use Rattle.openapi_map.specs.Held.{kept, IsConsistent, IsHeldConsistent}
 use Rattle.openapi_map.specs.declared.Held.{Held}
 use Rattle.openapi_map.specs.declared.index.NameIndex.{NameIndex}
-use Rattle.openapi_map.specs.declared.lookup.Names.{Names}
-use Rattle.openapi_map.specs.declared.lookup.Names.TheVariants.{Few, Many}
+use Rattle.openapi_map.specs.declared.lookup.Finder.{Finder}
+use Rattle.openapi_map.specs.declared.lookup.Finder.TheVariants.{Few, Many}
 
 -- a name beside one of g's values
 abbrev pub entry : Former {0} → Former {0}
@@ -37,15 +37,6 @@ entry g = pair (const (List ℕ)) g
 -- the entry, with h applied to its value
 abbrev pub on_value : {X Y : Type 0} → (X → Y) → List ℕ × X → List ℕ × Y
 on_value h p = (p.0, h p.1)
-
--- what the code keeps for an entry
-abbrev pub stored : Former {0}
-stored =
-    via (pair (const (String Global)) this) Member
-    (λ X e. (e.name, e.value)) (λ X v. record { name = v.0; value = v.1 }) (λ X e. refl) (λ X v. refl)
-
-abbrev pub on_stored : {X Y : Type 0} → (X → Y) → Member X → Member Y
-on_stored h e = record { name = e.name; value = h e.value }
 
 -- names weigh nothing
 most_values : {Y : Type 0} (f : Y → ℕ) (es : Entries Y) → most (λ p. max 0 (f p.1)) es ≡ most f (values_of es)
@@ -71,20 +62,25 @@ entries_recoded R R' h e es =
     let code' = (coded× (coded_list coded_ℕ) R'.coded).code in
     sym (code_map code code' (on_value h) (λ x i. gcons ((coded_list coded_ℕ).code x.0) (sym (e x.1) i)) es)
 
-pub entries_of-map : {X Y : Type 0} (h : X → Y) (es : List (Member X))
-    → entries_of (map (on_stored h) es) ≡ map (on_value h) (entries_of es)
-entries_of-map h [] = refl
-entries_of-map h (e ∷ es) = ap (λ l. (string_bytes e.name, h e.value) ∷ l) (entries_of-map h es)
+-- values that are mapped before they stand beside their names, or after
+pub zip-map : {X Y : Type 0} (h : X → Y) (ns : List (List ℕ)) (vs : List X)
+    → zip ns (map h vs) ≡ map (on_value h) (zip ns vs)
+zip-map h [] vs = refl
+zip-map h (n ∷ ns) [] = refl
+zip-map h (n ∷ ns) (v ∷ vs) = ap (λ l. (n, h v) ∷ l) (zip-map h ns vs)
 
-pub names_of-map : {X Y : Type 0} (h : X → Y) (es : List (Member X))
-    → names_of (map (on_stored h) es) ≡ names_of es
-names_of-map h [] = refl
-names_of-map h (e ∷ es) = ap (λ l. string_bytes e.name ∷ l) (names_of-map h es)
+pub zip-held : (X : Type 0) (ns : List (List ℕ)) (vs : List X) → length vs ≡ length ns
+    → held (list (entry this)) X (zip ns vs) ≡ held (list this) X vs
+zip-held X [] [] e = refl
+zip-held X [] (v ∷ vs) e = absurd (omega (arith, e))
+zip-held X (n ∷ ns) [] e = absurd (omega (arith, e))
+zip-held X (n ∷ ns) (v ∷ vs) e =
+    let rest = zip-held X ns vs (omega (arith, e)) in
+    λ i. (one_more (rest i).0, (v, (rest i).1))
 
-pub entries_of-held : (X : Type 0) (es : List (Member X))
-    → held (list (entry this)) X (entries_of es) ≡ held (list stored) X es
-entries_of-held X [] = refl
-entries_of-held X (e ∷ es) = λ i. (one_more (entries_of-held X es i).0, (e.value, (entries_of-held X es i).1))
+pub length-names_of : (ns : List (String Global)) → length (names_of ns) ≡ length ns
+length-names_of [] = refl
+length-names_of (n ∷ ns) = ap suc (length-names_of ns)
 
 pub IsIndex-prop : (names : List (List ℕ)) (index : NameIndex) → IsProp (IsIndex names index)
 IsIndex-prop names index = hlevel (le_prop, ℕ_set)
@@ -93,20 +89,26 @@ AreMarked-prop : (names : List (List ℕ)) (marks : ℕ) → IsProp (AreMarked n
 AreMarked-prop [] marks = λ p q. refl
 AreMarked-prop (n ∷ ns) marks = ×_prop (ℕ_set (bit_at marks (mark n)) 1) (AreMarked-prop ns marks)
 
-pub IsIndexAt-prop : (names : List (List ℕ)) (found : Names) → IsProp (IsIndexAt names found)
+pub IsIndexAt-prop : (names : List (List ℕ)) (found : Finder) → IsProp (IsIndexAt names found)
 IsIndexAt-prop names (Few marks) = AreMarked-prop names marks
 IsIndexAt-prop names (Many b) = IsIndex-prop names b.value
 
+IsConsistent-prop : {X : Type 0} (h : Held X) → IsProp (IsConsistent h)
+IsConsistent-prop h p q = λ i. record {
+  even = ℕ_set _ _ p.even q.even i;
+  index = IsIndexAt-prop (names_of h.names.items) h.finder p.index q.index i;
+}
+
 -- what holds of what a map keeps
-abbrev pub Indexed : {X : Type 0} → Option (Box (Held X) Global) → Type 0
-Indexed o = IsDistinct bytes_eq (names_of (kept o)) × IsHeldIndexed o
+abbrev pub IsKept : {X : Type 0} → Option (Box (Held X) Global) → Type 0
+IsKept o = HasDistinctNames (kept o) × IsHeldConsistent o
 
-pub IsHeldIndexed-prop : {X : Type 0} (o : Option (Box (Held X) Global)) → IsProp (IsHeldIndexed o)
-IsHeldIndexed-prop None = λ p q. refl
-IsHeldIndexed-prop (Some b) = IsIndexAt-prop (names_of b.value.entries.items) b.value.names
+IsHeldConsistent-prop : {X : Type 0} (o : Option (Box (Held X) Global)) → IsProp (IsHeldConsistent o)
+IsHeldConsistent-prop None = λ p q. refl
+IsHeldConsistent-prop (Some b) = IsConsistent-prop b.value
 
-pub Indexed-prop : {X : Type 0} (o : Option (Box (Held X) Global)) → IsProp (Indexed o)
-Indexed-prop o = ×_prop (IsDistinct-prop bytes_eq (names_of (kept o))) (IsHeldIndexed-prop o)
+pub IsKept-prop : {X : Type 0} (o : Option (Box (Held X) Global)) → IsProp (IsKept o)
+IsKept-prop o = ×_prop (IsDistinct-prop bytes_eq (keys_of (kept o))) (IsHeldConsistent-prop o)
 
 -- whether both entries are there and have equal values, or neither is there
 abbrev agree : {V : Type 0} → (V → V → Bool) → Option (List ℕ × V) → Option (List ℕ × V) → Bool
@@ -135,7 +137,7 @@ module _ {X Y : Type 0} (h : X → Y) where
       ∙ chosen-map (bytes_eq name e.0) e (lookup_entry (bytes_eq name) es)
 
   -- a map of the values keeps the names
-  keys_of-map : (es : Entries X) → keys_of (map (on_value h) es) ≡ keys_of es
+  pub keys_of-map : (es : Entries X) → keys_of (map (on_value h) es) ≡ keys_of es
   keys_of-map [] = refl
   keys_of-map (e ∷ es) = ap (λ names. e.0 ∷ names) (keys_of-map es)
 

@@ -1,19 +1,37 @@
 -- What a map keeps, where it has or had an entry.
-use Rattle.std.specs.Prelude.{List, [], Option, Some, None}
+use Rattle.std.specs.Prelude.{◌≡◌, List, [], length, Option, Some, None}
+use Rattle.std.specs.Vec.{with_items}
 use Rattle.std.specs.declared.alloc.Global.{Global}
 use Rattle.std.specs.declared.boxed.Box.{Box}
-use Rattle.openapi_map.specs.declared.Member.{Member}
 use Rattle.openapi_map.specs.declared.Held.{Held}
-use Rattle.openapi_map.specs.Entries.{names_of}
+use Rattle.openapi_map.specs.Entries.{Entries, entries_of, names_of}
 use Rattle.openapi_map.specs.Index.{IsIndexAt}
 
 module _ {V : Type 0} where
-  -- the entries, of which there are none where nothing is kept
-  abbrev pub kept : Option (Box (Held V) Global) → List (Member V)
-  kept None = []
-  kept (Some b) = b.value.entries.items
+  -- the entries
+  abbrev pub held_entries : Held V → Entries V
+  held_entries h = entries_of h.names.items h.values.items
 
-  -- the names are found
-  abbrev pub IsHeldIndexed : Option (Box (Held V) Global) → Type 0
-  IsHeldIndexed None = Unit {0}
-  IsHeldIndexed (Some b) = IsIndexAt (names_of b.value.entries.items) b.value.names
+  -- there is a value for each name, and the names are found
+  pub record IsConsistent (h : Held V) : Type 0 where
+    pub even : length h.values.items ≡ length h.names.items
+    pub index : IsIndexAt (names_of h.names.items) h.finder
+
+  -- the entries, of which there are none where nothing is kept
+  abbrev pub kept : Option (Box (Held V) Global) → Entries V
+  kept None = []
+  kept (Some b) = held_entries b.value
+
+  -- the same of what is kept
+  abbrev pub IsHeldConsistent : Option (Box (Held V) Global) → Type 0
+  IsHeldConsistent None = Unit {0}
+  IsHeldConsistent (Some b) = IsConsistent b.value
+
+  -- with ws as the values, as far as there are entries
+  abbrev pub with_held_values : Held V → List V → Held V
+  with_held_values h ws = record { names = h.names; values = with_items h.values ws; finder = h.finder }
+
+  -- the same of what is kept
+  abbrev pub with_kept_values : Option (Box (Held V) Global) → List V → Option (Box (Held V) Global)
+  with_kept_values None ws = None
+  with_kept_values (Some b) ws = Some (record { ptr = b.ptr; alloc = b.alloc; value = with_held_values b.value ws })

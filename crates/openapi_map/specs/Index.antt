@@ -5,8 +5,8 @@ use Rattle.std.specs.Hash.FoldHasher as folding
 use Rattle.std.specs.Int.{bit_at}
 use Rattle.std.specs.Vec.{vec_len, vec_capacity}
 use Rattle.openapi_map.specs.declared.index.NameIndex.{NameIndex}
-use Rattle.openapi_map.specs.declared.lookup.Names.{Names}
-use Rattle.openapi_map.specs.declared.lookup.Names.TheVariants.{Few, Many}
+use Rattle.openapi_map.specs.declared.lookup.Finder.{Finder}
+use Rattle.openapi_map.specs.declared.lookup.Finder.TheVariants.{Few, Many}
 
 -- the bucket of a name, of n
 unfoldable pub bucket : ℕ → List ℕ → ℕ
@@ -44,17 +44,17 @@ AreMarked [] marks = Unit {0}
 AreMarked (n ∷ ns) marks = (bit_at marks (mark n) ≡ 1) × AreMarked ns marks
 
 -- the names are those that are found
-abbrev pub IsIndexAt : List (List ℕ) → Names → Type 0
+abbrev pub IsIndexAt : List (List ℕ) → Finder → Type 0
 IsIndexAt names (Few marks) = AreMarked names marks
 IsIndexAt names (Many b) = IsIndex names b.value
 
 -- an index has a link at the place
-abbrev pub HasPlace : ℕ → Names → Type 0
+abbrev pub HasPlace : ℕ → Finder → Type 0
 HasPlace i (Few marks) = Unit {0}
 HasPlace i (Many b) = i < vec_len b.value.next
 
 -- an index has a bucket, and room for so many names
-abbrev pub HasRoomFor : ℕ → Names → Type 0
+abbrev pub HasRoomFor : ℕ → Finder → Type 0
 HasRoomFor n (Few marks) = Unit {0}
 HasRoomFor n (Many b) = (0 < vec_len b.value.heads) × (n ≤ vec_capacity b.value.next)
 

@@ -4,5 +4,6 @@ pub mod Equality
 pub mod Former
 pub mod Held
 pub mod Index
+pub mod IterMut
 pub mod Lends
 pub mod formers

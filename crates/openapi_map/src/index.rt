@@ -7,7 +7,6 @@ ghost use Rattle.std.specs.Vec.{vec_len, vec_capacity};
 ghost use Rattle.openapi_map.specs.Entries.{names_of};
 ghost use Rattle.openapi_map.specs.Index.{IsIndex, HasRoom, bucket, moved_link};
 
-use crate::Member;
 use crate::lookup::is_name;
 use std::alloc::AllocError;
 use std::hash::{FoldHasher, Hasher};
@@ -23,55 +22,55 @@ pub(crate) struct NameIndex {
 }
 
 impl NameIndex {
-    /// An index of the names of the entries, with twice as many buckets.
-    pub(crate) fn of_names<V>(entries: &Vec<Member<V>>) -> Result<NameIndex, AllocError>
-        requires { 0 < vec_len entries.now }
-        ensures is { IfOk result (IsIndex (names_of entries.now.items)) }
+    /// Creates an index of the names, with twice as many buckets.
+    pub(crate) fn of_names(names: &Vec<String>) -> Result<NameIndex, AllocError>
+        requires { 0 < vec_len names.now }
+        ensures is { IfOk result (IsIndex (names_of names.now.items)) }
         ensures room { IfOk result HasRoom }
     {
-        let alloc = *entries.allocator();
-        let buckets = 2 * entries.len();
+        let alloc = *names.allocator();
+        let buckets = 2 * names.len();
         let mut index = NameIndex {
             heads: vec![in alloc; 0; buckets]?,
             next: Vec::with_capacity(alloc, buckets)?,
         };
-        index.link_all(entries);
+        index.link_all(names);
         Ok(index)
     }
 
-    /// Links the names of the entries in an index that has none.
-    fn link_all<V>(&mut self, entries: &Vec<Member<V>>)
+    /// Links the names in an index that has none.
+    fn link_all(&mut self, names: &Vec<String>)
         requires none { IsIndex [] self.old }
-        requires room { vec_len entries.now ≤ vec_capacity self.old.next }
-        ensures is { IsIndex (names_of entries.now.items) self.new }
+        requires room { vec_len names.now ≤ vec_capacity self.old.next }
+        ensures is { IsIndex (names_of names.now.items) self.new }
         ensures capacity { vec_capacity self.new.next ≡ vec_capacity self.old.next }
     {
-        for entry in entries {
-            self.link_last(entry.name.as_str());
+        for name in names {
+            self.link_last(name.as_str());
         }
     }
 
-    /// Links the names of the entries in place of those that it had, and keeps its buckets.
-    pub(crate) fn link_again<V>(&mut self, entries: &Vec<Member<V>>)
+    /// Links the names in place of those that it had, and keeps its buckets.
+    pub(crate) fn link_again(&mut self, names: &Vec<String>)
         requires buckets { 0 < vec_len self.old.heads }
-        requires room { vec_len entries.now ≤ vec_capacity self.old.next }
-        ensures { IsIndex (names_of entries.now.items) self.new }
+        requires room { vec_len names.now ≤ vec_capacity self.old.next }
+        ensures { IsIndex (names_of names.now.items) self.new }
     {
         self.heads.fill(0);
         self.next.clear();
-        self.link_all(entries);
+        self.link_all(names);
     }
 
     /// Makes room for one more name. There are as many buckets as names or more, so that few names share one.
-    pub(crate) fn make_room<V>(&mut self, entries: &Vec<Member<V>>) -> Result<(), AllocError>
-        requires { IsIndex (names_of entries.now.items) self.old }
-        ensures index { IsIndex (names_of entries.now.items) self.new }
+    pub(crate) fn make_room(&mut self, names: &Vec<String>) -> Result<(), AllocError>
+        requires { IsIndex (names_of names.now.items) self.old }
+        ensures index { IsIndex (names_of names.now.items) self.new }
         ensures room { OnOk result (HasRoom self.new) }
     {
-        if entries.len() < self.heads.len() {
+        if names.len() < self.heads.len() {
             self.next.reserve(1)
         } else {
-            *self = NameIndex::of_names(entries)?;
+            *self = NameIndex::of_names(names)?;
             Ok(())
         }
     }
@@ -89,16 +88,16 @@ impl NameIndex {
         self.heads[bucket] = self.next.len();
     }
 
-    /// The place of a name, or `None` where no entry has it.
-    pub(crate) fn place_of<V>(&self, entries: &Vec<Member<V>>, name: &str) -> Option<usize>
-        requires index { IsIndex (names_of entries.now.items) self.now }
-        requires distinct { IsDistinct bytes_eq (names_of entries.now.items) }
-        ensures { result ≡ position (bytes_eq name.now) (names_of entries.now.items) }
+    /// Returns the place of a name, or `None` if it is none of the names.
+    pub(crate) fn place_of(&self, names: &Vec<String>, name: &str) -> Option<usize>
+        requires index { IsIndex (names_of names.now.items) self.now }
+        requires distinct { IsDistinct bytes_eq (names_of names.now.items) }
+        ensures { result ≡ position (bytes_eq name.now) (names_of names.now.items) }
     {
         let mut link = self.heads[bucket_of(name, self.heads.len())];
         while link > 0 {
             let place = link - 1;
-            if is_name(&entries[place].name, name) {
+            if is_name(&names[place], name) {
                 return Some(place);
             }
             link = self.next[place];

@@ -1,13 +1,13 @@
-//! The iterators over an `OrderedMap`. Each is seen as the list of what it has left.
+//! The iterators over an `OrderedMap` that borrow it immutably or own it. Each is seen as the list of what it has left.
 ghost use Rattle.std.specs.Prelude.{◌≡◌, ◌<◌, ◌^◌, ℕ, List, length, String, string_bytes};
 ghost use Rattle.std.specs.Iterator.{at_most};
 ghost use Rattle.std.specs.Map.{keys_of, values_of};
 ghost use Rattle.std.specs.Map.Iter.{TakesFirst, ShowsInOrder, ShowsValuesInOrder, deref, deref_pair};
-ghost use Rattle.openapi_map.specs.Entries.{HasDistinctNames, owned_entry};
-ghost use Rattle.openapi_map.specs.Held.{kept};
+ghost use Rattle.openapi_map.specs.Entries.{HasDistinctNames, entries_of, owned_entry};
+ghost use Rattle.openapi_map.specs.Held.{kept, IsHeldConsistent};
 
-use crate::lookup::kept_entries;
-use crate::{Held, Member, OrderedMap};
+use crate::lookup::{kept_names, kept_values};
+use crate::{Held, OrderedMap};
 use std::alloc::Global;
 use std::marker::Model;
 use std::{slice, vec};
@@ -15,16 +15,20 @@ use std::{slice, vec};
 /// The entries of a map in their order, each as `(&str, &V)`: its name and its value.
 #[derive(Drop)]
 pub struct Iter<'a, V> {
-    entries: slice::Iter<'a, Member<V>>,
+    names: slice::Iter<'a, String>,
+    values: slice::Iter<'a, V>,
 }
 
 impl<'a, V> Model for Iter<'a, V> {
+    ghost use Rattle.std.specs.Prelude.{◌≡◌, length};
     ghost use Rattle.std.specs.Slice.Iter.{iter_rest};
     ghost use Rattle.openapi_map.specs.Entries.{Entries, entries_of};
 
     ghost Value = { Entries V };
 
-    ghost view = { λ it. entries_of (iter_rest it.entries) };
+    ghost view = { λ it. entries_of (iter_rest it.names) (iter_rest it.values) };
+
+    ghost invariant = { λ it. length (iter_rest it.values) ≡ length (iter_rest it.names) };
 }
 
 impl<'a, V> Iterator for Iter<'a, V> {
@@ -35,25 +39,24 @@ impl<'a, V> Iterator for Iter<'a, V> {
     ghost remaining = { λ it. at_most (length it) };
 
     fn next(&mut self) -> Option<(&'a str, &'a V)> {
-        let entry = self.entries.next()?;
-        Some((entry.name.as_str(), &entry.value))
+        let name = self.names.next()?;
+        Some((name.as_str(), self.values.next().unwrap()))
     }
 }
 
 /// The names of a map in their order, each as a `&str`.
 #[derive(Drop)]
 pub struct Keys<'a, V> {
-    entries: slice::Iter<'a, Member<V>>,
+    entries: Iter<'a, V>,
 }
 
 impl<'a, V> Model for Keys<'a, V> {
     ghost use Rattle.std.specs.Prelude.{ℕ, List};
-    ghost use Rattle.std.specs.Slice.Iter.{iter_rest};
-    ghost use Rattle.openapi_map.specs.Entries.{names_of};
+    ghost use Rattle.std.specs.Map.{keys_of};
 
     ghost Value = { List (List ℕ) };
 
-    ghost view = { λ it. names_of (iter_rest it.entries) };
+    ghost view = { λ it. keys_of it.entries };
 }
 
 impl<'a, V> Iterator for Keys<'a, V> {
@@ -64,26 +67,24 @@ impl<'a, V> Iterator for Keys<'a, V> {
     ghost remaining = { λ it. at_most (length it) };
 
     fn next(&mut self) -> Option<&'a str> {
-        let entry = self.entries.next()?;
-        Some(entry.name.as_str())
+        let (name, _) = self.entries.next()?;
+        Some(name)
     }
 }
 
 /// The values of a map in their order, each as a `&V`.
 #[derive(Drop)]
 pub struct Values<'a, V> {
-    entries: slice::Iter<'a, Member<V>>,
+    values: slice::Iter<'a, V>,
 }
 
 impl<'a, V> Model for Values<'a, V> {
     ghost use Rattle.std.specs.Prelude.{List};
     ghost use Rattle.std.specs.Slice.Iter.{iter_rest};
-    ghost use Rattle.std.specs.Map.{values_of};
-    ghost use Rattle.openapi_map.specs.Entries.{entries_of};
 
     ghost Value = { List V };
 
-    ghost view = { λ it. values_of (entries_of (iter_rest it.entries)) };
+    ghost view = { λ it. iter_rest it.values };
 }
 
 impl<'a, V> Iterator for Values<'a, V> {
@@ -94,24 +95,27 @@ impl<'a, V> Iterator for Values<'a, V> {
     ghost remaining = { λ it. at_most (length it) };
 
     fn next(&mut self) -> Option<&'a V> {
-        let entry = self.entries.next()?;
-        Some(&entry.value)
+        self.values.next()
     }
 }
 
 /// The entries of a map in their order, each as `(String, V)`: its name and its value, which the map no longer owns.
 #[derive(Drop)]
 pub struct IntoIter<V> {
-    entries: vec::IntoIter<Member<V>>,
+    names: vec::IntoIter<String>,
+    values: vec::IntoIter<V>,
 }
 
 impl<V> Model for IntoIter<V> {
+    ghost use Rattle.std.specs.Prelude.{◌≡◌, length};
     ghost use Rattle.std.specs.Vec.Iter.{into_iter_items};
     ghost use Rattle.openapi_map.specs.Entries.{Entries, entries_of};
 
     ghost Value = { Entries V };
 
-    ghost view = { λ it. entries_of (into_iter_items it.entries) };
+    ghost view = { λ it. entries_of (into_iter_items it.names) (into_iter_items it.values) };
+
+    ghost invariant = { λ it. length (into_iter_items it.values) ≡ length (into_iter_items it.names) };
 }
 
 impl<V: Drop> Iterator for IntoIter<V> {
@@ -122,8 +126,8 @@ impl<V: Drop> Iterator for IntoIter<V> {
     ghost remaining = { λ it. at_most (length it) };
 
     fn next(&mut self) -> Option<(String, V)> {
-        let Member { name, value } = self.entries.next()?;
-        Some((name, value))
+        let name = self.names.next()?;
+        Some((name, self.values.next().unwrap()))
     }
 }
 
@@ -137,7 +141,8 @@ impl<V> OrderedMap<V> {
         ensures fits { length self.now < 2 ^ 63 }
     {
         Iter {
-            entries: kept_entries(&self.held).iter(),
+            names: kept_names(&self.held).iter(),
+            values: kept_values(&self.held).iter(),
         }
     }
 
@@ -149,7 +154,7 @@ impl<V> OrderedMap<V> {
         ensures fits { length self.now < 2 ^ 63 }
     {
         Keys {
-            entries: kept_entries(&self.held).iter(),
+            entries: self.iter(),
         }
     }
 
@@ -160,7 +165,7 @@ impl<V> OrderedMap<V> {
         ensures fits { length self.now < 2 ^ 63 }
     {
         Values {
-            entries: kept_entries(&self.held).iter(),
+            values: kept_values(&self.held).iter(),
         }
     }
 }
@@ -178,17 +183,23 @@ impl<'a, V> IntoIterator for &'a OrderedMap<V> {
     }
 }
 
-/// The entries that a map kept, without their index.
-fn taken_entries<V>(held: Option<Box<Held<V>>>, alloc: Global) -> Vec<Member<V>>
-    ensures { result.items ≡ kept held }
+/// Returns the names and the values that a map kept.
+fn into_columns<V>(held: Option<Box<Held<V>>>, alloc: Global) -> (Vec<String>, Vec<V>)
+    requires { IsHeldConsistent held }
+    ensures entries { entries_of result.0.items result.1.items ≡ kept held }
+    ensures even { length result.1.items ≡ length result.0.items }
 {
     match held {
         Some(held) => {
-            let Held { entries, names } = Box::into_inner(held);
-            drop(names);
-            entries
+            let Held {
+                names,
+                values,
+                finder,
+            } = Box::into_inner(held);
+            drop(finder);
+            (names, values)
         }
-        None => Vec::new(alloc),
+        None => (Vec::new(alloc), Vec::new(alloc)),
     }
 }
 
@@ -202,8 +213,10 @@ impl<V: Drop> IntoIterator for OrderedMap<V> {
 
     fn into_iter(self) -> IntoIter<V> {
         let OrderedMap { held, alloc } = self;
+        let (names, values) = into_columns(held, alloc);
         IntoIter {
-            entries: taken_entries(held, alloc).into_iter(),
+            names: names.into_iter(),
+            values: values.into_iter(),
         }
     }
 }

@@ -4,8 +4,9 @@
 //! It stands where a Rust program has an `IndexMap<String, V>`, for the objects of a JSON document: their members have
 //! names, and are written in the order in which they were read. A program sees it as the list of its entries.
 //!
-//! A map of at most 16 entries is one list, along which a name is looked for. A longer one also keeps an index of the
-//! places of its names by their hashes, so that a look-up takes the same time however long the map is.
+//! A map keeps its names and its values in two lists. Up to 16 entries a name is compared with one name after another. A
+//! longer map also keeps an index of the places of its names by their hashes, so that a lookup takes the same time however
+//! long the map is.
 ghost use Rattle.std.specs.Prelude.{◌≡◌, ◌-◌, ◌<◌, ◌^◌, ◌↔◌, [], ◌++◌, ◌∷◌, length, slice_get, is_some};
 ghost use Rattle.std.specs.Prelude.{IsTrue, IfOk, OnOk, OnErr, Some, None, string_bytes};
 ghost use Rattle.std.specs.Borrow.{sem};
@@ -13,14 +14,14 @@ ghost use Rattle.std.specs.Option.{option_copied, option_copied_mut, option_map}
 ghost use Rattle.std.specs.Map.{values_of};
 ghost use Rattle.std.specs.Map.Iter.{deref_pair};
 ghost use Rattle.std.specs.List.{remove};
-ghost use Rattle.openapi_map.specs.Held.{kept, IsHeldIndexed};
-ghost use Rattle.openapi_map.specs.Index.{IsIndexAt};
-ghost use Rattle.openapi_map.specs.Entries.{entries_of, names_of, get, insert_entry, remove_entry, HasDistinctNames};
+ghost use Rattle.openapi_map.specs.Held.{held_entries, kept, IsConsistent, IsHeldConsistent};
+ghost use Rattle.openapi_map.specs.Entries.{get, insert_entry, remove_entry, HasDistinctNames};
 ghost use Rattle.openapi_map.specs.Lends.{lends_index, lends_name, lends_place};
 
 pub use crate::entry::{Entry, OccupiedEntry, VacantEntry};
 pub use crate::iter::{IntoIter, Iter, Keys, Values};
-use crate::lookup::{Names, add_name, drop_name, kept_entries, place_in};
+pub use crate::iter_mut::{IterMut, ValuesMut};
+use crate::lookup::{Finder, add_name, drop_name, kept_names, kept_values, place_in};
 use std::alloc::{AllocError, Global};
 use std::marker::Model;
 use std::mem;
@@ -29,22 +30,20 @@ mod collect;
 mod entry;
 mod index;
 mod iter;
+mod iter_mut;
 mod lookup;
+mod no_elements;
 mod retain;
 mod traits;
 
-/// A name beside its value.
-#[derive(Clone, Drop)]
-struct Member<V> {
-    name: String,
-    value: V,
-}
-
-/// What a map keeps once it has an entry.
+/// The contents of a map that has or had an entry. The value at a place belongs to the name at the same place.
+///
+/// Names and values are two lists, so that the values can be borrowed mutably while the names stay as they are.
 #[derive(Clone, Drop)]
 struct Held<V> {
-    entries: Vec<Member<V>>,
-    names: Names,
+    names: Vec<String>,
+    values: Vec<V>,
+    finder: Finder,
 }
 
 /// Values by name, in the order in which the names came. Contracts see it as the list of its entries, no two of which
@@ -58,65 +57,66 @@ pub struct OrderedMap<V> {
 
 impl<V> Model for OrderedMap<V> {
     ghost use Rattle.std.specs.Coded.{coded_list, coded×, coded_ℕ};
-    ghost use Rattle.openapi_map.specs.Entries.{Entries, entries_of, HasDistinctNames};
-    ghost use Rattle.openapi_map.specs.Held.{kept, IsHeldIndexed};
+    ghost use Rattle.openapi_map.specs.Entries.{Entries, HasDistinctNames};
+    ghost use Rattle.openapi_map.specs.Held.{kept, IsHeldConsistent};
 
     ghost Value = { Entries V };
 
     ghost coded = { coded_list (coded× (coded_list coded_ℕ) V.code) };
 
-    ghost view = { λ m. entries_of (kept m.held) };
+    ghost view = { λ m. kept m.held };
 
-    ghost invariant = { λ m. HasDistinctNames (entries_of (kept m.held)) × IsHeldIndexed m.held };
+    ghost invariant = { λ m. HasDistinctNames (kept m.held) × IsHeldConsistent m.held };
 }
 
 impl<V> Held<V> {
-    /// Nothing yet, with room for `capacity` entries.
+    /// Creates contents without entries, with room for `capacity` entries.
     fn with_capacity(alloc: Global, capacity: usize) -> Result<Box<Held<V>>, AllocError>
     where
         V: Drop,
-        ensures entries { IfOk result (λ b. b.value.entries.items ≡ []) }
-        ensures index { IfOk result (λ b. b.value.names ≡ Names.Few 0) }
+        ensures entries { IfOk result (λ b. held_entries b.value ≡ []) }
+        ensures consistent { IfOk result (λ b. IsConsistent b.value) }
     {
         let held = Held {
-            entries: Vec::with_capacity(alloc, capacity)?,
-            names: Names::Few(0),
+            names: Vec::with_capacity(alloc, capacity)?,
+            values: Vec::with_capacity(alloc, capacity)?,
+            finder: Finder::Few(0),
         };
         Ok(Box::new(alloc, held)?)
     }
 
-    /// Puts an entry last.
+    /// Appends an entry. An `Err` leaves the entries as they were.
     fn push_last(&mut self, name: String, value: V) -> Result<(), AllocError>
     where
         V: Drop,
-        requires { IsIndexAt (names_of self.old.entries.items) self.old.names }
-        ensures entries { OnOk result (self.new.entries.items
-            ≡ self.old.entries.items ++ (record { name = name; value = value }) ∷ []) }
-        ensures err { OnErr result (self.new.entries.items ≡ self.old.entries.items) }
-        ensures index { IsIndexAt (names_of self.new.entries.items) self.new.names }
+        requires { IsConsistent self.old }
+        ensures entries { OnOk result (held_entries self.new ≡ held_entries self.old ++ (string_bytes name, value) ∷ []) }
+        ensures err { OnErr result (held_entries self.new ≡ held_entries self.old) }
+        ensures consistent { IsConsistent self.new }
     {
-        self.entries.reserve(1)?;
-        add_name(&self.entries, &mut self.names, name.as_str())?;
-        self.entries.push_reserved(Member { name, value });
+        self.names.reserve(1)?;
+        self.values.reserve(1)?;
+        add_name(&self.names, &mut self.finder, name.as_str())?;
+        self.names.push_reserved(name);
+        self.values.push_reserved(value);
         Ok(())
     }
 
-    /// Takes the entry at a place out, and gives its value.
+    /// Removes the entry at a place and returns its value.
     fn remove_at(&mut self, place: usize) -> V
-        requires within { place < length self.old.entries.items }
-        requires index { IsIndexAt (names_of self.old.entries.items) self.old.names }
-        ensures value { slice_get (values_of (entries_of self.old.entries.items)) place ≡ Some result }
-        ensures entries { self.new.entries.items ≡ remove self.old.entries.items place }
-        ensures index { IsIndexAt (names_of self.new.entries.items) self.new.names }
+        requires within { place < length (held_entries self.old) }
+        requires consistent { IsConsistent self.old }
+        ensures value { slice_get (values_of (held_entries self.old)) place ≡ Some result }
+        ensures entries { held_entries self.new ≡ remove (held_entries self.old) place }
+        ensures consistent { IsConsistent self.new }
     {
-        drop_name(&mut self.names, place);
-        let Member { name: gone, value } = self.entries.remove(place);
-        drop(gone);
-        value
+        drop_name(&mut self.finder, place);
+        drop(self.names.remove(place));
+        self.values.remove(place)
     }
 }
 
-/// Puts an entry last among those that a map keeps.
+/// Appends an entry to those that a map keeps. An `Err` leaves them as they were.
 fn push_kept<V>(
     held: &mut Option<Box<Held<V>>>,
     alloc: Global,
@@ -125,10 +125,10 @@ fn push_kept<V>(
 ) -> Result<(), AllocError>
 where
     V: Drop,
-    requires { IsHeldIndexed held.old }
-    ensures entries { OnOk result (kept held.new ≡ kept held.old ++ (record { name = name; value = value }) ∷ []) }
+    requires { IsHeldConsistent held.old }
+    ensures entries { OnOk result (kept held.new ≡ kept held.old ++ (string_bytes name, value) ∷ []) }
     ensures err { OnErr result (kept held.new ≡ kept held.old) }
-    ensures index { IsHeldIndexed held.new }
+    ensures consistent { IsHeldConsistent held.new }
 {
     match held {
         Some(held) => held.push_last(name, value),
@@ -141,13 +141,13 @@ where
     }
 }
 
-/// Takes the entry at a place out of those that a map keeps, and gives its value.
+/// Removes the entry at a place from those that a map keeps, and returns its value.
 fn remove_kept<V>(held: &mut Option<Box<Held<V>>>, place: usize) -> V
     requires within { place < length (kept held.old) }
-    requires index { IsHeldIndexed held.old }
-    ensures value { slice_get (values_of (entries_of (kept held.old))) place ≡ Some result }
+    requires consistent { IsHeldConsistent held.old }
+    ensures value { slice_get (values_of (kept held.old)) place ≡ Some result }
     ensures entries { kept held.new ≡ remove (kept held.old) place }
-    ensures index { IsHeldIndexed held.new }
+    ensures consistent { IsHeldConsistent held.new }
 {
     match held {
         Some(held) => held.remove_at(place),
@@ -184,7 +184,7 @@ impl<V> OrderedMap<V> {
         ensures small { result < 2 ^ 63 }
         ensures distinct { HasDistinctNames self.now }
     {
-        kept_entries(&self.held).len()
+        kept_names(&self.held).len()
     }
 
     /// Whether there are no entries.
@@ -211,7 +211,7 @@ impl<V> OrderedMap<V> {
         ensures { option_copied result ≡ get name.now self.now }
     {
         match place_in(&self.held, name) {
-            Some(place) => Some(&kept_entries(&self.held)[place].value),
+            Some(place) => Some(&kept_values(&self.held)[place]),
             None => None,
         }
     }
@@ -221,8 +221,8 @@ impl<V> OrderedMap<V> {
         requires { index < length self.now }
         ensures { slice_get self.now index ≡ Some (result.0.now, result.1.now) }
     {
-        let entry = &kept_entries(&self.held)[index];
-        (entry.name.as_str(), &entry.value)
+        let name = kept_names(&self.held)[index].as_str();
+        (name, &kept_values(&self.held)[index])
     }
 
     /// The name and the value at a place, counted from 0, or `None` past the last.
@@ -312,10 +312,7 @@ impl<V> OrderedMap<V> {
         ensures value { slice_get (values_of self.old) place ≡ Some result.now }
     {
         match &mut self.held {
-            Some(held) => {
-                let entry = &mut held.entries[place];
-                &mut entry.value
-            }
+            Some(held) => &mut held.values[place],
             None => unreachable!(),
         }
     }

@@ -1,47 +1,60 @@
-//! The place of a name among the entries, and the index that finds it in a long map.
+//! The place of a name among the names of a map, and the index that finds it in a long map.
 ghost use Rattle.std.specs.Prelude.{◌≡◌, ◌<◌, ◌^◌, ◌==◌, [], ◌++◌, ◌∷◌, ℕ, List, bit_or, position, string_bytes, OnOk, OnErr};
 ghost use Rattle.std.specs.Int.{bit_at};
 ghost use Rattle.std.specs.List.{IsDistinct, remove};
+ghost use Rattle.std.specs.Map.{keys_of, values_of};
 ghost use Rattle.std.specs.Str.{bytes_eq};
-ghost use Rattle.openapi_map.specs.Entries.{names_of};
-ghost use Rattle.openapi_map.specs.Held.{kept, IsHeldIndexed};
+ghost use Rattle.openapi_map.specs.Entries.{names_of, HasDistinctNames};
+ghost use Rattle.openapi_map.specs.Held.{kept, IsHeldConsistent};
 ghost use Rattle.openapi_map.specs.Index.{AreMarked, HasPlace, IsIndexAt, mark};
 
+use crate::Held;
 use crate::index::NameIndex;
-use crate::{Held, Member};
 use std::alloc::AllocError;
 
 /// Up to this many entries a map has marks and no index.
 pub(crate) const UNINDEXED_LIMIT: usize = 16;
 
-/// The entries that a map keeps.
-pub(crate) fn kept_entries<V>(held: &Option<Box<Held<V>>>) -> &[Member<V>]
-    ensures { result.now ≡ kept held.now }
+/// Returns the names that a map keeps.
+pub(crate) fn kept_names<V>(held: &Option<Box<Held<V>>>) -> &[String]
+    requires { IsHeldConsistent held.now }
+    ensures { names_of result.now ≡ keys_of (kept held.now) }
 {
     match held {
-        Some(held) => held.entries.as_slice(),
+        Some(held) => held.names.as_slice(),
         None => &[],
     }
 }
 
-/// The place of a name among the entries that a map keeps.
-pub(crate) fn place_in<V>(held: &Option<Box<Held<V>>>, name: &str) -> Option<usize>
-    requires index { IsHeldIndexed held.now }
-    requires distinct { IsDistinct bytes_eq (names_of (kept held.now)) }
-    ensures { result ≡ position (bytes_eq name.now) (names_of (kept held.now)) }
+/// Returns the values that a map keeps.
+pub(crate) fn kept_values<V>(held: &Option<Box<Held<V>>>) -> &[V]
+    requires { IsHeldConsistent held.now }
+    ensures { result.now ≡ values_of (kept held.now) }
 {
     match held {
-        Some(held) => place_of(&held.entries, &held.names, name),
+        Some(held) => held.values.as_slice(),
+        None => &[],
+    }
+}
+
+/// Returns the place of a name among those that a map keeps.
+pub(crate) fn place_in<V>(held: &Option<Box<Held<V>>>, name: &str) -> Option<usize>
+    requires consistent { IsHeldConsistent held.now }
+    requires distinct { HasDistinctNames (kept held.now) }
+    ensures { result ≡ position (bytes_eq name.now) (keys_of (kept held.now)) }
+{
+    match held {
+        Some(held) => place_of(&held.names, &held.finder, name),
         None => None,
     }
 }
 
-/// What finds the names of a map: of few names the marks that they have, of many an index.
+/// The means to find a name: the marks of few names, or an index of many.
 #[derive(Clone, Drop)]
-pub(crate) enum Names {
-    /// A bit for each mark that a name has. A name whose mark has no bit is not there.
+pub(crate) enum Finder {
+    /// One bit for each mark that a name has. A name whose mark has no bit is absent.
     Few(u64),
-    /// The places of the names by their hashes. It is boxed to keep a short map small.
+    /// The places of the names by their hashes, boxed to keep a short map small.
     Many(Box<NameIndex>),
 }
 
@@ -73,28 +86,28 @@ fn with_mark(marks: u64, name: &str) -> u64
     marks | (1 << mark_of(name))
 }
 
-/// The marks of all names of the entries.
-pub(crate) fn marks_of<V>(entries: &Vec<Member<V>>) -> u64
-    ensures { AreMarked (names_of entries.now.items) result }
+/// Returns the marks of all names.
+pub(crate) fn marks_of(names: &Vec<String>) -> u64
+    ensures { AreMarked (names_of names.now.items) result }
 {
     let mut marks = 0;
-    for entry in entries {
-        marks = with_mark(marks, entry.name.as_str());
+    for name in names {
+        marks = with_mark(marks, name.as_str());
     }
     marks
 }
 
-/// The place of a name, or `None` where no entry has it.
-fn place_of<V>(entries: &Vec<Member<V>>, names: &Names, name: &str) -> Option<usize>
-    requires index { IsIndexAt (names_of entries.now.items) names.now }
-    requires distinct { IsDistinct bytes_eq (names_of entries.now.items) }
-    ensures { result ≡ position (bytes_eq name.now) (names_of entries.now.items) }
+/// Returns the place of a name, or `None` if it is none of the names.
+fn place_of(names: &Vec<String>, finder: &Finder, name: &str) -> Option<usize>
+    requires index { IsIndexAt (names_of names.now.items) finder.now }
+    requires distinct { IsDistinct bytes_eq (names_of names.now.items) }
+    ensures { result ≡ position (bytes_eq name.now) (names_of names.now.items) }
 {
-    match names {
-        Names::Many(index) => index.place_of(entries, name),
-        Names::Few(marks) => {
+    match finder {
+        Finder::Many(index) => index.place_of(names, name),
+        Finder::Few(marks) => {
             if has_mark(*marks, name) {
-                place_along(entries, name)
+                place_along(names, name)
             } else {
                 None
             }
@@ -102,11 +115,11 @@ fn place_of<V>(entries: &Vec<Member<V>>, names: &Names, name: &str) -> Option<us
     }
 }
 
-/// The place of a name, looked for along the entries.
-fn place_along<V>(entries: &Vec<Member<V>>, name: &str) -> Option<usize>
-    ensures { result ≡ position (λ e. bytes_eq name.now (string_bytes e.name)) entries.now.items }
+/// Returns the place of a name, comparing it with one name after another.
+fn place_along(names: &Vec<String>, name: &str) -> Option<usize>
+    ensures { result ≡ position (λ n. bytes_eq name.now (string_bytes n)) names.now.items }
 {
-    entries.iter().position(|entry| is_name(&entry.name, name))
+    names.iter().position(|other| is_name(other, name))
 }
 
 /// Whether two names are the same. Most differ in length.
@@ -116,41 +129,41 @@ pub(crate) fn is_name(name: &String, other: &str) -> bool
     name.len() == other.len() && name.as_str() == other
 }
 
-/// Notes a name that is to go last, and makes an index where the entries become too many to do without.
-pub(crate) fn add_name<V>(
-    entries: &Vec<Member<V>>,
-    names: &mut Names,
+/// Registers a name that is about to be appended, and makes an index if the names become too many for marks.
+pub(crate) fn add_name(
+    names: &Vec<String>,
+    finder: &mut Finder,
     name: &str,
 ) -> Result<(), AllocError>
-    requires { IsIndexAt (names_of entries.now.items) names.old }
-    ensures ok { OnOk result (IsIndexAt (names_of entries.now.items ++ name.now ∷ []) names.new) }
-    ensures err { OnErr result (IsIndexAt (names_of entries.now.items) names.new) }
+    requires { IsIndexAt (names_of names.now.items) finder.old }
+    ensures ok { OnOk result (IsIndexAt (names_of names.now.items ++ name.now ∷ []) finder.new) }
+    ensures err { OnErr result (IsIndexAt (names_of names.now.items) finder.new) }
 {
-    match names {
-        Names::Many(index) => {
-            index.make_room(entries)?;
+    match finder {
+        Finder::Many(index) => {
+            index.make_room(names)?;
             index.link_last(name);
         }
-        Names::Few(marks) => {
-            if entries.len() < UNINDEXED_LIMIT {
+        Finder::Few(marks) => {
+            if names.len() < UNINDEXED_LIMIT {
                 *marks = with_mark(*marks, name);
             } else {
-                let mut made = NameIndex::of_names(entries)?;
+                let mut made = NameIndex::of_names(names)?;
                 made.link_last(name);
-                *names = Names::Many(Box::new(*entries.allocator(), made)?);
+                *finder = Finder::Many(Box::new(*names.allocator(), made)?);
             }
         }
     }
     Ok(())
 }
 
-/// Notes that the name at a place is gone. An index that is there stays, however few the names become.
-pub(crate) fn drop_name(names: &mut Names, place: usize)
-    requires { HasPlace place names.old }
-    ensures { (all : List (List ℕ)) → IsIndexAt all names.old → IsIndexAt (remove all place) names.new }
+/// Unregisters the name at a place. An index stays, however few the names become.
+pub(crate) fn drop_name(finder: &mut Finder, place: usize)
+    requires { HasPlace place finder.old }
+    ensures { (all : List (List ℕ)) → IsIndexAt all finder.old → IsIndexAt (remove all place) finder.new }
 {
-    match names {
-        Names::Many(index) => index.unlink(place),
-        Names::Few(_) => {}
+    match finder {
+        Finder::Many(index) => index.unlink(place),
+        Finder::Few(_) => {}
     }
 }

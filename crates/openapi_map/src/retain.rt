@@ -1,72 +1,78 @@
 //! Keeping the entries that pass a test.
-ghost use Rattle.std.specs.Prelude.{◌<◌, ◌≤◌, IfSome};
+ghost use Rattle.std.specs.Prelude.{◌≡◌, ◌<◌, ◌≤◌, IfSome, length};
 ghost use Rattle.std.specs.Map.Calls.{RetainsPairs, CalledAtPair};
 ghost use Rattle.std.specs.Vec.{vec_len, vec_capacity};
 ghost use Rattle.openapi_map.specs.Entries.{entries_of, names_of};
-ghost use Rattle.openapi_map.specs.Held.{kept, IsHeldIndexed};
+ghost use Rattle.openapi_map.specs.Held.{held_entries, kept, IsConsistent, IsHeldConsistent};
 ghost use Rattle.openapi_map.specs.Index.{HasRoomFor, IsIndexAt};
 
-use crate::lookup::{Names, marks_of};
-use crate::{Held, Member, OrderedMap};
+use crate::lookup::{Finder, marks_of};
+use crate::{Held, OrderedMap};
 
-/// Keeps the entries for which `keep` answers true, in their order.
-fn retain_entries<V, F: FnMut(&str, &mut V) -> bool>(entries: &mut Vec<Member<V>>, mut keep: F)
+/// Keeps the names and values for which `keep` returns true, in their order.
+fn retain_columns<V, F: FnMut(&str, &mut V) -> bool>(
+    names: &mut Vec<String>,
+    values: &mut Vec<V>,
+    mut keep: F,
+)
 where
     V: Drop,
-    requires { F.IsAlwaysCallable keep }
-    ensures entries { RetainsPairs (CalledAtPair F.FnMut) keep (entries_of entries.old.items)
-        (entries_of entries.new.items) }
-    ensures len { vec_len entries.new ≤ vec_len entries.old }
+    requires callable { F.IsAlwaysCallable keep }
+    requires even { length values.old.items ≡ length names.old.items }
+    ensures entries { RetainsPairs (CalledAtPair F.FnMut) keep (entries_of names.old.items values.old.items)
+        (entries_of names.new.items values.new.items) }
+    ensures even { length values.new.items ≡ length names.new.items }
+    ensures len { vec_len names.new ≤ vec_len names.old }
 {
-    let len = entries.len();
+    let len = names.len();
     let mut kept = 0;
     let mut place = 0;
     while place < len {
-        let entry = &mut entries[place];
-        if keep(entry.name.as_str(), &mut entry.value) {
-            entries.swap(kept, place);
+        if keep(names[place].as_str(), &mut values[place]) {
+            names.swap(kept, place);
+            values.swap(kept, place);
             kept += 1;
         }
         place += 1;
     }
-    entries.truncate(kept);
+    names.truncate(kept);
+    values.truncate(kept);
 }
 
-/// Finds the names of the entries, of which there are no more than it found before.
-fn names_again<V>(names: &mut Names, entries: &Vec<Member<V>>)
-    requires { HasRoomFor (vec_len entries.now) names.old }
-    ensures { IsIndexAt (names_of entries.now.items) names.new }
+/// Makes a finder find the names, of which there are no more than it found before.
+fn find_again(finder: &mut Finder, names: &Vec<String>)
+    requires { HasRoomFor (vec_len names.now) finder.old }
+    ensures { IsIndexAt (names_of names.now.items) finder.new }
 {
-    match names {
-        Names::Many(index) => index.link_again(entries),
-        Names::Few(marks) => *marks = marks_of(entries),
+    match finder {
+        Finder::Many(index) => index.link_again(names),
+        Finder::Few(marks) => *marks = marks_of(names),
     }
 }
 
 impl<V> Held<V> {
-    /// Keeps the entries for which `keep` answers true, in their order.
+    /// Keeps the entries for which `keep` returns true, in their order.
     fn retain<F: FnMut(&str, &mut V) -> bool>(&mut self, keep: F)
     where
         V: Drop,
         requires callable { F.IsAlwaysCallable keep }
-        requires index { IsIndexAt (names_of self.old.entries.items) self.old.names }
-        ensures entries { RetainsPairs (CalledAtPair F.FnMut) keep (entries_of self.old.entries.items)
-            (entries_of self.new.entries.items) }
-        ensures index { IsIndexAt (names_of self.new.entries.items) self.new.names }
+        requires consistent { IsConsistent self.old }
+        ensures entries { RetainsPairs (CalledAtPair F.FnMut) keep (held_entries self.old) (held_entries self.new) }
+        ensures consistent { IsConsistent self.new }
     {
-        retain_entries(&mut self.entries, keep);
-        names_again(&mut self.names, &self.entries);
+        retain_columns(&mut self.names, &mut self.values, keep);
+        find_again(&mut self.finder, &self.names);
     }
 }
 
-/// Keeps those of the entries that a map keeps for which `keep` answers true, in their order.
+/// Keeps those of the entries that a map keeps for which `keep` returns true, in their order.
 fn retain_kept<V, F: FnMut(&str, &mut V) -> bool>(held: &mut Option<Box<Held<V>>>, keep: F)
 where
     V: Drop,
     requires callable { F.IsAlwaysCallable keep }
-    requires index { IsHeldIndexed held.old }
-    ensures entries { RetainsPairs (CalledAtPair F.FnMut) keep (entries_of (kept held.old)) (entries_of (kept held.new)) }
-    ensures index { IsHeldIndexed held.new }
+    requires consistent { IsHeldConsistent held.old }
+    ensures entries { RetainsPairs (CalledAtPair F.FnMut) keep (kept held.old) (kept held.new) }
+    ensures consistent { IsHeldConsistent held.new }
 {
     if let Some(held) = held {
         held.retain(keep);

@@ -1,8 +1,6 @@
 -- The forms of the fields of each object that is read by a table, in the order of its rows.
-use Rattle.std.specs.Prelude.{List, [], ◌∷◌, take}
+use Rattle.std.specs.Prelude.{List, [], ◌∷◌}
 use Rattle.openapi_tables.specs.Form.{Form, leaf}
-use Rattle.openapi_tables.specs.Kind.{Row, tag}
-use Rattle.openapi_tables.specs.Tables.{final_tables}
 use Rattle.openapi_fields.specs.Forms.{
   text_form,
   optional_form,
@@ -18,7 +16,6 @@ use Rattle.openapi_metadata.specs.declared.info.Info.{Info}
 use Rattle.openapi_metadata.specs.declared.license.License.{License}
 use Rattle.openapi_metadata.specs.declared.server.Server.{Server}
 use Rattle.openapi_metadata.specs.declared.server_variable.ServerVariable.{ServerVariable}
-use Rattle.openapi_metadata.specs.declared.tag.NamedRows.{NamedRows}
 use Rattle.openapi_metadata.specs.declared.tag.Tag.{Tag}
 
 -- Tag Object
@@ -29,17 +26,6 @@ tag_rows x =
     ∷ optional_form (record_form external_documentation_rows) x.external_docs
     ∷ extensions_form x.extensions
     ∷ []
-
--- what a Tag Object has beside its extensions: the first three of its rows
-abbrev pub named_rows : NamedRows → List Form
-named_rows n =
-    text_form n.name
-    ∷ optional_form text_form n.description
-    ∷ optional_form (record_form external_documentation_rows) n.external_docs
-    ∷ []
-
-abbrev pub tag_named : List Row
-tag_named = take 3 (final_tables tag)
 
 -- Contact Object
 abbrev pub contact_rows : Contact → List Form

@@ -6,7 +6,6 @@ mod info;
 mod license;
 mod link;
 mod link_operation;
-mod moved;
 mod server;
 mod server_variable;
 mod tag;

@@ -23,35 +23,6 @@ members_size-append : (ms ns : List (List ℕ × Tree))
 members_size-append [] ns = omega arith
 members_size-append (m ∷ ms) ns = omega (arith, members_size-append ms ns)
 
--- the item behind those that are done adds its size, within that of the list
-pub record ItemAfter (ts done : List Tree) (t : Tree) : Type 0 where
-  pub adds : items_size (items_of (done ++ t ∷ [])) ≡ items_size (items_of done) + size_of t
-  pub within : items_size (items_of done) + size_of t ≤ items_size (items_of ts)
-
--- this holds of the item with which a list goes on behind those that are done
-pub item_after : (ts done : List Tree) (t : Tree) (more : List Tree) → ts ≡ done ++ t ∷ more → ItemAfter ts done t
-item_after ts done t more split =
-    let whole : items_size (items_of ts) ≡ items_size (items_of done) + items_size (items_of (t ∷ more)) =
-    ap (λ us. items_size (items_of us)) split ∙ items_size-append done (t ∷ more) in
-    record { adds = omega (arith, items_size-append done (t ∷ [])); within = omega (arith, whole) }
-
--- and so does a member
-pub record MemberAfter (ms done : List (List ℕ × Tree)) (t : Tree) : Type 0 where
-  pub adds : (name : List ℕ)
-      → members_size (members_of (done ++ (name, t) ∷ [])) ≡ members_size (members_of done) + size_of t
-  pub within : members_size (members_of done) + size_of t ≤ members_size (members_of ms)
-
--- this holds of the member with which an object goes on behind those that are done
-pub member_after : (ms done : List (List ℕ × Tree)) (m : List ℕ × Tree) (more : List (List ℕ × Tree))
-    → ms ≡ done ++ m ∷ more → MemberAfter ms done m.1
-member_after ms done m more split =
-    let whole : members_size (members_of ms) ≡ members_size (members_of done) + members_size (members_of (m ∷ more)) =
-    ap (λ ns. members_size (members_of ns)) split ∙ members_size-append done (m ∷ more) in
-    record {
-      adds = λ name. omega (arith, members_size-append done ((name, m.1) ∷ []));
-      within = omega (arith, whole);
-    }
-
 -- a list is what stands before an index, what stands there, and the rest
 split_at : {X : Type 0} (xs : List X) (i : ℕ) (x : X) → take (i + 1) xs ≡ take i xs ++ x ∷ []
     → xs ≡ take i xs ++ x ∷ drop (i + 1) xs
@@ -68,8 +39,12 @@ pub next_item : (ts : List Tree) (i : ℕ) (t : Tree) → i < length ts → t �
 next_item ts i t h e =
     let next : take (i + 1) ts ≡ take i ts ++ t ∷ [] =
     take_more ts i t h ∙ ap (λ u. take i ts ++ u ∷ []) (sym e) in
-    let after = item_after ts (take i ts) t (drop (i + 1) ts) (split_at ts i t next) in
-    record { adds = ap (λ us. items_size (items_of us)) next ∙ after.adds; within = after.within }
+    let longer : items_size (items_of (take i ts ++ t ∷ [])) ≡ items_size (items_of (take i ts)) + size_of t =
+    omega (arith, items_size-append (take i ts) (t ∷ [])) in
+    let whole : items_size (items_of ts)
+    ≡ items_size (items_of (take i ts)) + items_size (items_of (t ∷ drop (i + 1) ts)) =
+    ap (λ us. items_size (items_of us)) (split_at ts i t next) ∙ items_size-append (take i ts) (t ∷ drop (i + 1) ts) in
+    record { adds = ap (λ us. items_size (items_of us)) next ∙ longer; within = omega (arith, whole) }
 
 pub record NextMember (ms : List (List ℕ × Tree)) (i : ℕ) (t : Tree) : Type 0 where
   pub adds : members_size (members_of (take (i + 1) ms)) ≡ members_size (members_of (take i ms)) + size_of t
@@ -80,8 +55,13 @@ pub next_member : (ms : List (List ℕ × Tree)) (i : ℕ) (m : List ℕ × Tree
     → NextMember ms i m.1
 next_member ms i m at =
     let next = take_next ms i m at in
-    let after = member_after ms (take i ms) m (drop (i + 1) ms) (split_at ms i m next) in
-    record { adds = ap (λ ns. members_size (members_of ns)) next ∙ after.adds m.0; within = after.within }
+    let longer : members_size (members_of (take i ms ++ m ∷ [])) ≡ members_size (members_of (take i ms)) + size_of m.1 =
+    omega (arith, members_size-append (take i ms) (m ∷ [])) in
+    let whole : members_size (members_of ms)
+    ≡ members_size (members_of (take i ms)) + members_size (members_of (m ∷ drop (i + 1) ms)) =
+    ap (λ ns. members_size (members_of ns)) (split_at ms i m next)
+    ∙ members_size-append (take i ms) (m ∷ drop (i + 1) ms) in
+    record { adds = ap (λ ns. members_size (members_of ns)) next ∙ longer; within = omega (arith, whole) }
 
 -- the members as far as an index hold no more values than all members
 pub members_size-take : (ms : List (List ℕ × Tree)) (i : ℕ)

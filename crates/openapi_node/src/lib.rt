@@ -1,14 +1,16 @@
 #![tactic(auto)]
-//! JSON values (RFC 8259) whose numbers are whole, as trees that are read by counted looks, and the refusals of
-//! those who read them, each with its place.
+//! JSON values (RFC 8259) whose numbers are whole, which are read by counted accesses, and the errors of readers, each
+//! with its location.
 //!
-//! A [`Node`] keeps the order of an object's members. [`Node::open`] is the one way to look inside, and each look
-//! raises the number in a [`Steps`], which contracts alone see: so a bound on the looks of a reader is proved.
+//! A [`Node`] keeps the order of an object's members. Readers see what it holds by [`Node::open`], and each access
+//! raises the number in a [`Steps`], which contracts alone see: so a bound on the accesses of a reader is proved.
+//! Programs, which have the runtime, may use [`Node::view`], which counts nothing.
 mod clone;
 mod copy;
 mod debug;
 mod equal;
 mod fault;
+mod from;
 mod member;
 mod node;
 mod read_value;

@@ -4,7 +4,6 @@ ghost use Rattle.std.specs.Option.{option_copied, option_map};
 ghost use Rattle.openapi_node.specs.Tree.{null, flag, whole, text, list, object, items_of, members_of};
 ghost use Rattle.openapi_node.specs.Tree.{flag_in, whole_in, text_in, items_in, members_in};
 ghost use Rattle.openapi_node.specs.Named.{well_named};
-ghost use Rattle.openapi_node.specs.Shape.{tree_of};
 ghost use Rattle.openapi_node.specs.View.{shown};
 
 use crate::steps::Steps;
@@ -164,25 +163,14 @@ impl Node {
         }
     }
 
-    /// What the node holds, which is taken out of it after a look. So it raises the count by one, as the look does.
-    pub(crate) fn take(self, steps: &mut Steps) -> Shape
-        ensures held { tree_of result ≡ self }
-        ensures counted { steps.new ≡ steps.old + 1 }
+    /// Returns what the node is and holds, borrowed, as [`Node::open`] does, but counts no access for the caller.
+    ///
+    /// It is for programs and tests, which have the runtime. A reader is passed an allocator and no runtime. So it can't
+    /// call this function, and the bound on its accesses counts all of them.
+    pub fn view(&self, rt: &HostRuntime) -> View<'_>
+        ensures { shown result ≡ self.now }
     {
-        let _ = self.open(steps);
-        self.shape
-    }
-
-    /// The members of an object in their order, taken out of it after a look, which raises the count by one; or `None`
-    /// where the value is no object. It is gone then too.
-    pub fn into_object(self, steps: &mut Steps) -> Option<OrderedMap<Node>>
-        ensures held { option_map members_of result ≡ members_in self }
-        ensures counted { steps.new ≡ steps.old + 1 }
-    {
-        match self.take(steps) {
-            Shape::Object(members) => Some(members),
-            _ => None,
-        }
+        self.open(&mut Steps::new(rt))
     }
 }
 

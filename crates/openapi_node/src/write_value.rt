@@ -9,7 +9,7 @@ ghost use Rattle.openapi_node.specs.Pairs.{pair_view, pair_data, put_all};
 ghost use Rattle.openapi_node.specs.Tree.{items_of, members_of, size_of, items_size, members_size};
 
 use crate::fault::{Fault, Result};
-use crate::node::{Node, Shape, View};
+use crate::node::{Node, View};
 use crate::steps::Steps;
 use crate::whole::Whole;
 use openapi_map::OrderedMap;
@@ -32,24 +32,6 @@ impl Node {
             Ok(value) => Ok(value),
             Err(_) => Err(Fault::memory(alloc)),
         }
-    }
-
-    /// The same value as from `to_value`, made of the node itself: texts and names are moved into it. Each value in the
-    /// node is looked at once, and on a refusal at most once.
-    ///
-    /// The one cause is [`Cause::Memory`](crate::Cause), with the empty place: a growth was refused. The node is gone
-    /// then too.
-    pub fn into_value(self, alloc: Global, steps: &mut Steps) -> Result<Value>
-        ensures ok { IfOk result (λ v. view v ≡ data_of self) }
-        ensures counted { OnOk result (steps.new ≡ steps.old + size_of self) }
-        ensures rises { steps.old ≤ steps.new }
-        ensures bound { steps.new ≤ steps.old + size_of self }
-        ensures memory { IfErr result IsMemory }
-    {
-        let Ok(value) = turn_node(alloc, self, steps) else {
-            return Err(Fault::memory(alloc));
-        };
-        Ok(value)
     }
 }
 
@@ -131,69 +113,6 @@ fn write_pairs(
         let (name, member) = members.entry_at(i);
         let name = String::from_str(alloc, name)?;
         pairs.push((name, write_node(alloc, member, steps)?))?;
-    }
-    Ok(pairs)
-}
-
-#[cycle(turn)]
-fn turn_node(alloc: Global, node: Node, steps: &mut Steps) -> Result<Value, AllocError>
-    ensures ok { IfOk result (λ v. view v ≡ data_of node) }
-    ensures counted { OnOk result (steps.new ≡ steps.old + size_of node) }
-    ensures rises { steps.old ≤ steps.new }
-    ensures bound { steps.new ≤ steps.old + size_of node }
-{
-    match node.take(steps) {
-        Shape::Null => Ok(Value::Null),
-        Shape::Flag(value) => Ok(Value::Bool(value)),
-        Shape::Whole(value) => Ok(write_whole(value)),
-        Shape::Text(value) => Ok(Value::String(value)),
-        Shape::List(items) => Ok(Value::Array(turn_items(alloc, items, steps)?)),
-        Shape::Object(members) => Ok(Value::Object(turn_members(alloc, members, steps)?)),
-    }
-}
-
-#[cycle(turn)]
-fn turn_items(alloc: Global, items: Vec<Node>, steps: &mut Steps) -> Result<Vec<Value>, AllocError>
-    ensures ok { IfOk result (λ v. items_view v.items ≡ items_data (items_of items.items)) }
-    ensures counted { OnOk result (steps.new ≡ steps.old + items_size (items_of items.items)) }
-    ensures rises { steps.old ≤ steps.new }
-    ensures bound { steps.new ≤ steps.old + items_size (items_of items.items) }
-{
-    let mut values = Vec::with_capacity(alloc, items.len())?;
-    for item in items {
-        values.push(turn_node(alloc, item, steps)?)?;
-    }
-    Ok(values)
-}
-
-#[cycle(turn)]
-fn turn_members(
-    alloc: Global,
-    members: OrderedMap<Node>,
-    steps: &mut Steps,
-) -> Result<Map<String, Value>, AllocError>
-    ensures ok { IfOk result (λ m. members_view m.entries ≡ members_data (members_of members) no_members) }
-    ensures counted { OnOk result (steps.new ≡ steps.old + members_size (members_of members)) }
-    ensures rises { steps.old ≤ steps.new }
-    ensures bound { steps.new ≤ steps.old + members_size (members_of members) }
-{
-    map_of(alloc, turn_pairs(alloc, members, steps)?)
-}
-
-#[cycle(turn)]
-fn turn_pairs(
-    alloc: Global,
-    members: OrderedMap<Node>,
-    steps: &mut Steps,
-) -> Result<Vec<(String, Value)>, AllocError>
-    ensures ok { IfOk result (λ v. map pair_view v.items ≡ map pair_data members) }
-    ensures counted { OnOk result (steps.new ≡ steps.old + members_size (members_of members)) }
-    ensures rises { steps.old ≤ steps.new }
-    ensures bound { steps.new ≤ steps.old + members_size (members_of members) }
-{
-    let mut pairs = Vec::with_capacity(alloc, members.len())?;
-    for (name, member) in members {
-        pairs.push((name, turn_node(alloc, member, steps)?))?;
     }
     Ok(pairs)
 }

@@ -5,7 +5,7 @@ ghost use Rattle.openapi_schema.specs.Present.{additional_there, schema_there};
 use crate::members::whole_kind;
 use crate::schema::{AdditionalProperties, Schema, SchemaKind};
 use crate::write::{additional_to_node, kind_rows, write_schema};
-use openapi_fields::{IntoNode, ToNode};
+use openapi_fields::ToNode;
 use openapi_node::{Node, Result};
 use std::alloc::Global;
 
@@ -16,9 +16,6 @@ impl ToNode for Schema {
 
     ghost there = { schema_there };
 }
-
-/// A schema is written and then let go of: nothing of it is moved.
-impl IntoNode for Schema {}
 
 /// The kind of a schema by itself, with no member that every kind of schema can have.
 impl ToNode for SchemaKind {

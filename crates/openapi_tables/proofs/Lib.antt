@@ -38,10 +38,6 @@ pub mod DistinctLaws
 pub mod DistinctReads
 pub mod DistinctWrites
 pub mod WritableLaws
-pub mod WorkedSchemas
-pub mod WorkedObjects
-pub mod WorkedFaults
-pub mod WorkedTables
 pub mod WeightLaws
 pub mod ByRowLaws
 pub mod SlotLists

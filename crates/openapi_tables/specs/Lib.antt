@@ -23,11 +23,6 @@ pub mod Distinct
 pub mod Unwritable
 pub mod Operations
 pub mod Laws
-pub mod Worked
-pub mod WorkedSchemas
-pub mod WorkedObjects
-pub mod WorkedFaults
-pub mod WorkedTables
 pub mod ByRow
 pub mod Slots
 pub mod Prelude

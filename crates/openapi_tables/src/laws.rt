@@ -7,10 +7,6 @@
 ghost use Rattle.openapi_tables.specs.Laws.{WellMade, Codes, FirstValue, References, Ignored, Order, Faults};
 ghost use Rattle.openapi_tables.specs.Laws.{ReadsItsWriting, Settles, Canonical, CallbacksKept, XmlKept};
 ghost use Rattle.openapi_tables.specs.Laws.{DistinctNames, OrderKept, Writable};
-ghost use Rattle.openapi_tables.specs.WorkedFaults.{WorkedFaults};
-ghost use Rattle.openapi_tables.specs.WorkedObjects.{WorkedObjects};
-ghost use Rattle.openapi_tables.specs.WorkedSchemas.{WorkedSchemas};
-ghost use Rattle.openapi_tables.specs.WorkedTables.{WorkedTables};
 
 /// The final tables, and the two earlier lists of tables, are well made: in each table no name is taken by two
 /// rows, each row's mode fits its kind, a default style is one of its styles, nothing under a reference may be
@@ -110,25 +106,4 @@ pub fn callbacks_kept()
 /// in it conforms to the XML Object.
 pub fn xml_kept()
     ensures { XmlKept }
-{}
-
-/// Worked examples of schemas: their sorts, what they are cleaned to, and what they settle to.
-pub fn worked_schemas()
-    ensures { WorkedSchemas }
-{}
-
-/// Worked examples of the other objects: what they are cleaned to, and which names and codes a value may not hold.
-pub fn worked_objects()
-    ensures { WorkedObjects }
-{}
-
-/// Worked examples of refusals: each cause, and each word for what was expected, at its place.
-pub fn worked_faults()
-    ensures { WorkedFaults }
-{}
-
-/// Each of the final tables by examples: an object with all its members, in their order, is cleaned to itself; what
-/// an object without members misses; and which of its members may not be null.
-pub fn worked_tables()
-    ensures { WorkedTables }
 {}

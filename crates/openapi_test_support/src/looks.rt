@@ -1,6 +1,5 @@
 //! Looks at nodes, and what their views show.
 use crate::nodes::{object, read};
-use crate::trees::{check_tree, tree};
 use openapi_node::{Node, Steps, View, find_member};
 use std::alloc::Global;
 use std::test::Fail;
@@ -98,29 +97,5 @@ fn texts_outlive_their_views(rt: HostRuntime) -> Result<(), Fail> {
     let node = read(rt.alloc(), "\"pets\"")?;
     let text = node.open(&mut steps).as_text();
     assert_eq!(rt; text, Some("pets"));
-    Ok(())
-}
-
-// The members of an object are taken out of it in their order, and there are none in another value.
-#[test]
-fn members_are_taken_out(rt: HostRuntime) -> Result<(), Fail> {
-    let mut steps = Steps::new(&rt);
-    let rows = [
-        ("null", None),
-        ("\"pets\"", None),
-        ("[{\"a\":1}]", None),
-        ("{}", Some("{}")),
-        (
-            "{\"b\":{\"d\":[]},\"a\":1}",
-            Some("{\"b\":{\"d\":[]},\"a\":1}"),
-        ),
-    ];
-    for (given, wanted) in rows {
-        match (tree(&rt, given)?.into_object(&mut steps), wanted) {
-            (Some(members), Some(text)) => check_tree(&rt, &Node::object(members), text)?,
-            (None, None) => {}
-            _ => return Err(Fail::from(given)),
-        }
-    }
     Ok(())
 }

@@ -37,11 +37,6 @@ fn written(alloc: Global, node: &Node, steps: &mut Steps) -> Result<String, Fail
     Ok(value.to_string(alloc)?)
 }
 
-fn turned(alloc: Global, node: Node, steps: &mut Steps) -> Result<String, Fail> {
-    let value = node.into_value(alloc, steps)?;
-    Ok(value.to_string(alloc)?)
-}
-
 fn debug(alloc: Global, node: &Node) -> Result<String, AllocError> {
     format!(in alloc; "{node:?}")
 }
@@ -224,8 +219,6 @@ fn values_there_and_back(rt: HostRuntime) -> Result<(), Fail> {
         let node = read(rt.alloc(), given)?;
         let text = written(rt.alloc(), &node, &mut Steps::new(&rt))?;
         assert_eq!(rt; text.as_str(), back);
-        let text = turned(rt.alloc(), node, &mut Steps::new(&rt))?;
-        assert_eq!(rt; text.as_str(), back);
     }
     Ok(())
 }
@@ -244,7 +237,6 @@ fn long_objects_go_by_name(rt: HostRuntime) -> Result<(), Fail> {
     let by_name = "{\"a\":0,\"b\":0,\"c\":0,\"d\":0,\"e\":0,\"f\":0,\"g\":0,\"h\":0,\"i\":0}";
     let node = Node::object(members);
     assert_eq!(rt; written(alloc, &node, &mut steps)?.as_str(), by_name);
-    assert_eq!(rt; turned(alloc, node, &mut steps)?.as_str(), by_name);
     Ok(())
 }
 

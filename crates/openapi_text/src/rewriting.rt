@@ -11,7 +11,7 @@ ghost use Rattle.openapi_tables.specs.Tables.{final_tables};
 
 use crate::fault::RunFault;
 use openapi_documents::OpenAPI;
-use openapi_fields::{FromNode, IntoNode, Settle, ToNode};
+use openapi_fields::{FromNode, Settle, ToNode};
 use openapi_metadata::Tag;
 use openapi_node::{Cause, Fault, Node, Steps};
 use openapi_schema::Schema;
@@ -80,7 +80,7 @@ pub fn rewrite(
 ///
 /// [`RunFault::Refused`] if the value does not conform, with the location and the rule that it breaks, and
 /// [`RunFault::Memory`] if an allocation fails.
-pub fn cleaned_tree<T: IntoNode>(
+pub fn cleaned_tree<T: ToNode + Drop>(
     alloc: Global,
     node: Node,
     steps: &mut Steps,
@@ -90,7 +90,7 @@ pub fn cleaned_tree<T: IntoNode>(
     ensures err { IfErr result (IsFaultOf T.FromNode.kind node) }
 {
     let object = read_object::<T>(alloc, node, steps)?;
-    tree_of_object(alloc, object)
+    tree_of_object(alloc, &object)
 }
 
 /// Returns the value of an object in stable form: cleaned twice, after which cleaning changes nothing.
@@ -131,7 +131,7 @@ pub fn read_object<T: FromNode + Drop>(
         × (form final_tables T.kind node ≡ T.form_of x)) }
     ensures err { IfErr result (IsFaultOf T.kind node) }
 {
-    match T::from_owned_node(alloc, node, steps) {
+    match T::from_node(alloc, &node, steps) {
         Ok(object) => Ok(object),
         Err(fault) => Err(refusal(fault)),
     }
@@ -148,12 +148,12 @@ fn refusal(fault: Fault) -> RunFault
     }
 }
 
-/// The tree that an object is written as, for which it is taken.
-fn tree_of_object<T: IntoNode>(alloc: Global, object: T) -> Result<Node, RunFault>
-    ensures ok { IfOk result (λ n. n ≡ print final_tables T.FromNode.kind (T.FromNode.form_of object)) }
+/// The tree that an object is written as.
+fn tree_of_object<T: ToNode>(alloc: Global, object: &T) -> Result<Node, RunFault>
+    ensures ok { IfOk result (λ n. n ≡ print final_tables T.FromNode.kind (T.FromNode.form_of object.now)) }
     ensures err { IfErr result (λ e. e ≡ RunFault.Memory) }
 {
-    match object.into_node(alloc) {
+    match object.to_node(alloc) {
         Ok(node) => Ok(node),
         Err(_) => Err(RunFault::Memory),
     }

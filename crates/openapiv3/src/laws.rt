@@ -2,6 +2,5 @@
 pub use openapi_documents::laws::headline;
 pub use openapi_tables::laws::{
     callbacks_kept, canonical, codes, distinct_names, faults, first_value, ignored, order,
-    order_kept, reads_its_writing, references, settles, well_made, worked_faults, worked_objects,
-    worked_schemas, worked_tables, writable, xml_kept,
+    order_kept, reads_its_writing, references, settles, well_made, writable, xml_kept,
 };

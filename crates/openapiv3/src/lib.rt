@@ -141,7 +141,7 @@ pub use openapi_resolve::{Component, Resolve, ResolveError};
 pub use openapi_visit::{Visitor, visit};
 
 // Traits that read and write, and what they ask of flags and of words of a set.
-pub use openapi_fields::{FromNode, IntoNode, Referable, Settle, ToNode};
+pub use openapi_fields::{FromNode, Referable, Settle, ToNode};
 pub use openapi_values::{Word, is_false};
 
 // JSON text of typed objects: read and written in one call each, and errors with their position.

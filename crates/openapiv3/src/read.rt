@@ -58,7 +58,7 @@ pub fn from_json<T: FromNode>(
     ensures refuses { IfErr result (Explains IsTreeOfText T.kind bytes.now steps.old steps.new) }
 {
     let tree = node_from_json(alloc, bytes)?;
-    let value = T::from_owned_node(alloc, tree, steps)?;
+    let value = T::from_node(alloc, &tree, steps)?;
     Ok(value)
 }
 
@@ -76,6 +76,6 @@ pub fn from_json_in_order<T: FromNode>(
     ensures refuses { IfErr result (Explains IsTreeInOrder T.kind bytes.now steps.old steps.new) }
 {
     let node = node_from_json_in_order(alloc, bytes)?;
-    let value = T::from_owned_node(alloc, node, steps)?;
+    let value = T::from_node(alloc, &node, steps)?;
     Ok(value)
 }

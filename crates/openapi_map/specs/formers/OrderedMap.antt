@@ -1,6 +1,7 @@
 -- `OrderedMap` as a type that may hold the type that holds it, by its values.
-use Rattle.std.specs.Prelude.{◌≡◌, List, [], Option, Some, None}
-use mathlib.Core.Path.{refl, sym, subst}
+use Rattle.std.specs.Prelude.{◌≡◌, List, [], Option, Some, None, String}
+use mathlib.Core.Path.{refl, sym, ap, subst, ◌∙◌}
+use lib.ListN.{length-map}
 use mathlib.Core.Former.{Former, this, const, pair, or, list, via, children}
 use mathlib.Core.Logic.{◌⊎◌, inl, inr}
 use base.Fml.{ftrue}
@@ -14,30 +15,29 @@ use denote.HolePlaces.{Recodes, struct_places, enum_places, eachs, laid, one_val
 use denote.Hole.Carrier.{listed}
 use denote.Hole.Fix.{over}
 use denote.Param.Weighed.{Weighed, most}
-use denote.Model.Placed.{held, view_places}
+use denote.Model.Placed.{held, view_places_where}
 use Rattle.std.specs.List.{IsDistinct}
 use Rattle.std.specs.Str.{bytes_eq}
-use Rattle.std.specs.Map.{values_of}
+use Rattle.std.specs.Map.{keys_of, values_of}
 use Rattle.std.specs.declared.alloc.Global.{Global}
 use Rattle.std.specs.declared.boxed.Box.{Box}
+use Rattle.std.specs.declared.vec.Vec.{Vec}
 use Rattle.std.specs.declared.cmp.PartialEq as eq
 use Rattle.std.specs.formers.vec.Vec as vec
 use Rattle.std.specs.contracts.boxed.Box as box
 use Rattle.std.specs.contracts.option.Option as option
 use Rattle.std.specs.contracts.alloc.Global as heap
 use Rattle.std.specs.contracts.impls.GlobalAllocator.TheImpl.{ghosts}
-use Rattle.openapi_map.specs.Entries.{Entries, entries_of}
-use Rattle.openapi_map.specs.Held.{kept}
-use Rattle.openapi_map.specs.Index.{IsIndexAt}
+use Rattle.openapi_map.specs.Entries.{Entries, names_of}
+use Rattle.openapi_map.specs.Held.{kept, IsHeldConsistent}
 use Rattle.openapi_map.specs.declared.Held.{Held}
 use Rattle.openapi_map.specs.Equality.{entries_eq}
-use Rattle.openapi_map.specs.declared.lookup.Names.{Names}
-use Rattle.openapi_map.specs.Former.{entry, stored, on_stored, entries_puts, values_listed, entries_recoded}
-use Rattle.openapi_map.specs.Former.{entries_of-map, names_of-map, entries_of-held, entries_eq-map}
-use Rattle.openapi_map.specs.Former.{Indexed, Indexed-prop}
+use Rattle.openapi_map.specs.declared.lookup.Finder.{Finder}
+use Rattle.openapi_map.specs.Former.{entry, entries_puts, values_listed, entries_recoded}
+use Rattle.openapi_map.specs.Former.{zip-map, zip-held, length-names_of, keys_of-map, entries_eq-map}
+use Rattle.openapi_map.specs.Former.{IsKept, IsKept-prop}
 use Rattle.openapi_map.specs.declared.OrderedMap.TheInside.{Inside}
 use Rattle.openapi_map.specs.declared.OrderedMap.TheView.{view, invariant}
-use Rattle.openapi_map.specs.contracts.Member as E
 use Rattle.openapi_map.specs.contracts.Held as H
 use Rattle.openapi_map.specs.contracts.OrderedMap as C
 use Rattle.openapi_map.specs.contracts.OrderedMap.TheInside as I
@@ -64,8 +64,9 @@ the_items_listed X es = values_listed X es
 -- what the code keeps for a map
 abbrev helds : Former {0}
 helds =
-    via (pair (vec.the_former stored Global) (const Names)) Held
-    (λ X a. (a.entries, a.names)) (λ X v. record { entries = v.0; names = v.1 }) (λ X a. refl) (λ X v. refl)
+    via (pair (const (Vec (String Global) Global)) (pair (vec.the_former this Global) (const Finder))) Held
+    (λ X a. (a.names, (a.values, a.finder)))
+    (λ X v. record { names = v.0; values = v.1.0; finder = v.1.1 }) (λ X a. refl) (λ X v. refl)
 
 abbrev with_value : {X Y : Type 0} → Box X Global → Y → Box Y Global
 with_value b y = record { ptr = b.ptr; alloc = b.alloc; value = y }
@@ -105,7 +106,7 @@ fields =
 
 module _ {X Y : Type 0} (h : X → Y) where
   abbrev on_held : Held X → Held Y
-  on_held d = record { entries = vec.mapped (on_stored h) d.entries; names = d.names }
+  on_held d = record { names = d.names; values = vec.mapped h d.values; finder = d.finder }
 
   abbrev on_box : Box (Held X) Global → Box (Held Y) Global
   on_box b = with_value b (on_held b.value)
@@ -120,28 +121,34 @@ module _ {X Y : Type 0} (h : X → Y) where
 
   -- the view goes along the map
   natural : (o : Option (Box (Held X) Global))
-      → entries_of (kept (options.map X Y h o)) ≡ (the_former this).map X Y h (entries_of (kept o))
+      → kept (options.map X Y h o) ≡ (the_former this).map X Y h (kept o)
   natural None = refl
-  natural (Some b) = entries_of-map h b.value.entries.items
+  natural (Some b) = zip-map h (names_of b.value.names.items) b.value.values.items
 
   -- and so does what holds of the fields
-  Indexed-to : (o : Option (Box (Held X) Global)) → Indexed o → Indexed (options.map X Y h o)
-  Indexed-to None s = s
-  Indexed-to (Some b) s =
-      subst (λ ns. IsDistinct bytes_eq ns × IsIndexAt ns b.value.names)
-      (sym (names_of-map h b.value.entries.items)) s
+  names : (o : Option (Box (Held X) Global)) → keys_of (kept (options.map X Y h o)) ≡ keys_of (kept o)
+  names o = ap keys_of (natural o) ∙ keys_of-map h (kept o)
 
-  Indexed-from : (o : Option (Box (Held X) Global)) → Indexed (options.map X Y h o) → Indexed o
-  Indexed-from None s = s
-  Indexed-from (Some b) s =
-      subst (λ ns. IsDistinct bytes_eq ns × IsIndexAt ns b.value.names)
-      (names_of-map h b.value.entries.items) s
+  consistent-to : (o : Option (Box (Held X) Global)) → IsHeldConsistent o → IsHeldConsistent (options.map X Y h o)
+  consistent-to None s = s
+  consistent-to (Some b) s = record { even = length-map b.value.values.items h ∙ s.even; index = s.index }
+
+  consistent-from : (o : Option (Box (Held X) Global)) → IsHeldConsistent (options.map X Y h o) → IsHeldConsistent o
+  consistent-from None s = s
+  consistent-from (Some b) s = record { even = sym (length-map b.value.values.items h) ∙ s.even; index = s.index }
+
+  IsKept-to : (o : Option (Box (Held X) Global)) → IsKept o → IsKept (options.map X Y h o)
+  IsKept-to o s = (subst (IsDistinct bytes_eq) (sym (names o)) s.0, consistent-to o s.1)
+
+  IsKept-from : (o : Option (Box (Held X) Global)) → IsKept (options.map X Y h o) → IsKept o
+  IsKept-from o s = (subst (IsDistinct bytes_eq) (names o) s.0, consistent-from o s.1)
 
 -- the view shows what the fields hold
-keeps : (X : Type 0) (o : Option (Box (Held X) Global)) (z : Global)
-    → held (the_former this) X (entries_of (kept o)) ≡ held fields X (record { held = o; alloc = z })
-keeps X None z = refl
-keeps X (Some b) z = entries_of-held X b.value.entries.items
+keeps : (X : Type 0) (o : Option (Box (Held X) Global)) (z : Global) → IsHeldConsistent o
+    → held (the_former this) X (kept o) ≡ held fields X (record { held = o; alloc = z })
+keeps X None z s = refl
+keeps X (Some b) z s =
+    zip-held X (names_of b.value.names.items) b.value.values.items (s.even ∙ sym (length-names_of b.value.names.items))
 
 abbrev box_of : RattleType → RattleType
 box_of R = box.the_row R heap.the_row ghosts
@@ -158,16 +165,14 @@ box_places R R' h a = record {
 }
 
 module _ (R R' : RattleType) (h : R.Denot → R'.Denot) where
-  stored_places : Alike R R' h → Alike (E.the_row R) (E.the_row R') (on_stored h)
-  stored_places a =
-      struct_places (E.the_type R) (E.the_type R') (λ n. n, (h, tt)) _ (λ d. refl) refl
-      ((refl, (λ n. refl, λ n. refl)), (laid _ _ _ a, tt))
-
   held_places : Alike R R' h → Alike (H.the_row R) (H.the_row R') (on_held h)
   held_places a =
-      struct_places (H.the_type R) (H.the_type R') (vec.mapped (on_stored h), (λ n. n, tt)) _ (λ d. refl) refl (
-        laid _ _ _ (vec.the_places heap.the_row ghosts (E.the_row R) (E.the_row R') (on_stored h) (stored_places a)),
-        ((refl, (λ n. refl, λ n. refl)), tt),
+      struct_places (H.the_type R) (H.the_type R') (λ n. n, (vec.mapped h, (λ n. n, tt))) _ (λ d. refl) refl (
+        (refl, (λ n. refl, λ n. refl)),
+        (
+          laid _ _ _ (vec.the_places heap.the_row ghosts R R' h a),
+          ((refl, (λ n. refl, λ n. refl)), tt),
+        ),
       )
 
   abbrev boxed : RattleType → RattleType
@@ -187,12 +192,13 @@ module _ (R R' : RattleType) (h : R.Denot → R'.Denot) where
   pub the_places : Alike R R' h
       → Alike (C.the_row R) (C.the_row R') ((the_former this).map R.Denot R'.Denot h)
   the_places a =
-      view_places fields (the_former this) view
-      (λ X Y k u. natural k u.held) (λ X u. keeps X u.held u.alloc)
+      view_places_where fields (the_former this) view
+      (λ X Y k u. natural k u.held) (λ X u. IsHeldConsistent u.held) (λ X Y k u. consistent-from k u.held)
+      (λ X u. keeps X u.held u.alloc)
       R.Denot R'.Denot h (C.the_row R).coded (C.the_row R').coded
       (invariant R.Denot) (invariant R'.Denot)
-      (λ u. Indexed-prop u.held) (λ u. Indexed-prop u.held)
-      (λ u. Indexed-to h u.held) (λ u. Indexed-from h u.held)
+      (λ u. IsKept-prop u.held) (λ u. IsKept-prop u.held)
+      (λ u. IsKept-to h u.held) (λ u. IsKept-from h u.held) (λ u s. s.1)
       (over (I.the_row R)) (over (I.the_row R'))
       (struct_places (I.the_type R) (I.the_type R') (on_option h, (λ n. n, tt)) _
       (λ d i. (over_option h d.held i, (d.alloc, tt))) refl

@@ -3,7 +3,7 @@ use Rattle.std.specs.Map.{keys_of}
 use Rattle.std.specs.Str.{bytes_eq}
 use mathlib.Core.Logic.{inl}
 use Rattle.indexmap.proofs.MapLemmas.{Found-position}
-use Rattle.openapi_map.specs.Entries.{entries_of, get}
+use Rattle.openapi_map.specs.Entries.{get}
 use Rattle.openapi_map.specs.Held.{kept}
 use Rattle.openapi_map.proofs.EntryLemmas.{get-missing, insert-found}
 use Rattle.openapi_map.proofs.OrderedMap.get_mut.Goals as goal
@@ -23,5 +23,5 @@ pub returns-in-None : goal.returns-in-None
 returns-in-None g c =
     let name = c.args.name.now in (
       refl,
-      get-missing name (entries_of (kept c.self.inside.held)) c.in-None.ensures ∙ ap (get name) c.self.view_is,
+      get-missing name (kept c.self.inside.held) c.in-None.ensures ∙ ap (get name) c.self.view_is,
     )

@@ -4,7 +4,7 @@ use Rattle.openapi_map.proofs.IndexLemmas.{Passed}
 use Rattle.openapi_map.proofs.index.NameIndex.place_of.Given as goal
 
 abbrev pub invariant-loop-link : goal.invariant-loop-link
-invariant-loop-link g l = Passed l.name (names_of l.entries.items) (vec_len l.self.heads) l.link
+invariant-loop-link l = Passed l.name (names_of l.names.items) (vec_len l.self.heads) l.link
 
 abbrev pub decreases-loop-link : goal.decreases-loop-link
-decreases-loop-link g l = l.link
+decreases-loop-link l = l.link

@@ -1,5 +1,5 @@
 use Rattle.std.proofs.Common.{subst}
-use Rattle.openapi_map.specs.Entries.{entries_of, IsCloneOf}
+use Rattle.openapi_map.specs.Entries.{IsCloneOf}
 use Rattle.openapi_map.specs.Held.{kept}
 use Rattle.openapi_map.proofs.CloneLemmas.{kept-clone}
 use Rattle.openapi_map.proofs.traits.OrderedMapClone.clone.Goals as goal
@@ -13,6 +13,6 @@ returns g c =
     let cloned = c.in_ok-clone.field-0 in
     let C = g.V.Clone.is_clone in
     record {
-      cases = subst (λ es. IsCloneOf C es (entries_of (kept cloned))) c.self.view_is
+      cases = subst (λ es. IsCloneOf C es (kept cloned)) c.self.view_is
           (kept-clone C c.self.inside.held cloned c.in_ok-clone.ensures.cases c.self.invariant).1;
     }

@@ -4,6 +4,7 @@
 mod authorization_code_flow;
 mod client_credentials_flow;
 mod implicit_flow;
+mod new_scheme;
 mod oauth2_flows;
 mod password_flow;
 mod security_requirement;

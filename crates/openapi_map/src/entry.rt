@@ -1,4 +1,4 @@
-//! A name's place in an `OrderedMap`, which has the name or lacks it.
+//! The entry of a name in an `OrderedMap`, which has the name or lacks it.
 ghost use Rattle.std.specs.Prelude.{◌≡◌, None, Some, position, string_bytes};
 ghost use Rattle.std.specs.Map.{keys_of};
 ghost use Rattle.std.specs.Str.{bytes_eq};
@@ -8,7 +8,7 @@ mod methods;
 
 use crate::OrderedMap;
 
-/// A name that a map has or lacks, to read, insert or change its value.
+/// The entry of a name that a map has or lacks, to read, insert or change its value.
 #[derive(Drop)]
 pub enum Entry<'a, V> {
     /// The map has the name.
@@ -17,7 +17,7 @@ pub enum Entry<'a, V> {
     Vacant(VacantEntry<'a, V>),
 }
 
-/// A name that a map has.
+/// The entry of a name that a map has.
 #[derive(Drop)]
 pub struct OccupiedEntry<'a, V> {
     map: &'a mut OrderedMap<V>,
@@ -26,7 +26,7 @@ pub struct OccupiedEntry<'a, V> {
     ghost found: { position (bytes_eq (string_bytes name)) (keys_of map.now) ≡ Some place },
 }
 
-/// A name that a map lacks.
+/// The entry of a name that a map lacks.
 #[derive(Drop)]
 pub struct VacantEntry<'a, V> {
     map: &'a mut OrderedMap<V>,

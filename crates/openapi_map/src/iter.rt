@@ -1,4 +1,5 @@
-//! The iterators over an `OrderedMap` that borrow it immutably or own it. Each is seen as the list of what it has left.
+//! The iterators over an `OrderedMap` that borrow it immutably or own it. Contracts see each as the list of what it has
+//! left.
 ghost use Rattle.std.specs.Prelude.{◌≡◌, ◌<◌, ◌^◌, ℕ, List, length, String, string_bytes};
 ghost use Rattle.std.specs.Iterator.{at_most};
 ghost use Rattle.std.specs.Map.{keys_of, values_of};
@@ -12,7 +13,7 @@ use std::alloc::Global;
 use std::marker::Model;
 use std::{slice, vec};
 
-/// The entries of a map in their order, each as `(&str, &V)`: its name and its value.
+/// An iterator over the entries of a map in their order, each as `(&str, &V)`: its name and its value.
 #[derive(Drop)]
 pub struct Iter<'a, V> {
     names: slice::Iter<'a, String>,
@@ -44,7 +45,7 @@ impl<'a, V> Iterator for Iter<'a, V> {
     }
 }
 
-/// The names of a map in their order, each as a `&str`.
+/// An iterator over the names of a map in their order, each as a `&str`.
 #[derive(Drop)]
 pub struct Keys<'a, V> {
     entries: Iter<'a, V>,
@@ -72,7 +73,7 @@ impl<'a, V> Iterator for Keys<'a, V> {
     }
 }
 
-/// The values of a map in their order, each as a `&V`.
+/// An iterator over the values of a map in their order, each as a `&V`.
 #[derive(Drop)]
 pub struct Values<'a, V> {
     values: slice::Iter<'a, V>,
@@ -99,7 +100,9 @@ impl<'a, V> Iterator for Values<'a, V> {
     }
 }
 
-/// The entries of a map in their order, each as `(String, V)`: its name and its value, which the map no longer owns.
+/// An iterator over the entries of a map in their order, each as `(String, V)`: its name and its value.
+///
+/// It owns the entries.
 #[derive(Drop)]
 pub struct IntoIter<V> {
     names: vec::IntoIter<String>,
@@ -132,7 +135,7 @@ impl<V: Drop> Iterator for IntoIter<V> {
 }
 
 impl<V> OrderedMap<V> {
-    /// The entries, in their order.
+    /// Returns an iterator over the entries, in their order.
     pub fn iter(&self) -> Iter<'_, V>
         ensures rest { result ≡ self.now }
         ensures runs { ShowsInOrder (deref_pair {K = List ℕ} {X = V}) }
@@ -146,7 +149,7 @@ impl<V> OrderedMap<V> {
         }
     }
 
-    /// The names, in their order.
+    /// Returns an iterator over the names, in their order.
     pub fn keys(&self) -> Keys<'_, V>
         ensures rest { result ≡ keys_of self.now }
         ensures runs { ShowsInOrder (deref {X = List ℕ}) }
@@ -158,7 +161,7 @@ impl<V> OrderedMap<V> {
         }
     }
 
-    /// The values, in the order of their names.
+    /// Returns an iterator over the values, in the order of their names.
     pub fn values(&self) -> Values<'_, V>
         ensures rest { result ≡ values_of self.now }
         ensures runs { ShowsInOrder (deref {X = V}) }

@@ -15,7 +15,7 @@ use crate::no_elements::no_elements;
 use crate::{Held, OrderedMap};
 use std::slice;
 
-/// The entries of a map in their order, each as `(&str, &mut V)`: its name and its value, which can be written.
+/// An iterator over the entries of a map in their order, each as `(&str, &mut V)`: its name and its value.
 #[derive(Drop)]
 pub struct IterMut<'a, V> {
     names: slice::Iter<'a, String>,
@@ -37,7 +37,7 @@ impl<'a, V> Iterator for IterMut<'a, V> {
     }
 }
 
-/// The values of a map in the order of their names, each as a `&mut V`.
+/// An iterator over the values of a map in the order of their names, each as a `&mut V`.
 #[derive(Drop)]
 pub struct ValuesMut<'a, V> {
     values: slice::IterMut<'a, V>,

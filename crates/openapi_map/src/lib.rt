@@ -1,12 +1,12 @@
 #![tactic(auto)]
-//! A map from names to values that keeps the order of insertion, and may stand inside the type of its own values.
+//! A map from names to values that keeps the order of insertion. The type of its values may contain the map itself.
 //!
-//! It stands where a Rust program has an `IndexMap<String, V>`, for the objects of a JSON document: their members have
-//! names, and are written in the order in which they were read. A program sees it as the list of its entries.
+//! It replaces the `IndexMap<String, V>` of a Rust program, for the objects of a JSON document. Their members have
+//! names, and are written in the order in which they were read. Contracts see a map as the list of its entries.
 //!
-//! A map keeps its names and its values in two lists. Up to 16 entries a name is compared with one name after another. A
-//! longer map also keeps an index of the places of its names by their hashes, so that a lookup takes the same time however
-//! long the map is.
+//! A map keeps its names and its values in two lists. A map of at most 16 entries compares a name with one name after
+//! another. A longer map also has an index of its names by their hashes. Unless many hashes are equal, the time of a
+//! lookup does not grow with the length of the map.
 ghost use Rattle.std.specs.Prelude.{◌≡◌, ◌-◌, ◌<◌, ◌^◌, ◌↔◌, [], ◌++◌, ◌∷◌, length, slice_get, is_some};
 ghost use Rattle.std.specs.Prelude.{IsTrue, IfOk, OnOk, OnErr, Some, None, string_bytes};
 ghost use Rattle.std.specs.Borrow.{sem};
@@ -46,8 +46,9 @@ struct Held<V> {
     finder: Finder,
 }
 
-/// Values by name, in the order in which the names came. Contracts see it as the list of its entries, no two of which
-/// have the same name. It takes 16 bytes where it stands.
+/// A map from names to values that keeps the order in which the names were inserted.
+///
+/// Contracts see it as the list of its entries, no two of which have the same name.
 #[derive(Drop)]
 pub struct OrderedMap<V> {
     // `None` where there are no entries and none were foreseen.
@@ -156,14 +157,18 @@ fn remove_kept<V>(held: &mut Option<Box<Held<V>>>, place: usize) -> V
 }
 
 impl<V> OrderedMap<V> {
-    /// An empty map, which allocates nothing until the first insert.
+    /// Creates an empty map. It allocates nothing until the first insert.
     pub fn new(alloc: Global) -> OrderedMap<V>
         ensures { result ≡ [] }
     {
         OrderedMap { held: None, alloc }
     }
 
-    /// An empty map with room for `capacity` entries. An `Err` says that there was no memory for them.
+    /// Creates an empty map with room for `capacity` entries.
+    ///
+    /// # Errors
+    ///
+    /// Returns [`AllocError`] if an allocation fails.
     pub fn with_capacity(alloc: Global, capacity: usize) -> Result<OrderedMap<V>, AllocError>
     where
         V: Drop,
@@ -178,7 +183,7 @@ impl<V> OrderedMap<V> {
         })
     }
 
-    /// The number of entries.
+    /// Returns the number of entries.
     pub fn len(&self) -> usize
         ensures len { result ≡ length self.now }
         ensures small { result < 2 ^ 63 }
@@ -187,26 +192,26 @@ impl<V> OrderedMap<V> {
         kept_names(&self.held).len()
     }
 
-    /// Whether there are no entries.
+    /// Returns whether the map has no entries.
     pub fn is_empty(&self) -> bool
         ensures { IsTrue result ↔ (length self.now ≡ 0) }
     {
         self.len() == 0
     }
 
-    /// The allocator that the map was made with.
+    /// Returns the allocator that the map was created with.
     pub fn allocator(&self) -> &Global {
         &self.alloc
     }
 
-    /// Whether the map has the name.
+    /// Returns whether the map has a name.
     pub fn contains_key(&self, name: &str) -> bool
         ensures { result ≡ is_some (get name.now self.now) }
     {
         self.get(name).is_some()
     }
 
-    /// The value at the name, or `None` where the map lacks it.
+    /// Returns the value at a name, or `None` if the map lacks the name.
     pub fn get(&self, name: &str) -> Option<&V>
         ensures { option_copied result ≡ get name.now self.now }
     {
@@ -216,7 +221,7 @@ impl<V> OrderedMap<V> {
         }
     }
 
-    /// The name and the value at a place, counted from 0.
+    /// Returns the name and the value at an index, which counts from 0 and is less than the number of entries.
     pub fn entry_at(&self, index: usize) -> (&str, &V)
         requires { index < length self.now }
         ensures { slice_get self.now index ≡ Some (result.0.now, result.1.now) }
@@ -225,7 +230,7 @@ impl<V> OrderedMap<V> {
         (name, &kept_values(&self.held)[index])
     }
 
-    /// The name and the value at a place, counted from 0, or `None` past the last.
+    /// Returns the name and the value at an index, which counts from 0, or `None` if there is no such entry.
     pub fn get_index(&self, index: usize) -> Option<(&str, &V)>
         ensures { option_map deref_pair result ≡ slice_get self.now index }
     {
@@ -236,22 +241,27 @@ impl<V> OrderedMap<V> {
         }
     }
 
-    /// The name and the value that came first, or `None` in an empty map.
+    /// Returns the name and the value of the first entry, or `None` if the map is empty.
     pub fn first(&self) -> Option<(&str, &V)>
         ensures { option_map deref_pair result ≡ slice_get self.now 0 }
     {
         self.get_index(0)
     }
 
-    /// The name and the value that came last, or `None` in an empty map.
+    /// Returns the name and the value of the last entry, or `None` if the map is empty.
     pub fn last(&self) -> Option<(&str, &V)>
         ensures { option_map deref_pair result ≡ slice_get self.now (length self.now - 1) }
     {
         self.get_index(self.len().saturating_sub(1))
     }
 
-    /// Puts a value at a name, and gives back the one that was there. A name that is there keeps its place, and a new
-    /// one goes last. An `Err` says that there was no memory, and leaves the map as it was.
+    /// Inserts a value at a name, and returns the value that was there before.
+    ///
+    /// A name that the map has keeps its position. A new name becomes the last one.
+    ///
+    /// # Errors
+    ///
+    /// Returns [`AllocError`] if an allocation fails. The map is then as it was.
     pub fn insert(&mut self, name: String, value: V) -> Result<Option<V>, AllocError>
     where
         V: Drop,
@@ -268,8 +278,11 @@ impl<V> OrderedMap<V> {
         }
     }
 
-    /// Puts a value last, at a name that the map lacks, and so spares `insert`'s look for the name. An `Err` says that
-    /// there was no memory, and leaves the map as it was.
+    /// Appends a value at a name that the map lacks, without the lookup of [`OrderedMap::insert`].
+    ///
+    /// # Errors
+    ///
+    /// Returns [`AllocError`] if an allocation fails. The map is then as it was.
     pub fn push_new(&mut self, name: String, value: V) -> Result<(), AllocError>
     where
         V: Drop,
@@ -281,8 +294,9 @@ impl<V> OrderedMap<V> {
         Ok(())
     }
 
-    /// The value at the name, which can be written, or `None` where the map lacks it. Once the borrow is over, the map
-    /// is as it was but for what was written.
+    /// Returns a mutable borrow of the value at a name, or `None` if the map lacks the name.
+    ///
+    /// When the borrow ends, the map is as it was, except for what was written to the value.
     pub fn get_mut(&mut self, name: &str) -> Option<&mut V>
         ensures* writes_back { sem 𝓛 (lends_name V.row self.entry name.now result) }
         ensures value { option_copied_mut result ≡ get name.now self.old }
@@ -293,7 +307,9 @@ impl<V> OrderedMap<V> {
         }
     }
 
-    /// The value at a place, counted from 0, which can be written, or `None` past the last. `get_index` has its name.
+    /// Returns a mutable borrow of the value at an index, which counts from 0, or `None` if there is no such entry.
+    ///
+    /// [`OrderedMap::get_index`] returns the name of the entry.
     pub fn get_index_mut(&mut self, index: usize) -> Option<&mut V>
         ensures* writes_back { sem 𝓛 (lends_index V.row self.entry index result) }
         ensures value { option_copied_mut result ≡ slice_get (values_of self.old) index }
@@ -317,8 +333,9 @@ impl<V> OrderedMap<V> {
         }
     }
 
-    /// Takes the name out, and gives back the value that was there, or `None` where the map lacks it. The entries
-    /// behind it move up and keep their order, which takes time in proportion to the map's length.
+    /// Removes the entry of a name and returns its value, or `None` if the map lacks the name.
+    ///
+    /// The entries behind it move up and keep their order. This takes time in proportion to the length of the map.
     pub fn shift_remove(&mut self, name: &str) -> Option<V>
         ensures old { result ≡ get name.now self.old }
         ensures entries { self.new ≡ remove_entry name.now self.old }

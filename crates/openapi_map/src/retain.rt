@@ -1,4 +1,4 @@
-//! Keeping the entries that pass a test.
+//! Removal of all entries except those that pass a test.
 ghost use Rattle.std.specs.Prelude.{◌≡◌, ◌<◌, ◌≤◌, IfSome, length};
 ghost use Rattle.std.specs.Map.Calls.{RetainsPairs, CalledAtPair};
 ghost use Rattle.std.specs.Vec.{vec_len, vec_capacity};
@@ -80,8 +80,9 @@ where
 }
 
 impl<V> OrderedMap<V> {
-    /// Keeps the entries for which `keep` answers true, in their order, and drops the others. It is called once at each
-    /// name in turn, and what it writes to the value of an entry that stays is kept.
+    /// Keeps the entries for which `keep` returns true, in their order, and drops the others.
+    ///
+    /// `keep` is called once for each entry, one after another. What it writes to a value that stays is kept.
     pub fn retain<F: FnMut(&str, &mut V) -> bool>(&mut self, keep: F)
     where
         V: Drop,

@@ -11,10 +11,14 @@ use openapi_map::OrderedMap;
 use std::alloc::{AllocError, Global};
 
 impl Node {
-    /// An equal node, with the members of each object in their order. Each value in it is looked at once, and on a
-    /// refusal at most once.
+    /// Copies the node, with the members of each object in their order.
     ///
-    /// The one cause is [`Cause::Memory`](crate::Cause), with the empty place: a growth was refused.
+    /// The access count rises by the number of values in the node, itself included. On an error it rises by at most
+    /// that.
+    ///
+    /// # Errors
+    ///
+    /// Returns a fault with [`Cause::Memory`](crate::Cause::Memory) and the empty location if an allocation fails.
     pub fn copy(&self, alloc: Global, steps: &mut Steps) -> Result<Node>
         ensures ok { IfOk result (λ n. n ≡ self.now) }
         ensures counted { OnOk result (steps.new ≡ steps.old + size_of self.now) }
@@ -29,10 +33,13 @@ impl Node {
     }
 }
 
-/// A node equal to the one that the view shows, which was looked at already. Each value inside is looked at once, and
-/// on a refusal at most once.
+/// Copies the node that a view shows, which was accessed already.
 ///
-/// The one cause is [`Cause::Memory`](crate::Cause), with the empty place: a growth was refused.
+/// The access count rises by the number of values inside the node. On an error it rises by at most that.
+///
+/// # Errors
+///
+/// Returns a fault with [`Cause::Memory`](crate::Cause::Memory) and the empty location if an allocation fails.
 pub fn copy_shown(alloc: Global, view: &View<'_>, steps: &mut Steps) -> Result<Node>
     ensures ok { IfOk result (λ n. n ≡ shown view.now) }
     ensures counted { OnOk result (steps.new + 1 ≡ steps.old + size_of (shown view.now)) }

@@ -1,4 +1,4 @@
-//! Refusals of readers and writers, each with its cause and the place of the value that it speaks of.
+//! The errors of readers and writers, each with its cause and the location of the value that it is about.
 ghost use Rattle.std.specs.Prelude.{◌≡◌, []};
 ghost use Rattle.openapi_node.specs.Fault.{IsMemory, GoesUp, number_of, step_of};
 ghost use Rattle.openapi_node.specs.Place.{named, indexed};
@@ -6,20 +6,20 @@ ghost use Rattle.openapi_node.specs.Place.{named, indexed};
 use std::alloc::{AllocError, Global};
 use std::fmt;
 
-/// A name as a reference token of a JSON Pointer (RFC 6901): in print `~` stands as `~0`, and `/` as `~1`.
+/// A name as a reference token of a JSON Pointer (RFC 6901). It prints `~` as `~0`, and `/` as `~1`.
 #[derive(Clone, Copy, Debug)]
 pub struct ReferenceToken<'a>(pub &'a str);
 
-/// A step of a place, from a value to one inside it. It prints as a reference token of a JSON Pointer.
+/// A step of a location, from a value to one inside it. It prints as a reference token of a JSON Pointer (RFC 6901).
 #[derive(Debug, Drop, PartialEq)]
 pub enum PlaceStep {
-    /// To the member of an object at that name.
+    /// To the member of an object with that name.
     Name(String),
-    /// To the value of an array at that index, from 0.
+    /// To the item of an array at that index, from 0.
     Index(usize),
 }
 
-/// A place as a JSON Pointer: for each step it prints a `/` and the step, so the empty place prints as nothing.
+/// A location as a JSON Pointer (RFC 6901). It prints a `/` and the step for each step, and so nothing for the root.
 #[derive(Clone, Copy, Debug)]
 pub struct Pointer<'a>(pub &'a [PlaceStep]);
 
@@ -48,39 +48,42 @@ pub enum Expected {
     TextOrWhole,
 }
 
-/// Why a value is refused. Each cause has a number, from 1 on in this order.
+/// What a [`Fault`] reports. Each cause has a number, from 1 on in this order.
 #[derive(Clone, Copy, Debug, PartialEq)]
 pub enum Cause {
-    /// The object at the place lacks a member of that name, which is required.
+    /// The object at the location lacks a member of that name, which is required.
     Missing(&'static str),
-    /// The object at the place has a member of neither name, and one of them is required.
+    /// The object at the location has a member of neither name, and one of them is required.
     MissingEither(&'static str, &'static str),
-    /// The value at the place is of another kind than the expected one.
+    /// The value at the location is of another kind than the expected one.
     WrongKind(Expected),
-    /// The value at the place is a whole number out of its range, or a text or number that is no status code.
+    /// The value at the location is a whole number out of its range, or a string or number that is no status code.
     NotAllowed,
-    /// The text at the place is none of those that may stand there.
+    /// The string at the location is none of the words that are allowed there.
     UnknownVariant,
-    /// The place ends with a name that would not be read again as what it is written for. It comes from writers.
+    /// The location ends with a name that would not be read again as what it is written for, such as an extension
+    /// without `x-`. It comes from writers.
     NameNotWritable,
-    /// The value at the place is a number that `serde_json` gives neither as an `i64` nor as a `u64`. It comes from
-    /// [`Node::from_value`](crate::Node::from_value).
+    /// The value at the location is a number that `serde_json` returns neither as an `i64` nor as a `u64`. It comes
+    /// from [`Node::from_value`](crate::Node::from_value).
     NotWhole,
-    /// A growth was refused. It speaks of no value, and its place is empty.
+    /// An allocation failed. The location is empty.
     Memory,
 }
 
-/// A refusal. It prints as its cause, then ` at #`, then its place as a JSON Pointer.
+/// An error of a reader or a writer: its cause and the location of the value that it is about.
+///
+/// It prints as its cause, then ` at #`, then its location as a JSON Pointer.
 #[derive(Debug, Drop, PartialEq)]
 pub struct Fault {
-    /// The way from the root that the call was given to the value of which the cause speaks.
+    /// The location of the value that the cause is about, from the root of the value that the call was passed.
     pub place: Vec<PlaceStep>,
-    /// Why that value is refused.
+    /// What is wrong.
     pub cause: Cause,
 }
 
 impl Cause {
-    /// The number of the cause, from 1 to 8.
+    /// Returns the number of the cause, from 1 to 8.
     pub fn number(&self) -> u8
         ensures { result ≡ number_of self.now }
     {
@@ -97,11 +100,11 @@ impl Cause {
     }
 }
 
-/// What a call gives that may be refused: a value, or the fault that says what is wrong.
+/// What a reader or a writer returns: a value, or a [`Fault`].
 pub type Result<T, E = Fault> = std::result::Result<T, E>;
 
 impl Fault {
-    /// A refusal of the root itself.
+    /// Creates a fault about the root, with the empty location.
     pub fn new(alloc: Global, cause: Cause) -> Fault
         ensures place { result.place.items ≡ [] }
         ensures cause { result.cause ≡ cause }
@@ -112,22 +115,23 @@ impl Fault {
         }
     }
 
-    /// The refusal for want of memory, which itself takes none.
+    /// Creates the fault of an allocation failure ([`Cause::Memory`]), with the empty location. This allocates nothing.
     pub fn memory(alloc: Global) -> Fault
         ensures { IsMemory result }
     {
         Fault::new(alloc, Cause::Memory)
     }
 
-    /// The place as a JSON Pointer.
+    /// Returns the location as a JSON Pointer.
     pub fn pointer(&self) -> Pointer<'_>
         ensures { result.0.now ≡ self.now.place.items }
     {
         Pointer(self.place.as_slice())
     }
 
-    /// The refusal as the object sees it that holds this one's root at a name: its place begins with the name. Want of
-    /// memory stays as it is, and a refused growth becomes it.
+    /// Moves the fault up to the object that holds its root at a name, so that its location begins with the name.
+    ///
+    /// The fault of an allocation failure stays as it is. If an allocation fails here, the result is [`Fault::memory`].
     pub fn at_name(self, alloc: Global, name: &str) -> Fault
         ensures { GoesUp (named name.now) self result }
     {
@@ -137,14 +141,16 @@ impl Fault {
         }
     }
 
-    /// The same for an array that holds this one's root at an index.
+    /// Moves the fault up to the array that holds its root at an index, so that its location begins with the index.
+    ///
+    /// The fault of an allocation failure stays as it is. If an allocation fails here, the result is [`Fault::memory`].
     pub fn at_index(self, alloc: Global, index: usize) -> Fault
         ensures { GoesUp (indexed index) self result }
     {
         self.below(alloc, PlaceStep::Index(index))
     }
 
-    /// The refusal with that step before its place.
+    /// Returns the fault with that step before its location.
     fn below(self, alloc: Global, step: PlaceStep) -> Fault
         ensures { GoesUp (step_of step) self result }
     {
@@ -160,7 +166,7 @@ impl Fault {
 }
 
 impl Expected {
-    /// The kind in words.
+    /// Returns the kind in words.
     fn word(&self) -> &'static str {
         match self {
             Expected::Text => "text",

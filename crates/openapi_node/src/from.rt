@@ -104,7 +104,7 @@ impl Node {
     ///
     /// # Errors
     ///
-    /// Returns [`AllocError`] if memory for the copy can't be allocated.
+    /// Returns [`AllocError`] if the allocation of the copy fails.
     pub fn try_from_str(alloc: Global, value: &str) -> Result<Node, AllocError>
         ensures { IfOk result (λ node. node ≡ text value.now) }
     {

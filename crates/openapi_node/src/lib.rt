@@ -2,9 +2,9 @@
 //! JSON values (RFC 8259) whose numbers are whole, which are read by counted accesses, and the errors of readers, each
 //! with its location.
 //!
-//! A [`Node`] keeps the order of an object's members. Readers see what it holds by [`Node::open`], and each access
-//! raises the number in a [`Steps`], which contracts alone see: so a bound on the accesses of a reader is proved.
-//! Programs, which have the runtime, may use [`Node::view`], which counts nothing.
+//! A [`Node`] keeps the order of an object's members. Readers see what it holds by [`Node::open`]. Each access raises
+//! the number in a [`Steps`], which only contracts see. So a bound on the accesses of a reader can be proved. Programs
+//! have the runtime, and may use [`Node::view`], which counts nothing.
 mod clone;
 mod copy;
 mod debug;

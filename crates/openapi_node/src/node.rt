@@ -1,4 +1,4 @@
-//! Nodes: JSON values that are opened by counted looks.
+//! Nodes: JSON values that are opened by counted accesses.
 ghost use Rattle.std.specs.Prelude.{◌≡◌, ◌+◌, ◌↔◌, true, IsTrue, string_bytes};
 ghost use Rattle.std.specs.Option.{option_copied, option_map};
 ghost use Rattle.openapi_node.specs.Tree.{null, flag, whole, text, list, object, items_of, members_of};
@@ -11,12 +11,14 @@ use crate::whole::Whole;
 use openapi_map::OrderedMap;
 use std::marker::Model;
 
-/// A JSON value (RFC 8259) whose numbers are whole: null, a flag, a whole number, a text, a list of nodes, or an
-/// object whose members stand in an order and have distinct names. Contracts see it as its tree; that no object in it
-/// has a name twice, at any depth, is its invariant.
+/// A JSON value (RFC 8259) whose numbers are whole.
 ///
-/// Two nodes are equal where they are the same JSON value, whatever the order of the members of their objects.
-/// `{:?}` prints a node as `serde_json` does its `Value`. Neither is counted, nor is letting a node go.
+/// It is `null`, a flag, a whole number, a string, an array of nodes, or an object. The members of an object have an
+/// order and distinct names. Contracts see a node as a value of the type `Tree`. Its invariant is that no object in it,
+/// at any depth, has a name twice.
+///
+/// Two nodes are equal if they are the same JSON value, whatever the order of the members of their objects. `{:?}`
+/// prints a node as `serde_json` prints its `Value`. Comparing, printing and dropping a node counts no accesses.
 #[cycle(node)]
 #[derive(Drop)]
 pub struct Node {
@@ -37,7 +39,7 @@ pub(crate) enum Shape {
 /// The members of an object: its values by their names, in their order.
 pub type Members = OrderedMap<Node>;
 
-/// What a look at a node shows: its kind, and what it holds, which is lent and not copied.
+/// What a node is and holds, borrowed from it.
 #[derive(Clone, Copy)]
 pub enum View<'a> {
     /// The literal `null`.
@@ -48,7 +50,7 @@ pub enum View<'a> {
     Whole(Whole),
     /// A string.
     Text(&'a str),
-    /// The values of an array, in their order.
+    /// The items of an array, in their order.
     List(&'a [Node]),
     /// The members of an object, in their order.
     Object(&'a OrderedMap<Node>),
@@ -79,14 +81,14 @@ impl Model for Node {
 }
 
 impl Node {
-    /// The literal `null`.
+    /// Creates the literal `null`.
     pub fn null() -> Node
         ensures { result ≡ null }
     {
         Node { shape: Shape::Null }
     }
 
-    /// The literal `true` or `false`.
+    /// Creates the literal `true` or `false`.
     pub fn flag(value: bool) -> Node
         ensures { result ≡ flag value }
     {
@@ -95,7 +97,7 @@ impl Node {
         }
     }
 
-    /// A number.
+    /// Creates a number.
     pub fn whole(value: Whole) -> Node
         ensures { result ≡ whole value }
     {
@@ -104,7 +106,7 @@ impl Node {
         }
     }
 
-    /// A string.
+    /// Creates a string.
     pub fn text(value: String) -> Node
         ensures { result ≡ text (string_bytes value) }
     {
@@ -113,7 +115,7 @@ impl Node {
         }
     }
 
-    /// An array of these values, in their order.
+    /// Creates an array of these values, in their order.
     pub fn list(items: Vec<Node>) -> Node
         ensures { result ≡ list (items_of items.items) }
     {
@@ -126,7 +128,7 @@ impl Node {
         }
     }
 
-    /// An object of these members, in their order.
+    /// Creates an object of these members, in their order.
     pub fn object(members: OrderedMap<Node>) -> Node
         ensures { result ≡ object (members_of members) }
     {
@@ -139,15 +141,16 @@ impl Node {
         }
     }
 
-    /// Tells a proof that no object in the value, at any depth, has two members of one name. The call does nothing, and
-    /// nothing else is learnt of the value.
+    /// States to a proof that no object in the value, at any depth, has two members of one name.
+    ///
+    /// It has no effect at run time.
     pub fn names_differ(&self)
         ensures { well_named self.now ≡ true }
     {
         let _ = &self.shape;
     }
 
-    /// A look inside. It raises the count by one, and copies nothing.
+    /// Returns what the node is and holds, borrowed, and counts one access.
     pub fn open(&self, steps: &mut Steps) -> View<'_>
         ensures shown { shown result ≡ self.now }
         ensures counted { steps.new ≡ steps.old + 1 }
@@ -165,8 +168,8 @@ impl Node {
 
     /// Returns what the node is and holds, borrowed, as [`Node::open`] does, but counts no access for the caller.
     ///
-    /// It is for programs and tests, which have the runtime. A reader is passed an allocator and no runtime. So it can't
-    /// call this function, and the bound on its accesses counts all of them.
+    /// It is for programs and tests, which have the runtime. A reader is passed an allocator and no runtime. So it
+    /// can't call this function, and the bound on its accesses counts all of them.
     pub fn view(&self, rt: &HostRuntime) -> View<'_>
         ensures { shown result ≡ self.now }
     {
@@ -175,14 +178,14 @@ impl Node {
 }
 
 impl<'a> View<'a> {
-    /// Whether the value is the literal `null`.
+    /// Returns whether the value is the literal `null`.
     pub fn is_null(&self) -> bool
         ensures { IsTrue result ↔ (shown self.now ≡ null) }
     {
         matches!(self, View::Null)
     }
 
-    /// The flag, where the value is `true` or `false`.
+    /// Returns the flag if the value is `true` or `false`.
     pub fn as_flag(&self) -> Option<bool>
         ensures { result ≡ flag_in (shown self.now) }
     {
@@ -192,7 +195,7 @@ impl<'a> View<'a> {
         }
     }
 
-    /// The number, where the value is one.
+    /// Returns the number if the value is one.
     pub fn as_whole(&self) -> Option<Whole>
         ensures { result ≡ whole_in (shown self.now) }
     {
@@ -202,7 +205,7 @@ impl<'a> View<'a> {
         }
     }
 
-    /// The text, where the value is a string.
+    /// Returns the text if the value is a string.
     pub fn as_text(&self) -> Option<&'a str>
         ensures { option_copied result ≡ text_in (shown self.now) }
     {
@@ -212,7 +215,7 @@ impl<'a> View<'a> {
         }
     }
 
-    /// The values of an array in their order, where the value is one.
+    /// Returns the items, in their order, if the value is an array.
     pub fn as_list(&self) -> Option<&'a [Node]>
         ensures { option_map (λ ts. items_of ts.now) result ≡ items_in (shown self.now) }
     {
@@ -222,7 +225,7 @@ impl<'a> View<'a> {
         }
     }
 
-    /// The members of an object in their order, where the value is one.
+    /// Returns the members, in their order, if the value is an object.
     pub fn as_object(&self) -> Option<&'a OrderedMap<Node>>
         ensures { option_map (λ ms. members_of ms.now) result ≡ members_in (shown self.now) }
     {

@@ -16,11 +16,13 @@ use serde_json::{Map, Number, Value};
 use std::alloc::Global;
 
 impl Node {
-    /// The node of a value, with the members of each object in the order in which the value lists them.
+    /// Creates the node of a value of `serde_json`, with the members of each object in the order of that value.
     ///
-    /// A refusal has one of two causes. [`Cause::NotWhole`]: the value at the place is a number that `serde_json`
-    /// gives neither as an `i64` nor as a `u64`, as `1.0`, `1e2` and `-0`. [`Cause::Memory`], with the empty place: a
-    /// growth was refused.
+    /// # Errors
+    ///
+    /// Returns a fault with [`Cause::NotWhole`] at the location of a number that `serde_json` returns neither as an
+    /// `i64` nor as a `u64`. Such numbers are `1.0`, `1e2` and `-0`. If an allocation fails, the fault has
+    /// [`Cause::Memory`] and the empty location.
     pub fn from_value(alloc: Global, value: &Value) -> Result<Node>
         ensures ok { IfOk result (IsTreeOf (view value.now)) }
         ensures err { IfErr result (λ f. IsMemory f ⊎ IsNotWhole (view value.now) f) }

@@ -1,4 +1,4 @@
-//! A counter that contracts alone see.
+//! A counter that only contracts see.
 ghost use Rattle.std.specs.Prelude.{◌≡◌, ◌+◌, ℕ};
 ghost use Rattle.std.specs.Coded.{coded_ℕ};
 
@@ -37,8 +37,10 @@ impl Count {
     }
 }
 
-/// How many looks were taken. It has no bytes and no last value, and contracts see it as a number, which a look raises
-/// by one and nothing else changes. It can't be copied, and none can be made without the runtime.
+/// The number of node accesses so far, which only contracts see.
+///
+/// It takes no bytes and has no greatest value. An access ([`Node::open`](crate::Node::open)) raises it by one, and
+/// nothing else changes it. It can't be copied, and none can be created without the runtime.
 #[derive(Drop)]
 pub struct Steps {
     count: Count,
@@ -53,7 +55,9 @@ impl Model for Steps {
 }
 
 impl Steps {
-    /// No look yet. The runtime isn't used: it shows that the caller is a program or a test, and no reader.
+    /// Creates a counter without accesses.
+    ///
+    /// The runtime isn't used. It shows that the caller is a program or a test, and no reader.
     pub fn new(_rt: &HostRuntime) -> Steps
         ensures { result ≡ 0 }
     {
@@ -62,7 +66,7 @@ impl Steps {
         }
     }
 
-    /// One look more.
+    /// Counts one access.
     pub(crate) fn tick(&mut self)
         ensures { self.new ≡ self.old + 1 }
     {

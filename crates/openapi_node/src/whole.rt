@@ -19,7 +19,8 @@ enum Kept {
     Natural(u64),
 }
 
-/// A whole number from -9223372036854775808 to 18446744073709551615: what fits an `i64` or a `u64`.
+/// A whole number from -9223372036854775808 to 18446744073709551615: one that fits an `i64` or a `u64`.
+///
 /// Contracts see it as the number. It is compared and hashed by the number.
 #[derive(Clone, Copy)]
 pub struct Whole {
@@ -46,7 +47,7 @@ impl Model for Whole {
 impl Whole {
     ghost use Rattle.openapi_node.specs.Whole.{IsWhole};
 
-    /// The number as a `Whole`, or `None` where it is out of the range.
+    /// Returns the number as a `Whole`, or `None` if it is out of the range.
     pub fn new(number: i128) -> Option<Whole>
         ensures valid { IsSome result ↔ IsWhole number }
         ensures value { IfSome result (λ w. w ≡ number) }
@@ -60,7 +61,7 @@ impl Whole {
         }
     }
 
-    /// The number.
+    /// Returns the number.
     pub fn value(&self) -> i128
         ensures value { result ≡ self.now }
         ensures valid { IsWhole result }
@@ -71,7 +72,7 @@ impl Whole {
         }
     }
 
-    /// The number as an `i64`, or `None` where it is above 9223372036854775807.
+    /// Returns the number as an `i64`, or `None` if it is above 9223372036854775807.
     pub fn as_i64(&self) -> Option<i64>
         ensures valid { IsSome result ↔ FitsSigned w64 self.now }
         ensures value { IfSome result (λ x. x ≡ self.now) }
@@ -82,7 +83,7 @@ impl Whole {
         }
     }
 
-    /// The number as a `u64`, or `None` where it is below 0.
+    /// Returns the number as a `u64`, or `None` if it is below 0.
     pub fn as_u64(&self) -> Option<u64>
         ensures valid { IsSome result ↔ (pos 0 ≤ℤ self.now) }
         ensures value { IfSome result (λ x. pos x ≡ self.now) }

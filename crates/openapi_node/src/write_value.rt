@@ -17,10 +17,14 @@ use serde_json::{Map, Value};
 use std::alloc::{AllocError, Global};
 
 impl Node {
-    /// The same value for `serde_json`, which keeps the members of an object in the order of their names. Each value
-    /// in the node is looked at once, and on a refusal at most once.
+    /// Creates the same value for `serde_json`, which keeps the members of an object in the order of their names.
     ///
-    /// The one cause is [`Cause::Memory`](crate::Cause), with the empty place: a growth was refused.
+    /// The access count rises by the number of values in the node, itself included. On an error it rises by at most
+    /// that.
+    ///
+    /// # Errors
+    ///
+    /// Returns a fault with [`Cause::Memory`](crate::Cause::Memory) and the empty location if an allocation fails.
     pub fn to_value(&self, alloc: Global, steps: &mut Steps) -> Result<Value>
         ensures ok { IfOk result (λ v. view v ≡ data_of self.now) }
         ensures counted { OnOk result (steps.new ≡ steps.old + size_of self.now) }

@@ -1,5 +1,6 @@
-//! What makes an entry, and what it does.
-//! A clause `writes_back` says what the map or the entry holds once the borrow that the method returns has ended.
+//! The methods that create and use an entry.
+//!
+//! A clause `writes_back` states what the map or the entry holds after the end of the borrow that the method returns.
 ghost use Rattle.std.specs.Prelude.{◌≡◌, None, Some, is_some, string_bytes, unwrap_or, IfOk};
 ghost use Rattle.std.specs.Borrow.{sem, MutBor};
 ghost use Rattle.std.specs.Map.Calls.{ModifiesValue};
@@ -14,7 +15,7 @@ use std::alloc::AllocError;
 use std::mem;
 
 impl<V> OrderedMap<V> {
-    /// The entry of a name, to read, insert or change its value.
+    /// Returns the entry of a name, to read, insert or change its value.
     pub fn entry(&mut self, name: String) -> Entry<'_, V>
         ensures same_map { (entry_map_ref result).ghost_name ≡ self.entry.ghost_name }
         ensures map { entry_map result ≡ self.old }
@@ -33,21 +34,21 @@ impl<V> OrderedMap<V> {
 }
 
 impl<'a, V> OccupiedEntry<'a, V> {
-    /// The name.
+    /// Returns the name.
     pub fn key(&self) -> &str
         ensures { result.now ≡ entry_name (Occupied self.now) }
     {
         self.name.as_str()
     }
 
-    /// The value at the name.
+    /// Returns the value at the name.
     pub fn get(&self) -> &V
         ensures { entry_value (Occupied self.now) ≡ Some result.now }
     {
         self.map.entry_at(self.place).1
     }
 
-    /// The value at the name, which can be written.
+    /// Returns a mutable borrow of the value at the name.
     pub fn get_mut(&mut self) -> &mut V
         ensures* writes_back { sem 𝓛 (occupied_lends V.row self.entry result) }
         ensures value { entry_value (Occupied self.old) ≡ Some result.now }
@@ -57,7 +58,7 @@ impl<'a, V> OccupiedEntry<'a, V> {
         self.map.value_at(place)
     }
 
-    /// The value at the name, which can be written for as long as the map is lent.
+    /// Returns a mutable borrow of the value at the name, which may live as long as the borrow of the map.
     pub fn into_mut(self) -> &'a mut V
         ensures* writes_back { sem 𝓛 (entry_lends V.row (Occupied self.entry) result) }
         ensures value { entry_value (Occupied self.entry) ≡ Some result.now }
@@ -66,7 +67,7 @@ impl<'a, V> OccupiedEntry<'a, V> {
         map.value_at(self.place)
     }
 
-    /// Puts a value at the name, and gives back the one that was there.
+    /// Replaces the value at the name, and returns the one that was there before.
     pub fn insert(&mut self, value: V) -> V
         ensures old { entry_value (Occupied self.old) ≡ Some result }
         ensures written { IsWritten (Occupied self.old) value (Occupied self.new) }
@@ -76,14 +77,18 @@ impl<'a, V> OccupiedEntry<'a, V> {
 }
 
 impl<'a, V> VacantEntry<'a, V> {
-    /// The name.
+    /// Returns the name.
     pub fn key(&self) -> &str
         ensures { result.now ≡ entry_name (Vacant self.now) }
     {
         self.name.as_str()
     }
 
-    /// Puts a value at the name, which goes last. An `Err` says that there was no memory, and leaves the map as it was.
+    /// Appends a value at the name, and returns a mutable borrow of it.
+    ///
+    /// # Errors
+    ///
+    /// Returns [`AllocError`] if an allocation fails. The map is then as it was.
     pub fn insert(self, value: V) -> Result<&'a mut V, AllocError>
     where
         V: Drop,
@@ -98,7 +103,7 @@ impl<'a, V> VacantEntry<'a, V> {
 }
 
 impl<'a, V> Entry<'a, V> {
-    /// The name.
+    /// Returns the name.
     pub fn key(&self) -> &str
         ensures { result.now ≡ entry_name self.now }
     {
@@ -108,8 +113,11 @@ impl<'a, V> Entry<'a, V> {
         }
     }
 
-    /// The value at the name, after `default` is put there where the map lacked the name. An `Err` says that there was
-    /// no memory, and leaves the map as it was.
+    /// Returns a mutable borrow of the value at the name, after inserting `default` if the map lacks the name.
+    ///
+    /// # Errors
+    ///
+    /// Returns [`AllocError`] if an allocation fails. The map is then as it was.
     pub fn or_insert(self, default: V) -> Result<&'a mut V, AllocError>
     where
         V: Drop,
@@ -122,7 +130,13 @@ impl<'a, V> Entry<'a, V> {
         }
     }
 
-    /// The same with what `default` returns, which is called where the map lacked the name.
+    /// Returns a mutable borrow of the value at the name, after inserting what `default` returns if it is missing.
+    ///
+    /// `default` is called only if the map lacks the name.
+    ///
+    /// # Errors
+    ///
+    /// Returns [`AllocError`] if an allocation fails. The map is then as it was.
     pub fn or_insert_with<F: FnOnce() -> V>(self, default: F) -> Result<&'a mut V, AllocError>
     where
         V: Drop,
@@ -136,7 +150,7 @@ impl<'a, V> Entry<'a, V> {
         }
     }
 
-    /// Lets `f` change the value at the name, where the map has it.
+    /// Calls `f` with a mutable borrow of the value at the name if the map has the name, and returns the entry.
     pub fn and_modify<F: FnOnce(&mut V)>(self, f: F) -> Entry<'a, V>
         requires { (p : MutBor V) → entry_value self ≡ Some p.now → F.pre f p }
         ensures same_map { (entry_map_ref result).ghost_name ≡ (entry_map_ref self.entry).ghost_name }

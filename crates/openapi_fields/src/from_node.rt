@@ -1,8 +1,8 @@
-//! Types that are read from trees.
+//! Types that are read from nodes.
 use openapi_node::{Node, Result, Steps, View};
 use std::alloc::Global;
 
-/// A type of which a value is read from a tree, as the kind of the tables that it stands for.
+/// A type whose values are read from nodes, as a kind of the field tables.
 pub trait FromNode: Sized {
     ghost use Rattle.std.specs.Prelude.{◌≡◌, ◌+◌, ◌*◌, ◌≤◌, true};
     ghost use Rattle.openapi_node.specs.Tree.{size_of};
@@ -19,13 +19,25 @@ pub trait FromNode: Sized {
     /// The form of a value: its public fields.
     ghost form_of: { Self → Form };
 
-    /// Reads a value of which a look was taken already.
+    /// Reads a value from the view of a node that was opened already.
+    ///
+    /// # Errors
+    ///
+    /// Returns a [`Fault`](openapi_node::Fault) at the location of a value that breaks a rule of the field tables. If
+    /// an allocation fails, the fault has [`Cause::Memory`](openapi_node::Cause::Memory) and the empty location.
     fn from_view(alloc: Global, view: &View<'_>, steps: &mut Steps) -> Result<Self>
         ensures reads { ReadAs form_of result kind (shown view.now) }
         ensures count { RisesBelow steps.old steps.new (looks kind + 3 * size_of (shown view.now)) };
 
-    /// Reads a value. A refusal names a rule that is broken, at its place, and comes only where the tree does not
-    /// conform; or memory ran out, with the empty place. At most three looks are taken for each value of the tree.
+    /// Reads a value from a node.
+    ///
+    /// The number of node accesses is at most three times the number of values in the node, itself included.
+    ///
+    /// # Errors
+    ///
+    /// Returns a [`Fault`](openapi_node::Fault) at the location of a value that breaks a rule of the field tables. Such
+    /// a fault comes only if the node does not conform to the kind of the type. If an allocation fails, the fault has
+    /// [`Cause::Memory`](openapi_node::Cause::Memory) and the empty location.
     fn from_node(alloc: Global, node: &Node, steps: &mut Steps) -> Result<Self>
         ensures reads { ReadAs form_of result kind node.now }
         ensures refuses { Refuses result kind node.now }

@@ -1,4 +1,4 @@
-//! References, and the items in their place.
+//! References, and the items that they replace.
 ghost use Rattle.std.proofs.Common.{refl};
 ghost use Rattle.std.proofs.lemmas.Bool.{and_from};
 ghost use Rattle.std.specs.Prelude.{◌≡◌, ◌+◌, ◌≤◌, ◌*◌, false, option_map, string_bytes, IfErr, IfOk};
@@ -20,7 +20,7 @@ use std::alloc::Global;
 /// The name under which a reference holds its text.
 const REF: &str = "$ref";
 
-/// An object in whose place a reference may stand.
+/// An object that a reference may replace.
 pub trait Referable: FromNode {
     ghost use Rattle.std.specs.Prelude.{◌≡◌, true};
     ghost use Rattle.openapi_tables.specs.Sound.{under_ref};
@@ -30,7 +30,7 @@ pub trait Referable: FromNode {
     ghost spares_ref: { under_ref final_tables Self.kind ≡ true };
 }
 
-/// The text of a reference, where one is shown: an object that holds a text under `$ref`, whatever else it holds.
+/// Returns the text of a reference, if the view shows one: an object with a text under `$ref`, whatever else it has.
 fn reference_text<'a>(view: &View<'a>, steps: &mut Steps) -> Option<&'a str>
     ensures text { option_map (λ s. s.now) result ≡ reference_in (shown view.now) }
     ensures count { RisesBy steps.old steps.new 1 }
@@ -47,7 +47,11 @@ fn reference_text<'a>(view: &View<'a>, steps: &mut Steps) -> Option<&'a str>
     }
 }
 
-/// Writes a reference: an object with the text under `$ref` and nothing else. Err only for want of memory.
+/// Writes a reference: an object with the text under `$ref` and nothing else.
+///
+/// # Errors
+///
+/// Returns [`Fault::memory`] if an allocation fails.
 pub fn write_reference(alloc: Global, reference: &str) -> Result<Node>
     ensures ok { IfOk result (λ node. node ≡ reference_tree reference.now) }
     ensures err { IfErr result IsMemory }
@@ -58,7 +62,11 @@ pub fn write_reference(alloc: Global, reference: &str) -> Result<Node>
     Ok(Node::object(out))
 }
 
-/// The text of a reference as a text of its own, where one is shown. Err only for want of memory.
+/// Returns a copy of the text of a reference, if the view shows a reference.
+///
+/// # Errors
+///
+/// Returns [`Fault::memory`] if an allocation fails.
 pub fn read_reference(alloc: Global, view: &View<'_>, steps: &mut Steps) -> Result<Option<String>>
     ensures reads { IfOk result (λ o. option_map string_bytes o ≡ reference_in (shown view.now)) }
     ensures err { IfErr result IsMemory }

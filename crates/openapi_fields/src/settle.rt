@@ -1,4 +1,4 @@
-//! Trees that are settled: read, written, read again and written again. Doing so once more changes nothing.
+//! Nodes in stable form: read, written, read again and written again. Doing so once more changes nothing.
 ghost use Rattle.std.specs.Prelude.{◌≡◌, ◌+◌, ◌*◌, ◌≤◌};
 ghost use Rattle.openapi_node.specs.Tree.{size_of};
 ghost use Rattle.openapi_fields.specs.Returned.{Refuses};
@@ -8,7 +8,7 @@ use crate::{FromNode, ToNode};
 use openapi_node::{Node, Result, Steps};
 use std::alloc::Global;
 
-/// Reads a tree, and writes what was read.
+/// Reads a value from a node, and writes it.
 fn cleaned<T: ToNode + Drop>(alloc: Global, node: &Node, steps: &mut Steps) -> Result<Node>
     ensures gives { CleanedAs result T.FromNode.kind node.now }
     ensures refuses { Refuses result T.FromNode.kind node.now }
@@ -21,7 +21,7 @@ fn cleaned<T: ToNode + Drop>(alloc: Global, node: &Node, steps: &mut Steps) -> R
     }
 }
 
-/// Reads a tree, writes what was read, and reads and writes that once more.
+/// Reads a value from a node, writes it, and reads and writes the result once more.
 fn cleaned_twice<T: ToNode + Drop>(alloc: Global, node: &Node, steps: &mut Steps) -> Result<Node>
     ensures gives { SettledAs result T.FromNode.kind node.now }
     ensures refuses { Refuses result T.FromNode.kind node.now }
@@ -34,12 +34,18 @@ fn cleaned_twice<T: ToNode + Drop>(alloc: Global, node: &Node, steps: &mut Steps
     }
 }
 
-/// A type whose trees can be settled: every type that is read and written.
+/// A type whose nodes can be brought into stable form: every type that is read and written.
 pub trait Settle: ToNode + Drop {
-    /// Reads a tree as a value of the type, writes it, and reads and writes that once more. What comes of it is the
-    /// settled form of the tree: settling it again changes nothing, and two trees settle to the same one exactly where
-    /// the same value is read of what each is first written as. Err names a rule that the tree breaks, at its place,
-    /// or says that memory ran out.
+    /// Brings a node into stable form: reads it as a value of the type, writes that, and does both again.
+    ///
+    /// Settling the stable form again changes nothing. Two nodes have the same stable form if and only if the same
+    /// value is read of what each is first written as.
+    ///
+    /// # Errors
+    ///
+    /// Returns a [`Fault`](openapi_node::Fault) at the location of a value that breaks a rule of the field tables. Such
+    /// a fault comes only if the node does not conform to the kind of the type. If an allocation fails, the fault has
+    /// [`Cause::Memory`](openapi_node::Cause::Memory) and the empty location.
     fn settle(alloc: Global, node: &Node, steps: &mut Steps) -> Result<Node>
         ensures gives { SettledAs result Self.FromNode.kind node.now }
         ensures refuses { Refuses result Self.FromNode.kind node.now }

@@ -17,15 +17,15 @@ use json::{Scratch, Value};
 use openapi_node::PlaceStep;
 use std::alloc::{AllocError, Global};
 
-/// Returns where the values at several locations of a JSON text begin: one entry for each location, in their order, which is what
-/// [`position_of`] returns for it.
+/// Returns where the values at several locations of a JSON text begin, in the order of the locations.
 ///
-/// The text is read once, whatever the number of locations. The cost of each location is that of a lookup: an index is found
-/// immediately, and a name by a search through the members of its object.
+/// The entry of each location is what [`position_of`] returns for it. The text is read once, whatever the number of
+/// locations. The cost of each location is that of a lookup. An index is found immediately, and a name by a search
+/// through the members of its object.
 ///
 /// # Errors
 ///
-/// Returns [`AllocError`] if memory runs out.
+/// Returns [`AllocError`] if an allocation fails.
 ///
 /// [`position_of`]: crate::position_of
 pub fn positions_of(

@@ -1,4 +1,4 @@
-//! Nodes from bytes: in one pass over the tokens, or by way of a value of `serde_json` where that pass gives none.
+//! Nodes from bytes: in one pass over the tokens, or through a value of `serde_json` if that pass returns none.
 ghost use Rattle.std.specs.Prelude.{◌≡◌, ◌⊎◌, IfOk, IfErr};
 ghost use Rattle.openapi_json.specs.Reading.{Explains, IsTreeOfText};
 
@@ -9,10 +9,15 @@ use openapi_node::{Cause, Node};
 use serde_json::Value;
 use std::alloc::Global;
 
-/// The node of bytes that are JSON text, with the members of each object in the order of their names and of one name
-/// the last, as `serde_json` has them.
+/// Reads JSON text as a node, with the members of each object in the order of their names.
 ///
-/// A refusal says that the bytes are no JSON, or where a number in them is not whole, or that memory ran out.
+/// If a name comes again in an object, its last value counts, as in `serde_json`.
+///
+/// # Errors
+///
+/// Returns [`JsonFault::NotJson`] if the bytes are not UTF-8, or no JSON as `serde_json` reads it. Returns
+/// [`JsonFault::NotWhole`] with the location of a number that a node can't hold, and [`JsonFault::Memory`] if an
+/// allocation fails.
 pub fn node_from_json(alloc: Global, bytes: &[u8]) -> Result<Node, JsonFault>
     ensures ok { IfOk result (IsTreeOfText bytes.now) }
     ensures err { IfErr result (Explains bytes.now) }
@@ -24,7 +29,7 @@ pub fn node_from_json(alloc: Global, bytes: &[u8]) -> Result<Node, JsonFault>
     }
 }
 
-/// The same by way of a value, which finds out why bytes can't be read.
+/// Reads JSON text through a value of `serde_json`, to find out why the pass over the tokens failed.
 fn node_by_value(alloc: Global, bytes: &[u8]) -> Result<Node, JsonFault>
     ensures ok { IfOk result (IsTreeOfText bytes.now) }
     ensures err { IfErr result (Explains bytes.now) }

@@ -9,7 +9,7 @@ use std::alloc::{AllocError, Global};
 ///
 /// # Errors
 ///
-/// Returns [`AllocError`] if memory runs out.
+/// Returns [`AllocError`] if an allocation fails.
 pub fn copied_place(alloc: Global, place: &[PlaceStep]) -> Result<Vec<PlaceStep>, AllocError>
     ensures { IfOk result (λ p. map step_of p.items ≡ map step_of place.now) }
 {

@@ -15,13 +15,16 @@ use openapi_map::OrderedMap;
 use openapi_node::{Node, Whole};
 use std::alloc::{AllocError, Global};
 
-/// Reads a JSON text as a node, with the members of each object in the order of the text. Of a name that comes again the last value
-/// counts, in the place of the first. The same bytes are read as by [`node_from_json`].
+/// Reads JSON text as a node, with the members of each object in the order of the text.
+///
+/// If a name comes again in an object, its last value counts, at the position of the first. The values are those that
+/// [`node_from_json`] reads.
 ///
 /// # Errors
 ///
-/// [`JsonFault::NotJson`] if the bytes are no UTF-8, or no JSON as `serde_json` reads it, [`JsonFault::NotWhole`] with the location of
-/// a number that a node can't hold, and [`JsonFault::Memory`] if memory runs out: the same as by [`node_from_json`].
+/// Returns [`JsonFault::NotJson`] if the bytes are not UTF-8, or no JSON as `serde_json` reads it. Returns
+/// [`JsonFault::NotWhole`] with the location of a number that a node can't hold, and [`JsonFault::Memory`] if an
+/// allocation fails.
 pub fn node_from_json_in_order(alloc: Global, bytes: &[u8]) -> Result<Node, JsonFault>
     ensures ok { IfOk result (IsTreeInOrder bytes.now) }
     ensures err { IfErr result (Explains bytes.now) }

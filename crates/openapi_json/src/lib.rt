@@ -1,5 +1,5 @@
 #![tactic(auto)]
-//! Nodes from JSON text, and JSON text from nodes, with no value of `serde_json` between the two.
+//! Nodes from JSON text (RFC 8259), JSON text from nodes, and the positions of values in a text.
 mod batch;
 mod by_value;
 mod copy;

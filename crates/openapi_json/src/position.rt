@@ -1,4 +1,4 @@
-//! Where the value at a place begins in a JSON text.
+//! The position of the value at a location of a JSON text.
 ghost use Rattle.std.specs.Prelude.{◌≡◌, ◌≤◌, ◌-◌, is_some, length, map, None, IfOk};
 ghost use Rattle.std.specs.Prelude.{IfSome, IsFalse, IsSomeAnd, IsTrue};
 ghost use Rattle.openapi_node.specs.Fault.{step_of};
@@ -13,10 +13,10 @@ use json::Scratch;
 use openapi_node::PlaceStep;
 use std::alloc::{AllocError, Global};
 
-/// A point of a text in UTF-8, as an editor tells it.
+/// A point of a text in UTF-8, with its line and column as editors count them.
 #[derive(Clone, Copy, Debug, Drop, PartialEq, Eq)]
 pub struct Point {
-    /// How many bytes stand before it.
+    /// The number of bytes before it.
     pub offset: usize,
     /// The number of its line, from 1. A line ends with a line feed.
     pub line: usize,
@@ -24,23 +24,24 @@ pub struct Point {
     pub column: usize,
 }
 
-/// Where a value stands in a JSON text.
+/// The position of a value in a JSON text.
 #[derive(Clone, Copy, Debug, Drop, PartialEq, Eq)]
 pub struct Position {
-    /// Where the value begins.
+    /// The point at which the value begins.
     pub value: Point,
-    /// Where the name of the member begins whose value it is, if it is one.
+    /// The point at which the name begins, if the value is that of a member.
     pub name: Option<Point>,
 }
 
-/// Returns where the value at a place of a JSON text begins, and where its name does if it is the value of a member.
+/// Returns where the value at a location of a JSON text begins, and where its name does if it is the value of a member.
 ///
-/// Where a name comes again in an object, its last value counts, so an equal value elsewhere is never taken for it. The result is
-/// `None` if the bytes are no JSON text in UTF-8, or if the text has no value at the place. Numbers need not be whole.
+/// If a name comes again in an object, its last value counts, so an equal value elsewhere is never taken for it. The
+/// result is `None` if the bytes are no JSON text in UTF-8, or if the text has no value at the location. Numbers need
+/// not be whole.
 ///
 /// # Errors
 ///
-/// Returns [`AllocError`] if memory runs out.
+/// Returns [`AllocError`] if an allocation fails.
 pub fn position_of(
     alloc: Global,
     bytes: &[u8],

@@ -30,8 +30,9 @@ pub(crate) enum Order {
 }
 
 /// Returns the compact JSON text of a node, with the members of each object in the order of their names.
-/// [`node_from_json`](crate::node_from_json) reads the node of it again, with its members in that order, where its arrays
-/// and objects nest no more than 127 deep.
+///
+/// If its arrays and objects nest at most 127 deep, [`node_from_json`](crate::node_from_json) reads the text as the
+/// same node, with its members in that order.
 ///
 /// # Errors
 ///
@@ -44,11 +45,14 @@ pub fn json_from_node(alloc: Global, node: &Node, steps: &mut Steps) -> Result<S
     text_of(alloc, node, Order::ByName, steps)
 }
 
-/// The compact JSON text of a node, with the members of each object in the order in which they stand.
-/// [`node_from_json_in_order`](crate::node_from_json_in_order) reads the node again of it, where its arrays and objects
-/// nest no more than 127 deep.
+/// Returns the compact JSON text of a node, with the members of each object in their order.
 ///
-/// Err says that memory ran out.
+/// If its arrays and objects nest at most 127 deep, [`node_from_json_in_order`](crate::node_from_json_in_order) reads
+/// the text as the same node.
+///
+/// # Errors
+///
+/// Returns [`AllocError`] if an allocation fails.
 pub fn json_from_node_in_order(
     alloc: Global,
     node: &Node,

@@ -1,4 +1,4 @@
-//! Nodes from JSON text with numbers that no node holds.
+//! Nodes from JSON text with numbers that a node can't hold.
 ghost use Rattle.std.specs.Prelude.{◌≡◌, ◌∷◌, ◌++◌, [], IfErr, IfOk, OnOk, map};
 ghost use Rattle.json.specs.Value.{items_view, members_view, value_view};
 ghost use Rattle.openapi_node.specs.Fault.{step_of};
@@ -25,7 +25,7 @@ pub struct ReplacedNumber {
     pub text: String,
 }
 
-/// The value of a JSON text, with 0 in place of each number that a [`Node`] can't hold.
+/// The value of a JSON text, with 0 instead of each number that a [`Node`] can't hold.
 #[derive(Drop)]
 pub struct WithZeros {
     /// The value.
@@ -34,17 +34,18 @@ pub struct WithZeros {
     pub numbers: Vec<ReplacedNumber>,
 }
 
-/// Reads a JSON text as [`node_from_json_in_order`] does, but with 0 in place of each number that a [`Node`] can't hold. These numbers
-/// are returned with their locations.
+/// Reads JSON text as [`node_from_json_in_order`] does, but with 0 instead of each number that a [`Node`] can't hold.
 ///
-/// Of a name that comes again in one object the last value counts, so a number in an earlier value is not returned.
+/// These numbers are returned with their locations. If a name comes again in an object, its last value counts, so a
+/// number in an earlier value is not returned.
 ///
-/// A text without such numbers costs as much as by [`node_from_json_in_order`], and another one about four times as much.
+/// A text without such numbers costs as much as with [`node_from_json_in_order`], and any other text about four times
+/// as much.
 ///
 /// # Errors
 ///
-/// [`JsonFault::NotJson`] if the bytes are no UTF-8, or no JSON as `serde_json` reads it, and [`JsonFault::Memory`] if memory runs out.
-/// [`JsonFault::NotWhole`] never comes.
+/// Returns [`JsonFault::NotJson`] if the bytes are not UTF-8, or no JSON as `serde_json` reads it, and
+/// [`JsonFault::Memory`] if an allocation fails. It never returns [`JsonFault::NotWhole`].
 pub fn node_with_zeros_in_order(alloc: Global, bytes: &[u8]) -> Result<WithZeros, JsonFault>
     ensures ok { IfOk result (λ w. IsTreeWithZeros bytes.now w.node (map replaced_of w.numbers.items)) }
     ensures err { IfErr result (ExplainsNoTree bytes.now) }

@@ -1,4 +1,4 @@
-//! Schemas of flags.
+//! Schemas of booleans.
 ghost use Rattle.std.specs.Prelude.{◌≡◌, []};
 ghost use Rattle.openapi_tables.specs.Kind.{boolean_type};
 ghost use Rattle.openapi_schema_types.specs.PartForms.{boolean_type_rows};
@@ -10,12 +10,12 @@ use std::alloc::Global;
 /// A schema of `type` `boolean` (OpenAPI 3.0.3, section 4.7.24).
 #[derive(Clone, Debug, PartialEq, Drop)]
 pub struct BooleanType {
-    /// `enum`: the booleans that are allowed, null among them. Empty where any is.
+    /// `enum`: the booleans that are allowed, which may include `null`. Empty if any is allowed.
     pub enumeration: Vec<Option<bool>>,
 }
 
 impl BooleanType {
-    /// Any flag.
+    /// Creates a schema of any boolean, with an empty `enumeration`.
     pub fn new(alloc: Global) -> BooleanType
         ensures { result.enumeration.items ≡ [] }
     {

@@ -8,7 +8,8 @@ use openapi_fields::{Object, Record, read_rows, write_rows};
 use openapi_node::{Members, Node, OrderedMap, Result, Steps};
 use std::alloc::Global;
 
-/// The Discriminator Object (OpenAPI 3.0.3, section 4.7.25): how a payload tells which of several schemas describes it.
+/// The Discriminator Object (OpenAPI 3.0.3, section 4.7.25): how a payload selects the one of several schemas that
+/// describes it.
 #[derive(Clone, Debug, PartialEq, Drop)]
 pub struct Discriminator {
     /// The name of the property in the payload that holds the discriminating value. Required.
@@ -20,7 +21,7 @@ pub struct Discriminator {
 }
 
 impl Discriminator {
-    /// Empty texts, lists and maps, and nothing else.
+    /// Creates an empty `Discriminator`; every field is empty.
     pub fn new(alloc: Global) -> Discriminator
         ensures property_name { string_bytes result.property_name ≡ [] }
         ensures mapping { result.mapping ≡ [] }

@@ -21,7 +21,7 @@ pub struct ExternalDocumentation {
 }
 
 impl ExternalDocumentation {
-    /// Empty texts, lists and maps, and nothing else.
+    /// Creates an empty `ExternalDocumentation`; every field is `None` or empty.
     pub fn new(alloc: Global) -> ExternalDocumentation
         ensures description { result.description ≡ None }
         ensures url { string_bytes result.url ≡ [] }

@@ -9,7 +9,7 @@ use openapi_node::{Members, Node, Result, Steps};
 use openapi_values::{IntegerFormat, VariantOrUnknownOrEmpty};
 use std::alloc::Global;
 
-/// A schema of `type` `integer` (OpenAPI 3.0.3, section 4.7.24). Its limits fit 64 bits with sign.
+/// A schema of `type` `integer` (OpenAPI 3.0.3, section 4.7.24). Its limits fit an `i64`.
 #[derive(Clone, Debug, PartialEq, Drop)]
 pub struct IntegerType {
     /// The format of the number: `int32`, `int64`, another text, or none.
@@ -24,12 +24,12 @@ pub struct IntegerType {
     pub minimum: Option<i64>,
     /// The greatest number that is allowed.
     pub maximum: Option<i64>,
-    /// `enum`: the numbers that are allowed, null among them. Empty where any is.
+    /// `enum`: the numbers that are allowed, which may include `null`. Empty if any is allowed.
     pub enumeration: Vec<Option<i64>>,
 }
 
 impl IntegerType {
-    /// Any whole number.
+    /// Creates a schema of any whole number; every flag is false, and every other field is `None` or empty.
     pub fn new(alloc: Global) -> IntegerType
         ensures format { result.format ≡ Empty }
         ensures multiple_of { result.multiple_of ≡ None }

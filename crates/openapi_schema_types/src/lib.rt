@@ -1,7 +1,9 @@
 #![tactic(auto)]
-//! The parts of the Schema Object of OpenAPI 3.0.3, section 4.7.24, that hold no schemas: what every kind of schema can
-//! say, with the objects that describe it (External Documentation, Discriminator and XML), the types of texts, numbers and
-//! flags, the names of all types, the entries of enumerations, and the sort of a schema by the names that are present.
+//! The parts of the Schema Object of OpenAPI 3.0.3, section 4.7.24, that hold no schemas.
+//!
+//! These are the annotations of every kind of schema, with their objects (External Documentation, Discriminator and
+//! XML), and the types of strings, numbers and booleans. There are also the names of all types, the entries of
+//! enumerations, and the sort of a schema by the names that are present.
 mod boolean_type;
 mod discriminator;
 mod enumeration;

@@ -9,7 +9,7 @@ use openapi_node::{Members, Node, Result, Steps, Whole};
 use openapi_values::{NumberFormat, VariantOrUnknownOrEmpty};
 use std::alloc::Global;
 
-/// A schema of `type` `number` (OpenAPI 3.0.3, section 4.7.24). Its limits are whole numbers here.
+/// A schema of `type` `number` (OpenAPI 3.0.3, section 4.7.24). In this library, its limits are whole numbers.
 #[derive(Clone, Debug, PartialEq, Drop)]
 pub struct NumberType {
     /// The format of the number: `float`, `double`, another text, or none.
@@ -24,12 +24,12 @@ pub struct NumberType {
     pub minimum: Option<Whole>,
     /// The greatest number that is allowed.
     pub maximum: Option<Whole>,
-    /// `enum`: the numbers that are allowed, null among them. Empty where any is.
+    /// `enum`: the numbers that are allowed, which may include `null`. Empty if any is allowed.
     pub enumeration: Vec<Option<Whole>>,
 }
 
 impl NumberType {
-    /// Any number.
+    /// Creates a schema of any number; every flag is false, and every other field is `None` or empty.
     pub fn new(alloc: Global) -> NumberType
         ensures format { result.format ≡ Empty }
         ensures multiple_of { result.multiple_of ≡ None }

@@ -1,4 +1,4 @@
-//! What every kind of schema can say.
+//! The annotations of schemas.
 ghost use Rattle.std.specs.Prelude.{◌≡◌, false, [], None};
 ghost use Rattle.openapi_tables.specs.Kind.{schema_data};
 ghost use Rattle.openapi_schema_types.specs.PartForms.{schema_data_rows};
@@ -10,15 +10,16 @@ use openapi_fields::{Object, Record, extensions, join, optional, or_implied, wri
 use openapi_node::{Members, Node, OrderedMap, Result, Steps};
 use std::alloc::Global;
 
-/// What every kind of Schema Object (OpenAPI 3.0.3, section 4.7.24) can say: its annotations. Each flag is false by
-/// default.
+/// The annotations of a Schema Object (OpenAPI 3.0.3, section 4.7.24), which schemas of every kind may have.
+///
+/// Each flag is false by default.
 #[derive(Clone, Debug, PartialEq, Drop)]
 pub struct SchemaData {
     /// Whether null is allowed too.
     pub nullable: bool,
-    /// `readOnly`: whether the property may be sent in a response alone, and not in a request.
+    /// `readOnly`: whether the property may be sent only in a response, and not in a request.
     pub read_only: bool,
-    /// `writeOnly`: whether the property may be sent in a request alone, and not in a response.
+    /// `writeOnly`: whether the property may be sent only in a request, and not in a response.
     pub write_only: bool,
     /// Whether the schema is deprecated, and should go out of use.
     pub deprecated: bool,
@@ -30,9 +31,9 @@ pub struct SchemaData {
     pub title: Option<String>,
     /// A description of the schema, in CommonMark.
     pub description: Option<String>,
-    /// Which property tells by which of several schemas a payload is described.
+    /// Which property of a payload selects the one of several schemas that describes it.
     pub discriminator: Option<Discriminator>,
-    /// The value that a receiver assumes where none is given.
+    /// The value that a receiver assumes if there is none.
     pub default: Option<Node>,
     /// How the schema's property is represented in XML.
     pub xml: Option<Xml>,
@@ -41,7 +42,7 @@ pub struct SchemaData {
 }
 
 impl SchemaData {
-    /// No flag is set, and nothing else is said.
+    /// Creates empty annotations; every flag is false, and every other field is `None` or empty.
     pub fn new(alloc: Global) -> SchemaData
         ensures nullable { result.nullable ≡ false }
         ensures read_only { result.read_only ≡ false }

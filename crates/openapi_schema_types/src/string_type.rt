@@ -1,4 +1,4 @@
-//! Schemas of texts.
+//! Schemas of strings.
 ghost use Rattle.std.specs.Prelude.{◌≡◌, [], None};
 ghost use Rattle.openapi_tables.specs.Kind.{string_type};
 ghost use Rattle.openapi_values.specs.declared.variant_or.VariantOrUnknownOrEmpty.TheVariants.{Empty};
@@ -16,7 +16,7 @@ pub struct StringType {
     pub format: VariantOrUnknownOrEmpty<StringFormat>,
     /// A regular expression (ECMA 262) that the string has to match.
     pub pattern: Option<String>,
-    /// `enum`: the strings that are allowed, null among them. Empty where any is.
+    /// `enum`: the strings that are allowed, which may include `null`. Empty if any is allowed.
     pub enumeration: Vec<Option<String>>,
     /// The least number of characters.
     pub min_length: Option<usize>,
@@ -25,7 +25,7 @@ pub struct StringType {
 }
 
 impl StringType {
-    /// Any text.
+    /// Creates a schema of any string; every field is `None` or empty.
     pub fn new(alloc: Global) -> StringType
         ensures format { result.format ≡ Empty }
         ensures pattern { result.pattern ≡ None }

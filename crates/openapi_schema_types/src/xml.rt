@@ -11,7 +11,7 @@ use std::alloc::Global;
 /// The XML Object (OpenAPI 3.0.3, section 4.7.26): how a property is represented in XML.
 #[derive(Clone, Debug, PartialEq, Drop)]
 pub struct Xml {
-    /// The name of the element or attribute that the property is written as, in place of the property's own name.
+    /// The name of the element or attribute that the property is written as, instead of the property's own name.
     pub name: Option<String>,
     /// The URI of the namespace, in absolute form.
     pub namespace: Option<String>,
@@ -19,15 +19,15 @@ pub struct Xml {
     pub prefix: Option<String>,
     /// Whether the property is written as an attribute and not as an element. False by default.
     pub attribute: bool,
-    /// Whether the elements of an array stand inside a wrapping element. False by default; it means something at arrays
-    /// alone.
+    /// Whether the elements of an array are inside a wrapping element. False by default; it has an effect only for
+    /// arrays.
     pub wrapped: bool,
     /// Extensions: the members whose names begin with `x-`, in their order.
     pub extensions: OrderedMap<Node>,
 }
 
 impl Xml {
-    /// Empty texts, lists and maps, and nothing else.
+    /// Creates an empty `Xml`; every flag is false, and every other field is `None` or empty.
     pub fn new(alloc: Global) -> Xml
         ensures name { result.name ≡ None }
         ensures namespace { result.namespace ≡ None }

@@ -1,5 +1,5 @@
 #![tactic(auto)]
-//! The values of OpenAPI 3.0 documents that have no table of rows: status codes, the sets of words (formats, styles and
+//! The values of OpenAPI 3.0 documents that have no field table: status codes, the sets of words (formats, styles and
 //! locations), texts that may be a known word, and references.
 mod parameter;
 mod reference;

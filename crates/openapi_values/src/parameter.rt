@@ -50,7 +50,7 @@ impl Word for PathStyle {
     }
 }
 
-/// Reads `matrix`, `label` or `simple`. Err for any other text.
+/// Reads `matrix`, `label` or `simple`. Any other text is an error.
 impl FromStr for PathStyle {
     type Err = ();
 
@@ -113,7 +113,7 @@ impl Word for QueryStyle {
     }
 }
 
-/// Reads `form`, `spaceDelimited`, `pipeDelimited` or `deepObject`. Err for any other text.
+/// Reads `form`, `spaceDelimited`, `pipeDelimited` or `deepObject`. Any other text is an error.
 impl FromStr for QueryStyle {
     type Err = ();
 
@@ -161,7 +161,7 @@ impl Word for CookieStyle {
     }
 }
 
-/// Reads `form`. Err for any other text.
+/// Reads `form`. Any other text is an error.
 impl FromStr for CookieStyle {
     type Err = ();
 
@@ -209,7 +209,7 @@ impl Word for HeaderStyle {
     }
 }
 
-/// Reads `simple`. Err for any other text.
+/// Reads `simple`. Any other text is an error.
 impl FromStr for HeaderStyle {
     type Err = ();
 

@@ -1,4 +1,4 @@
-//! The Reference Object, in the place of what it refers to.
+//! The Reference Object, which replaces what it refers to.
 ghost use Rattle.std.specs.Prelude.{◌≡◌, IfOk, Some};
 ghost use Rattle.std.specs.Option.{option_copied};
 ghost use Rattle.openapi_values.specs.Reference.{item_of, reference_of, unboxed};
@@ -15,7 +15,11 @@ pub enum ReferenceOr<T> {
 }
 
 impl<T> ReferenceOr<T> {
-    /// A reference with a copy of the text. Err only where there is no memory for it.
+    /// Creates a reference with a copy of the text.
+    ///
+    /// # Errors
+    ///
+    /// Returns [`AllocError`] if the allocation of the copy fails.
     pub fn ref_(alloc: Global, reference: &str) -> Result<ReferenceOr<T>, AllocError>
         ensures { IfOk result (λ made. reference_of made ≡ Some reference.now) }
     {
@@ -24,7 +28,11 @@ impl<T> ReferenceOr<T> {
         })
     }
 
-    /// The item, in a box. Err only where there is no memory for the box: the item is then dropped.
+    /// Creates an item in a box.
+    ///
+    /// # Errors
+    ///
+    /// Returns [`AllocError`] if the allocation of the box fails. The item is then dropped.
     pub fn boxed_item(alloc: Global, item: T) -> Result<ReferenceOr<Box<T>>, AllocError>
     where
         T: Drop,
@@ -33,7 +41,7 @@ impl<T> ReferenceOr<T> {
         Ok(ReferenceOr::Item(Box::new(alloc, item)?))
     }
 
-    /// The item. None for a reference, whose text is dropped.
+    /// Returns the item, or `None` for a reference, whose text is dropped.
     pub fn into_item(self) -> Option<T>
         ensures { result ≡ item_of self }
     {
@@ -43,7 +51,7 @@ impl<T> ReferenceOr<T> {
         }
     }
 
-    /// The item. None for a reference.
+    /// Returns a borrow of the item, or `None` for a reference.
     pub fn as_item(&self) -> Option<&T>
         ensures { option_copied result ≡ item_of self.now }
     {
@@ -55,7 +63,7 @@ impl<T> ReferenceOr<T> {
 }
 
 impl<T> ReferenceOr<Box<T>> {
-    /// The same, with the item out of its box.
+    /// Moves the item out of its box. A reference stays as it is.
     pub fn unbox(self) -> ReferenceOr<T>
         ensures { result ≡ unboxed self }
     {

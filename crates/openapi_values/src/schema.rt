@@ -38,7 +38,7 @@ impl Word for NumberFormat {
     }
 }
 
-/// Reads `float` or `double`. Err for any other text.
+/// Reads `float` or `double`. Any other text is an error.
 impl FromStr for NumberFormat {
     type Err = ();
 
@@ -89,7 +89,7 @@ impl Word for IntegerFormat {
     }
 }
 
-/// Reads `int32` or `int64`. Err for any other text.
+/// Reads `int32` or `int64`. Any other text is an error.
 impl FromStr for IntegerFormat {
     type Err = ();
 
@@ -110,14 +110,14 @@ impl fmt::Display for IntegerFormat {
     }
 }
 
-/// The format of a text.
+/// The format of a string.
 #[derive(Clone, Copy, Debug, PartialEq, Eq, Hash)]
 pub enum StringFormat {
     /// `date`: a full date of RFC 3339.
     Date,
     /// `date-time`: a date with a time of RFC 3339.
     DateTime,
-    /// `password`: a text that is not to be shown.
+    /// `password`: a text that user interfaces should obscure.
     Password,
     /// `byte`: bytes in base64.
     Byte,
@@ -156,7 +156,7 @@ impl Word for StringFormat {
     }
 }
 
-/// Reads `date`, `date-time`, `password`, `byte` or `binary`. Err for any other text.
+/// Reads `date`, `date-time`, `password`, `byte` or `binary`. Any other text is an error.
 impl FromStr for StringFormat {
     type Err = ();
 

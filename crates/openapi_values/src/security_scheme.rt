@@ -1,11 +1,11 @@
-//! Where the Security Scheme Object of an API key says that the key stands.
+//! The location of an API key, by the Security Scheme Object.
 ghost use Rattle.std.specs.Prelude.{refl};
 ghost use Rattle.openapi_values.specs.Words.{IsWordRead, api_key_locations, api_key_location_word};
 
 use crate::Word;
 use std::str::FromStr;
 
-/// The part of a request that holds the key.
+/// The part of a request that holds an API key.
 #[derive(Clone, Copy, Debug, PartialEq, Eq, Hash)]
 pub enum APIKeyLocation {
     /// `query`: a parameter of the query.
@@ -42,7 +42,7 @@ impl Word for APIKeyLocation {
     }
 }
 
-/// Reads `query`, `header` or `cookie`. Err for any other text.
+/// Reads `query`, `header` or `cookie`. Any other text is an error.
 impl FromStr for APIKeyLocation {
     type Err = ();
 

@@ -23,7 +23,7 @@ pub enum StatusCode {
 }
 
 impl StatusCode {
-    /// Whether the code's printed text is read as the same code again.
+    /// Returns whether the printed text of the code is read as the same code again.
     pub fn is_writable(&self) -> bool
         ensures { result ≡ writable_code (code_in self.now) }
     {
@@ -34,7 +34,7 @@ impl StatusCode {
     }
 }
 
-/// Reads three digits as a code of 100 to 999, and a digit with two `x` or `X` as a range. Err for any other text.
+/// Reads three digits as a code of 100 to 999, and a digit with two `x` or `X` as a range. Any other text is an error.
 impl FromStr for StatusCode {
     type Err = ();
 
@@ -53,7 +53,7 @@ impl FromStr for StatusCode {
     }
 }
 
-/// A whole number of 100 to 999 is the code of that number. Err for any other number.
+/// Converts a whole number of 100 to 999 to the code of that number. Any other number is an error.
 impl TryFrom<Whole> for StatusCode {
     type Error = ();
 
@@ -67,7 +67,7 @@ impl TryFrom<Whole> for StatusCode {
     }
 }
 
-/// Every code of one number comes before every range, and then the smaller number first.
+/// Orders every code of one number before every range, and then the smaller number first.
 impl Ord for StatusCode {
     ghost cmp = { then_cmp (on rank_of nat_cmp) (on number_of nat_cmp) };
 
@@ -97,7 +97,7 @@ impl PartialOrd for StatusCode {
     }
 }
 
-/// Prints the number in decimal, with `XX` behind that of a range.
+/// Prints the number in decimal, with `XX` after that of a range.
 impl fmt::Display for StatusCode {
     ghost output = { λ status. Some (text_of (code_in status)) };
 

@@ -1,7 +1,7 @@
 //! Helpers on single values.
 ghost use Rattle.std.specs.Prelude.{◌≡◌, not};
 
-/// Whether a flag is not set.
+/// Returns whether a flag is false.
 pub const fn is_false(v: &bool) -> bool
     ensures { result ≡ not v.now }
 {

@@ -1,4 +1,4 @@
-//! Texts that may be a known word: formats, of which a document may give any.
+//! Texts that may be a known word: formats, of which a document may have any.
 ghost use Rattle.std.specs.Prelude.{◌≡◌, IfOk, option_map, string_bytes};
 ghost use Rattle.openapi_values.specs.VariantOr.{IsVariantOf, IsVariantOrEmptyOf, or_empty, is_empty};
 ghost use Rattle.openapi_values.specs.VariantOr.{variant_text, variant_or_empty_text};
@@ -18,7 +18,11 @@ pub enum VariantOrUnknown<T> {
 }
 
 impl<T: Word> VariantOrUnknown<T> {
-    /// The item of a known word, or a copy of any other text. Err only where there is no memory for the copy.
+    /// Returns the item of a known word, or a copy of any other text.
+    ///
+    /// # Errors
+    ///
+    /// Returns [`AllocError`] if the allocation of the copy fails.
     pub fn from_text(alloc: Global, text: &str) -> Result<VariantOrUnknown<T>, AllocError>
         ensures { IfOk result (λ value. variant_form T.word_of value ≡ format_form T.words text.now) }
     {
@@ -28,7 +32,7 @@ impl<T: Word> VariantOrUnknown<T> {
         }
     }
 
-    /// The text: the word of a known one.
+    /// Returns the text: the word of an item, or the text that is no known word.
     pub fn as_str(&self) -> &str
         ensures { result.now ≡ variant_text T.word_of self.now }
     {
@@ -39,7 +43,7 @@ impl<T: Word> VariantOrUnknown<T> {
     }
 }
 
-/// Reads the text as an item, and keeps it where that is refused.
+/// Reads the text as an item, and keeps the text if that fails.
 impl<T: FromStr> From<String> for VariantOrUnknown<T>
 where
     T::Err: Drop,
@@ -66,7 +70,7 @@ pub enum VariantOrUnknownOrEmpty<T> {
 }
 
 impl<T> VariantOrUnknownOrEmpty<T> {
-    /// Whether there is no text.
+    /// Returns whether there is no text.
     pub fn is_empty(&self) -> bool
         ensures { result ≡ is_empty self.now }
     {
@@ -78,14 +82,18 @@ impl<T> VariantOrUnknownOrEmpty<T> {
 }
 
 impl<T: Word> VariantOrUnknownOrEmpty<T> {
-    /// The item of a known word, or a copy of any other text. Err only where there is no memory for the copy.
+    /// Returns the item of a known word, or a copy of any other text.
+    ///
+    /// # Errors
+    ///
+    /// Returns [`AllocError`] if the allocation of the copy fails.
     pub fn from_text(alloc: Global, text: &str) -> Result<VariantOrUnknownOrEmpty<T>, AllocError>
         ensures { IfOk result (λ value. variant_or_empty_form T.word_of value ≡ format_form T.words text.now) }
     {
         Ok(VariantOrUnknown::from_text(alloc, text)?.into())
     }
 
-    /// The text, where there is one: the word of a known one.
+    /// Returns the text, if there is one: the word of an item, or the text that is no known word.
     pub fn as_str(&self) -> Option<&str>
         ensures { option_map (λ text. text.now) result ≡ variant_or_empty_text T.word_of self.now }
     {
@@ -97,7 +105,7 @@ impl<T: Word> VariantOrUnknownOrEmpty<T> {
     }
 }
 
-/// Empty.
+/// Returns [`VariantOrUnknownOrEmpty::Empty`].
 impl<T> Default for VariantOrUnknownOrEmpty<T> {
     ghost use Rattle.openapi_values.specs.declared.variant_or.VariantOrUnknownOrEmpty.TheVariants.{Empty};
 
@@ -108,7 +116,7 @@ impl<T> Default for VariantOrUnknownOrEmpty<T> {
     }
 }
 
-/// The same item or text.
+/// Converts to the same item or text.
 impl<T> From<VariantOrUnknown<T>> for VariantOrUnknownOrEmpty<T> {
     ghost from_gives = { λ value result. result ≡ or_empty value };
 
@@ -120,7 +128,7 @@ impl<T> From<VariantOrUnknown<T>> for VariantOrUnknownOrEmpty<T> {
     }
 }
 
-/// Reads a text as an item, and keeps it where that is refused. No text is empty.
+/// Reads a text as an item, and keeps the text if that fails. Without a text, the result is empty.
 impl<T: FromStr> From<Option<String>> for VariantOrUnknownOrEmpty<T>
 where
     T::Err: Drop,

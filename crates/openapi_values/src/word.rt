@@ -2,7 +2,7 @@
 ghost use Rattle.std.specs.Prelude.{◌≡◌, ℕ, List, true, map, IfSome, is_some};
 ghost use Rattle.openapi_tables.specs.Lists.{has};
 
-/// A value that a document gives as one word of a fixed set.
+/// A value that is one word of a fixed set in a document.
 pub trait Word: Copy + 'static {
     // The words of the set.
     ghost words: { List (List ℕ) };
@@ -10,15 +10,15 @@ pub trait Word: Copy + 'static {
     // The word of each value.
     ghost word_of: { Self → List ℕ };
 
-    /// The values of the set, each once.
+    /// Returns the values of the set, in the order of its words.
     fn all() -> &'static [Self]
         ensures { map word_of result.now ≡ words };
 
-    /// The word of the value.
+    /// Returns the word of the value.
     fn as_str(&self) -> &'static str
         ensures { result.now ≡ word_of self.now };
 
-    /// The value whose word the text is. None where the set has no such word.
+    /// Returns the value whose word is the text, or `None` if the set has no such word.
     fn from_word(text: &str) -> Option<Self>
         ensures found { is_some result ≡ has words text.now }
         ensures value { IfSome result (λ value. word_of value ≡ text.now) }

@@ -41,14 +41,14 @@ pub struct Dropped {
     pub why: DropReason,
 }
 
-/// Returns every member that reading a value under a kind drops.
+/// Returns every member that reading drops from a value of a kind.
 ///
-/// The objects are in the order of the tables, and the members of one object in its own order. An object whose tag is
-/// missing or unknown is read by no table, so of it nothing is returned.
+/// The objects are in the order of the field tables, and the members of one object in its own order. An object whose
+/// tag is missing or unknown has no field table, so none of its members is returned.
 ///
 /// # Errors
 ///
-/// `AllocError` when memory runs out.
+/// Returns [`AllocError`] if an allocation fails.
 pub fn dropped_members(
     alloc: Global,
     kind: Kind,

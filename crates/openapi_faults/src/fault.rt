@@ -20,14 +20,14 @@ use crate::walk::Visitor;
 use openapi_node::{Cause, Fault, Members, Node, Steps, View};
 use std::alloc::{AllocError, Global};
 
-/// Returns every fault of a value under a kind, each with its location, or an empty list if the value conforms.
+/// Returns every fault of a value of a kind, each with its location, or an empty list if the value conforms.
 ///
-/// The faults are in the order of the tables, which is not that of the text. The location of a member that is missing is
-/// that of the object.
+/// The faults are in the order of the field tables, which is not that of the text. The fault of a missing member has
+/// the location of the object.
 ///
 /// # Errors
 ///
-/// `AllocError` when memory runs out.
+/// Returns [`AllocError`] if an allocation fails.
 pub fn faults(
     alloc: Global,
     kind: Kind,

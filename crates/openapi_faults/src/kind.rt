@@ -1,11 +1,11 @@
-//! What a value of a document may be.
+//! The kinds of values in a document.
 ghost use Rattle.std.specs.Prelude.{◌≡◌};
 ghost use Rattle.openapi_faults.specs.Meaning.{inside_of, kind_of};
 
 use crate::table::TableName;
 use crate::tag::Tag;
 
-/// The whole numbers that a number may be.
+/// The whole numbers that are allowed for a number.
 #[derive(Clone, Copy, Debug, PartialEq)]
 pub enum Limits {
     /// All whole numbers.
@@ -16,7 +16,7 @@ pub enum Limits {
     Signed,
 }
 
-/// What a value may be.
+/// The kind of a value: what the value may be.
 #[derive(Clone, Copy, Debug, PartialEq)]
 pub enum Kind {
     /// A string.
@@ -73,17 +73,17 @@ pub enum Kind {
     SecurityRequirement,
     /// A list of Security Requirement Objects.
     SecurityRequirements,
-    /// An object by a table.
+    /// An object with the fields of a table.
     Object(TableName),
-    /// A list of objects by a table.
+    /// A list of objects with the fields of a table.
     Objects(TableName),
-    /// A map of objects by a table.
+    /// A map of objects with the fields of a table.
     ObjectMap(TableName),
-    /// An object by a table, or a reference to one.
+    /// An object with the fields of a table, or a reference to one.
     ObjectOrRef(TableName),
-    /// A map of objects by a table and of references to them.
+    /// A map of objects with the fields of a table, and of references to them.
     ObjectOrRefMap(TableName),
-    /// A Parameter Object, whose table its `in` names.
+    /// A Parameter Object, whose `in` selects its field table.
     Parameter,
     /// A Parameter Object or a reference to one.
     ParameterOrRef,
@@ -91,7 +91,7 @@ pub enum Kind {
     ParametersOrRefs,
     /// A map of Parameter Objects and of references to them.
     ParameterOrRefMap,
-    /// A Security Scheme Object, whose table its `type` names.
+    /// A Security Scheme Object, whose `type` selects its field table.
     SecurityScheme,
     /// A Security Scheme Object or a reference to one.
     SecuritySchemeOrRef,
@@ -107,9 +107,9 @@ pub enum Kind {
     SchemaOrRefMap,
     /// `true`, `false`, a Schema Object or a reference to one.
     FlagOrSchema,
-    /// A Schema Object without what all schemas may have.
+    /// A Schema Object without the fields that every schema may have.
     SchemaKind,
-    /// A type of schema, whose table its `type` names.
+    /// A type of schema, whose `type` selects its field table.
     SchemaType,
     /// A status code, or a range of them.
     StatusCode,

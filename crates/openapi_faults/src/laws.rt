@@ -1,7 +1,7 @@
-//! Laws of the answers: each function does nothing, and its contract is the law.
+//! Laws of the results: each function has no effect at run time, and its contract is the law.
 ghost use Rattle.openapi_faults.specs.Laws.{AllTold, DroppedIgnored, NothingWrong, RefusalTold, TagsOfTables, ToldOnce};
 
-/// States that a value has no fault exactly where it conforms to its kind.
+/// States that a value has no fault if and only if it conforms to its kind.
 pub fn nothing_wrong()
     ensures { NothingWrong }
 {}
@@ -16,18 +16,19 @@ pub fn told_once()
     ensures { ToldOnce }
 {}
 
-/// States that the one fault that reading reports is among all faults, unless memory ran out.
+/// States that the fault that reading returns is among all faults, unless an allocation failed.
 pub fn refusal_told()
     ensures { RefusalTold }
 {}
 
-/// States that a table knows the name of the tag by whose text it is found: `in` for the parameters of a location, `type`
-/// for the types of security schemes and of schemas.
+/// States the name of the tag that selects a field table.
+///
+/// It is `in` for the parameters of a location, and `type` for the types of security schemes and of schemas.
 pub fn tags_of_tables()
     ensures { TagsOfTables }
 {}
 
-/// States that a value is read alike without the members that are dropped, and that nothing more is dropped then.
+/// States that the same is read of a value without its dropped members, and that nothing more is dropped then.
 pub fn dropped_ignored()
     ensures { DroppedIgnored }
 {}

@@ -1,11 +1,12 @@
-//! All that is to be said of a JSON value before it is read: every fault, every member that reading drops, every reference.
+//! Reports on a JSON value before it is read: every fault, every member that reading drops, and every reference.
 //!
-//! Reading stops at the first fault ([`openapi_node::Fault`]). [`faults`] returns all of them: exactly the rules of OpenAPI
-//! 3.0.3 that a value of a [`Kind`] breaks, each with its location. [`dropped_members`] returns the members that reading ignores,
-//! and why. [`references`] returns the Reference Objects, and [`limited_numbers`] where lengths, counts and limits of integers are
-//! asked. Each function accesses at most three values for each one that the value holds.
+//! Reading stops at the first fault ([`openapi_node::Fault`]). [`faults`] returns all of them: exactly the rules of the
+//! field tables that a value of a [`Kind`] breaks, each with its location. [`dropped_members`] returns the members that
+//! reading drops, and why. [`references`] returns the Reference Objects. [`limited_numbers`] returns where lengths,
+//! counts and limits of integers are expected. Each function makes at most three times as many node accesses as the
+//! JSON value has values.
 //!
-//! The field tables themselves are data: [`TableName::rows`] returns the fields of each object.
+//! The field tables of OpenAPI 3.0.3 are data: [`TableName::rows`] returns the fields of each object.
 #![tactic(auto)]
 
 mod cause;

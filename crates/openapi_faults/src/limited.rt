@@ -1,4 +1,4 @@
-//! Every location at which a whole number within limits is asked.
+//! Every location at which a whole number within limits is expected.
 ghost use Rattle.std.specs.Prelude.{◌≡◌, ◌+◌, ◌*◌, ◌≤◌, IfOk, is_some, map};
 ghost use Rattle.openapi_node.specs.Tree.{size_of};
 ghost use Rattle.openapi_faults.specs.Adds.{Adds};
@@ -13,7 +13,7 @@ use crate::walk::Visitor;
 use openapi_node::{Node, PlaceStep, Steps, View};
 use std::alloc::{AllocError, Global};
 
-/// A location at which a whole number within limits is asked: a length, a count or a limit of an integer.
+/// A location at which a whole number within limits is expected: a length, a count or a limit of an integer.
 #[derive(Debug, Drop, PartialEq)]
 pub struct LimitedNumber {
     /// The location.
@@ -22,13 +22,13 @@ pub struct LimitedNumber {
     pub limits: Limits,
 }
 
-/// Returns every location of a value under a kind at which a whole number within limits is asked, whatever value is there.
+/// Returns every location in a value of a kind at which a whole number within limits is expected, whatever is there.
 ///
-/// The locations are in the order of the tables, which is not that of the text.
+/// The locations are in the order of the field tables, which is not that of the text.
 ///
 /// # Errors
 ///
-/// `AllocError` when memory runs out.
+/// Returns [`AllocError`] if an allocation fails.
 pub fn limited_numbers(
     alloc: Global,
     kind: Kind,

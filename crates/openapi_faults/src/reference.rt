@@ -17,19 +17,20 @@ use std::alloc::{AllocError, Global};
 pub struct Reference {
     /// The location of the object.
     pub place: Vec<PlaceStep>,
-    /// The text under `$ref`: a URI reference (RFC 3986).
+    /// The string under `$ref`. It should be a URI reference (RFC 3986), which is not checked.
     pub text: String,
     /// The kind of the value that the reference replaces.
     pub target: Kind,
 }
 
-/// Returns every reference of a value under a kind: each object with a text under `$ref`, where one is allowed.
+/// Returns every reference in a value of a kind: each object with a string under `$ref` where a reference is allowed.
 ///
-/// The references are in the order of the tables, which is not that of the text. What is beside `$ref` is not visited.
+/// The references are in the order of the field tables, which is not that of the text. The other members of such an
+/// object are not visited.
 ///
 /// # Errors
 ///
-/// `AllocError` when memory runs out.
+/// Returns [`AllocError`] if an allocation fails.
 pub fn references(
     alloc: Global,
     kind: Kind,

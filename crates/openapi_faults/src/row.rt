@@ -1,4 +1,4 @@
-//! The rows of the tables.
+//! The fields of the field tables.
 ghost use Rattle.std.specs.Prelude.{◌≡◌, cond};
 ghost use Rattle.openapi_tables.specs.Members.{made_optional};
 ghost use Rattle.openapi_faults.specs.Meaning.{row_of};
@@ -18,24 +18,24 @@ pub enum Class {
     StatusNames,
 }
 
-/// A row of a table: which members of an object it takes, what their values may be, and what a missing member means.
+/// A field of a field table: its members, the values that they may have, and the meaning of a missing member.
 #[derive(Clone, Copy, Debug)]
 pub enum Row {
-    /// A member that is required.
+    /// A required member.
     Required(&'static str, Kind),
     /// A member that may be missing or `null`.
     Optional(&'static str, Kind),
-    /// A member that may be missing or `null`, and is written as `null` then.
+    /// A member that may be missing or `null`, and is then written as `null`.
     Nullable(&'static str, Kind),
-    /// A list or a map that is empty where it is missing.
+    /// A list or a map that is empty if it is missing.
     Listed(&'static str, Kind),
-    /// A flag that is `false` where it is missing.
+    /// A flag that is `false` if it is missing.
     Flag(&'static str),
-    /// A member of a fixed set of words, with the word that a missing member means.
+    /// A member whose value is a word of a fixed set, with the word that a missing member means.
     Styled(&'static str, &'static str, Kind),
     /// The name of a format, which may be missing or `null`.
     Format(&'static str, Kind),
-    /// Two members of which the first in the object decides, and one is required.
+    /// Two members of which one is required. If an object has both, the first in the object counts.
     Either(&'static str, Kind, &'static str, Kind),
     /// The members whose names are of a class.
     Names(Class, Kind),

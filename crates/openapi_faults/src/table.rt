@@ -1,4 +1,4 @@
-//! The tables of OpenAPI 3.0.3: which members each object has.
+//! The field tables of OpenAPI 3.0.3: which members each object has.
 ghost use Rattle.std.specs.Prelude.{◌≡◌, map};
 ghost use Rattle.openapi_faults.specs.Meaning.{row_of, table_of};
 ghost use Rattle.openapi_tables.specs.Tables.{final_tables};
@@ -15,7 +15,9 @@ use crate::row::Class::*;
 use crate::row::Row::{self, *};
 use crate::table::TableName::*;
 
-/// The name of a table: one for each object of OpenAPI 3.0.3, and one for each part of an object that is read by itself.
+/// The name of a field table.
+///
+/// Each object of OpenAPI 3.0.3 has one, and so has each part of an object that can be read by itself.
 #[derive(Clone, Copy, Debug, PartialEq)]
 pub enum TableName {
     /// The OpenAPI Object (4.7.1).
@@ -40,7 +42,7 @@ pub enum TableName {
     Operation,
     /// The External Documentation Object (4.7.11).
     ExternalDocumentation,
-    /// What the Parameter Object has at every location (4.7.12).
+    /// The fields that the Parameter Object has at every location (4.7.12).
     ParameterData,
     /// The Parameter Object of a query (4.7.12).
     QueryParameter,
@@ -74,7 +76,7 @@ pub enum TableName {
     Header,
     /// The Tag Object (4.7.22).
     Tag,
-    /// What every Schema Object may have (4.7.24).
+    /// The fields that every Schema Object may have (4.7.24).
     SchemaData,
     /// A schema of the type `string` (4.7.24).
     StringType,
@@ -88,15 +90,15 @@ pub enum TableName {
     ArrayType,
     /// A schema of the type `boolean` (4.7.24).
     BooleanType,
-    /// A schema of no one type: all names that tell the types apart (4.7.24).
+    /// A schema of no single type: all fields that distinguish the types (4.7.24).
     AnySchema,
-    /// A schema of the one member `oneOf` (4.7.24).
+    /// The field `oneOf` of a schema by itself (4.7.24).
     OneOfSchema,
-    /// A schema of the one member `allOf` (4.7.24).
+    /// The field `allOf` of a schema by itself (4.7.24).
     AllOfSchema,
-    /// A schema of the one member `anyOf` (4.7.24).
+    /// The field `anyOf` of a schema by itself (4.7.24).
     AnyOfSchema,
-    /// A schema of the one member `not` (4.7.24).
+    /// The field `not` of a schema by itself (4.7.24).
     NotSchema,
     /// The Discriminator Object (4.7.25).
     Discriminator,
@@ -123,7 +125,7 @@ pub enum TableName {
 }
 
 impl TableName {
-    /// Returns the rows of the table, in the order in which they are written.
+    /// Returns the fields of the table, in the order in which they are written.
     #[tactic(auto, unfolding(openapi_tables::specs::Tables::final_tables, openapi_tables::specs::Tables::tables_with, openapi_tables::specs::SchemaTables::string_rows, openapi_tables::specs::SchemaTables::object_rows, openapi_tables::specs::SchemaTables::array_rows, openapi_tables::specs::SchemaTables::boolean_rows, openapi_tables::specs::SchemaTables::any_rows))]
     pub fn rows(self) -> &'static [Row]
         ensures { map row_of result.now ≡ final_tables (table_of self) }

@@ -9,7 +9,8 @@ use crate::finding::Finding;
 use openapi_json::Point;
 use std::fmt;
 
-/// A finding as a workflow command of GitHub, without a line feed. It makes an annotation of the line in a pull request.
+/// A finding as a workflow command of GitHub, without a line feed. GitHub shows it as an annotation of the line in a
+/// pull request.
 #[derive(Clone, Copy)]
 pub struct AsGithub<'a> {
     /// The finding.

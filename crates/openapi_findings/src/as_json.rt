@@ -1,4 +1,4 @@
-//! Findings as programs read them.
+//! Findings as JSON for programs.
 ghost use Rattle.std.specs.Prelude.{option_map, string_bytes};
 ghost use Rattle.std.specs.Fmt.{WritesOnOk};
 ghost use Rattle.openapi_findings.specs.Printed.{json_help, json_place, json_point, json_words};
@@ -9,7 +9,9 @@ use openapi_json::Point;
 use openapi_node::PlaceStep;
 use std::fmt;
 
-/// A finding as one object of JSON, without a line feed. The pointer of the root is `""`; that of a finding on JSON text is `null`.
+/// A finding as one JSON object, without a line feed.
+///
+/// The pointer of the root is `""`. If the text is no JSON, the pointer is `null`.
 #[derive(Clone, Copy)]
 pub struct AsJson<'a> {
     /// The finding.

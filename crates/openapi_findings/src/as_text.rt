@@ -1,4 +1,4 @@
-//! Findings as a person reads them.
+//! Findings as text for a person.
 ghost use Rattle.std.specs.Prelude.{◌≡◌, ◌+◌, ◌≤◌, codes, decimal, length, option_map, replicate, string_bytes};
 ghost use Rattle.std.specs.Fmt.{WritesOnOk};
 ghost use Rattle.openapi_findings.specs.Escaped.{pointer_text};
@@ -12,8 +12,10 @@ use openapi_json::Point;
 use openapi_node::PlaceStep;
 use std::fmt;
 
-/// A finding as a person reads it, as `rustc` prints its own: the message, the file with line and column, the line with a mark
-/// below the point, the JSON Pointer of the value, and the help text. Each line ends with a line feed.
+/// A finding as text for a person, in the layout of `rustc`.
+///
+/// It prints the message, the file with line and column, and the line with a mark below the point. The JSON Pointer
+/// (RFC 6901) of the value and the help text follow. Each line ends with a line feed.
 #[derive(Clone, Copy)]
 pub struct AsText<'a> {
     /// The finding.

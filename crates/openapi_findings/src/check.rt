@@ -25,10 +25,10 @@ use openapi_json::{JsonFault, Position, WithZeros, node_with_zeros_in_order, pos
 use openapi_node::Steps;
 use std::alloc::{AllocError, Global};
 
-/// Returns the findings of a text that is to be an OpenAPI document in JSON, in the order of the text.
+/// Returns the findings of a text that should be an OpenAPI document in JSON, in the order of the text.
 ///
-/// A text that is no JSON has one finding, [`Code::NotJson`]. A number that no node holds is [`Code::NotWhole`] or
-/// [`Code::Fraction`], and 0 takes its place in all other checks.
+/// A text that is no JSON has one finding, [`Code::NotJson`]. A number that a node can't hold is [`Code::NotWhole`] or
+/// [`Code::Fraction`], and 0 replaces it in all other checks.
 ///
 /// [`Code::NotJson`]: crate::Code::NotJson
 /// [`Code::NotWhole`]: crate::Code::NotWhole
@@ -36,7 +36,7 @@ use std::alloc::{AllocError, Global};
 ///
 /// # Errors
 ///
-/// `AllocError` when memory runs out.
+/// Returns [`AllocError`] if an allocation fails.
 pub fn findings(alloc: Global, bytes: &[u8], steps: &mut Steps) -> Result<Vec<Finding>, AllocError>
     ensures { IfOk result (λ v. AreFindings bytes.now v.items) }
 {

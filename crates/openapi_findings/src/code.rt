@@ -1,4 +1,4 @@
-//! What a finding is about, as one word.
+//! The kind and the severity of a finding, each as one word.
 ghost use Rattle.std.specs.Prelude.{◌≡◌};
 ghost use Rattle.openapi_findings.specs.Stated.{code_word, severity_of, severity_word};
 ghost use Rattle.openapi_findings.specs.Stated as stated;
@@ -12,7 +12,7 @@ pub enum Severity {
     Error,
     /// A part of the document has no effect.
     Warning,
-    /// The document is valid, but a command can't do something with it.
+    /// The document breaks no rule here, but a command can't do something with it.
     Note,
 }
 
@@ -25,21 +25,21 @@ pub enum Code {
     NotWhole,
     /// The document is of another version than OpenAPI 3.0.x.
     Version,
-    /// An object lacks a member that is required.
+    /// An object lacks a required member.
     MissingMember,
     /// An object lacks both of two members of which one is required.
     MissingEither,
     /// A value is of another type than the expected one.
     WrongType,
-    /// A number is out of its range, or a text or a number is no status code.
+    /// A number is out of its range, or a string or a number is no status code.
     ValueNotAllowed,
-    /// A text is not one of the words that are allowed.
+    /// A string is not one of the words that are allowed.
     UnknownValue,
     /// An object has no field of that name, and the name is no extension.
     UnknownMember,
     /// A member is beside `$ref`, where it has no effect.
     BesideRef,
-    /// A member has no effect, since another one excludes it.
+    /// A member has no effect, because another one excludes it.
     SecondOfTwo,
     /// A reference within the document leads to no value.
     UnresolvedReference,

@@ -1,4 +1,4 @@
-//! What is found at one location of a document.
+//! A finding at one location of a document.
 ghost use Rattle.std.specs.Prelude.{◌≡◌};
 ghost use Rattle.openapi_findings.specs.Findings.{point_of};
 ghost use Rattle.openapi_findings.specs.Stated.{severity_of};
@@ -7,10 +7,10 @@ use crate::code::{Code, Severity};
 use openapi_json::{Point, Position};
 use openapi_node::PlaceStep;
 
-/// What is found at one location of a document.
+/// A finding at one location of a document.
 #[derive(Debug, Drop)]
 pub struct Finding {
-    /// What it is about.
+    /// The kind of the finding.
     pub code: Code,
     /// What is wrong, in one line.
     pub message: String,
@@ -30,8 +30,9 @@ impl Finding {
         self.code.severity()
     }
 
-    /// Returns the point of the text at which the finding is shown: that of the name if it is about a member as a whole, and
-    /// that of the value otherwise.
+    /// Returns the point of the text at which the finding is shown, or `None` if it has no position.
+    ///
+    /// It is the point of the name if the finding is about a member as a whole, and that of the value otherwise.
     pub fn point(&self) -> Option<Point>
         ensures { result ≡ point_of self.now }
     {

@@ -1,7 +1,8 @@
-//! All that `openapi check` reports of a document, from the bytes of its JSON text.
+//! All that `openapi check` reports about a document, from the bytes of its JSON text.
 //!
-//! [`findings`] returns every [`Finding`] in the order of the text: a location, a [`Code`] with its [`Severity`], a message and,
-//! where there is something to do, a help text. [`AsText`], [`AsJson`] and [`AsGithub`] print one.
+//! [`findings`] returns every [`Finding`] in the order of the text. A finding has a location, a [`Code`] with its
+//! [`Severity`], a message and, if there is something to do, a help text. [`AsText`], [`AsJson`] and [`AsGithub`] print
+//! one.
 #![tactic(auto)]
 
 mod as_github;

@@ -1,4 +1,4 @@
-//! The finding of the one fault for which a value is refused.
+//! The finding of the fault that a reader returned.
 ghost use Rattle.std.specs.Prelude.{◌≡◌, IfOk, Some};
 ghost use Rattle.openapi_node.specs.Fault.{place_of};
 ghost use Rattle.openapi_findings.specs.Findings.{finds};
@@ -12,11 +12,11 @@ use openapi_node::{Cause, Fault};
 use std::alloc::{AllocError, Global};
 
 impl Finding {
-    /// Returns the finding of the one fault for which a value is refused that was to be read, at its position.
+    /// Creates the finding of the fault that a reader returned, at a position.
     ///
     /// # Errors
     ///
-    /// `AllocError` when memory runs out.
+    /// Returns [`AllocError`] if an allocation fails.
     pub fn of_refusal(
         alloc: Global,
         fault: Fault,

@@ -3,8 +3,10 @@ use crate::escape::Escape;
 use openapi_node::PlaceStep;
 use std::fmt;
 
-/// A text for a terminal: it prints with a tab as four spaces, and with U+FFFD in place of a character that would move the cursor
-/// or turn the text around.
+/// A text for a terminal.
+///
+/// It prints a tab as four spaces. It prints U+FFFD instead of a character that would move the cursor or change the
+/// direction of the text.
 #[derive(Clone, Copy, Debug)]
 pub struct Shown<'a>(pub &'a str);
 

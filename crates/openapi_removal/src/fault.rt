@@ -1,14 +1,14 @@
-//! Why the text of a document is not cleaned.
+//! The errors of the removal of members.
 use std::alloc::{AllocError, AllocFailed};
 use thiserror::Error;
 
-/// Why no text returns no text. It prints as one line.
+/// Why no text is returned. It prints as one line of text.
 #[derive(Debug, Drop, Error, PartialEq)]
 pub enum CleanFault {
     /// The bytes are not UTF-8, or not JSON as `serde_json` reads it: arrays and objects are nested at most 127 deep.
     #[error("not JSON")]
     NotJson,
-    /// Memory ran out.
+    /// An allocation failed.
     #[error("out of memory")]
     Memory,
     /// The result was read again and is not the document without the members that reading drops. This is a bug.
@@ -44,7 +44,7 @@ impl From<Failure> for CleanFault {
 /// Why no text was made of a document that was read.
 #[derive(Clone, Copy, Drop)]
 pub(crate) enum Failure {
-    /// Memory ran out.
+    /// An allocation failed.
     Memory,
     /// The text is not what it has to be.
     Internal,

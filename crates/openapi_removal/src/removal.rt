@@ -34,16 +34,18 @@ pub struct Cleaned {
 
 /// Returns the text of an OpenAPI document in JSON without the members that reading drops.
 ///
-/// These are the members that [`dropped_members`] returns of the document: unknown ones, those beside `$ref`, and the second of two
-/// that exclude each other. Where the name of such a member comes again in its object, every member of that name is removed. All other
-/// bytes stay as they are. The document is read alike without these members, and reading the result drops nothing.
+/// These are the members that [`dropped_members`] returns for the document: unknown ones, those beside `$ref`, and the
+/// second of two that exclude each other. If the name of such a member comes again in its object, every member of that
+/// name is removed. All other bytes stay as they are. The same is read of the document without these members, and
+/// reading the result drops nothing.
 ///
 /// The result is read again and compared with the source before it is returned. That reads the text three times.
 ///
 /// # Errors
 ///
-/// [`CleanFault::NotJson`] if the bytes are not JSON in UTF-8, [`CleanFault::Memory`] if memory runs out, and [`CleanFault::Internal`]
-/// if the result does not read as the source without these members, which is a bug.
+/// Returns [`CleanFault::NotJson`] if the bytes are not JSON in UTF-8, and [`CleanFault::Memory`] if an allocation
+/// fails. Returns [`CleanFault::Internal`] if the result does not read as the source without these members, which is a
+/// bug.
 pub fn without_dropped(
     alloc: Global,
     bytes: &[u8],

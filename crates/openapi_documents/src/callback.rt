@@ -18,14 +18,12 @@ use openapi_node::{Node, OrderedMap, Result, Steps, View};
 use openapi_values::ReferenceOr;
 use std::alloc::Global;
 
-/// The Callback Object (OpenAPI 3.0.3, section 4.7.18): requests that the API may send in turn, by expressions that say
-/// where to.
+/// The Callback Object (OpenAPI 3.0.3, section 4.7.18): requests that the API may send, by expressions for their URLs.
 #[cycle(operations)]
 #[derive(Clone, Debug, PartialEq, Drop)]
 pub struct Callback {
-    /// The requests, each as a path item under its expression: the members whose names do not begin with `x-`, in their
-    /// order. No reference stands in the place of such a path item. It is `$ref` that is ignored there, and not what
-    /// stands beside it.
+    /// The requests, each a path item under its expression: the members whose names do not begin with `x-`, in their
+    /// order. A path item here is never a reference: a `$ref` in it is ignored, and the other members are read.
     pub paths: OrderedMap<PathItem>,
     /// Extensions: the members whose names begin with `x-`, in their order.
     pub extensions: OrderedMap<Node>,
@@ -34,7 +32,7 @@ pub struct Callback {
 impl Callback {
     ghost use Rattle.openapi_documents.specs.declared.callback.Callback.{out-Callback};
 
-    /// No requests.
+    /// Creates an empty `Callback`; both maps are empty.
     pub fn new(alloc: Global) -> Callback
         ensures paths { (out-Callback result).paths ≡ [] }
         ensures extensions { (out-Callback result).extensions ≡ [] }
@@ -64,7 +62,7 @@ impl FromNode for Callback {
     ghost well_made = { refl };
 }
 
-/// Refused also at a name among `paths` that begins with `x-`, which would be read as an extension.
+/// A name among `paths` that begins with `x-` can't be written: it would be read as an extension.
 impl ToNode for Callback {
     fn to_node(&self, alloc: Global) -> Result<Node> {
         write_callback(alloc, self)
@@ -77,8 +75,12 @@ impl Referable for Callback {
     ghost spares_ref = { callback_spares };
 }
 
-/// Reads a callback or a reference to one. Err names a rule that the tree breaks, at its place, or says that memory ran
-/// out.
+/// Reads a callback or a reference to one.
+///
+/// # Errors
+///
+/// Returns a [`Fault`](openapi_node::Fault) with a rule that the value breaks and the location where it does. An
+/// allocation failure has [`Cause::Memory`](openapi_node::Cause::Memory) and the empty location.
 pub fn callback_ref_from_node(
     alloc: Global,
     node: &Node,
@@ -92,8 +94,13 @@ pub fn callback_ref_from_node(
     ReferenceOr::from_node(alloc, node, steps)
 }
 
-/// Writes a callback or a reference to one. Err at a name or a code in it that would not be read again, or for want of
-/// memory.
+/// Writes a callback or a reference to one.
+///
+/// # Errors
+///
+/// Returns a [`Fault`](openapi_node::Fault) with [`Cause::NameNotWritable`](openapi_node::Cause::NameNotWritable) at a
+/// name or a status code that would not be read again, such as an extension without `x-`. An allocation failure has
+/// [`Cause::Memory`](openapi_node::Cause::Memory) and the empty location.
 pub fn callback_ref_to_node(alloc: Global, value: &ReferenceOr<Callback>) -> Result<Node>
     ensures { WrittenAs callback_ref (reference_form callback_form value.now) result }
 {

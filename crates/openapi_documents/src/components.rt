@@ -16,8 +16,8 @@ use openapi_security::SecurityScheme;
 use openapi_values::ReferenceOr;
 use std::alloc::Global;
 
-/// The Components Object (OpenAPI 3.0.3, section 4.7.7): what the document may refer to, by names. It has no effect
-/// where nothing refers to it. Under each name an object or a reference to one may stand. The names are not checked.
+/// The Components Object (OpenAPI 3.0.3, section 4.7.7): reusable objects or references to some, by names. They have no
+/// effect unless something refers to them. The names are not checked.
 #[derive(Clone, Debug, PartialEq, Drop)]
 pub struct Components {
     /// Schemas.
@@ -43,7 +43,7 @@ pub struct Components {
 }
 
 impl Components {
-    /// No components.
+    /// Creates an empty `Components`; every map is empty.
     pub fn new(alloc: Global) -> Components
         ensures schemas { result.schemas ≡ [] }
         ensures responses { result.responses ≡ [] }

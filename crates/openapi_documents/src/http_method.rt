@@ -32,7 +32,7 @@ pub enum Method {
     Trace,
 }
 
-/// A method by the name of its field in a document, which is lower case.
+/// A method is read and written as the name of its field in a document, in lower case.
 impl Word for Method {
     ghost use Rattle.openapi_documents.specs.declared.http_method.Method.TheVariants as variants;
 
@@ -83,18 +83,18 @@ impl FromStr for Method {
 
     ghost from_str_gives = { IsWordRead method_word methods };
 
-    /// Reads the name of a field, as `get`.
+    /// Reads the name of a field, such as `get`.
     ///
     /// # Errors
     ///
-    /// `()` for any other text, also for `GET`.
+    /// Returns `()` for any other text, also for `GET`.
     fn from_str(text: &str) -> Result<Method, ()> {
         Method::from_word(text).ok_or(())
     }
 }
 
 impl PathItem {
-    /// Returns the operation under a method, or `None` where there is none.
+    /// Returns the operation under a method, or `None` if there is none.
     pub fn get(&self, method: Method) -> Option<&Operation>
         ensures { option_copied result ≡ operation_under method self.now }
     {
@@ -110,8 +110,8 @@ impl PathItem {
         }
     }
 
-    /// Returns the operation under a method, to be changed, or `None` where there is none. The field of the method holds
-    /// `None` or `Some`: assign to it to add or remove an operation.
+    /// Returns a mutable reference to the operation under a method, or `None` if there is none. To add or remove an
+    /// operation, assign to the field of the method.
     pub fn get_mut(&mut self, method: Method) -> Option<&mut Operation>
         ensures* writes_back { sem 𝓛 (lends_operation self.entry method result) }
         ensures value { option_copied_mut result ≡ operation_under method self.old }

@@ -1,4 +1,4 @@
-//! The iterators over the operations of a path item. Each is seen as the list of the operations that it has left.
+//! The iterators over the operations of a path item. Contracts see each as the list of the operations that are left.
 ghost use Rattle.std.specs.Prelude.{◌≡◌, ℕ, List, length};
 ghost use Rattle.std.specs.Iterator.{at_most};
 ghost use Rattle.std.specs.Map.Iter.{TakesFirst, ShowsInOrder, ShowsValuesInOrder, deref_pair};
@@ -12,8 +12,8 @@ use crate::operation::Operation;
 use crate::path_item::PathItem;
 use std::marker::Model;
 
-/// The operations of a path item that are there, each as `(&'static str, &Operation)`: its method, as it is written in
-/// the document, and the operation. They come in the order of the fields of [`PathItem`], from `get` to `trace`.
+/// An iterator over the operations of a path item. It yields `(&'static str, &Operation)`: the method as it is written
+/// in the document, and the operation. They come in the order of the fields of [`PathItem`], from `get` to `trace`.
 #[derive(Drop)]
 pub struct PathItemIter<'a> {
     left: Methods<&'a Operation>,
@@ -46,9 +46,9 @@ impl<'a> Iterator for PathItemIter<'a> {
     }
 }
 
-/// The operations of a path item that are there, each as `(&'static str, Operation)`: its method, as it is written in the
-/// document, and the operation, which the path item no longer owns. They come in the order of the fields of
-/// [`PathItem`], from `get` to `trace`.
+/// An iterator that moves the operations out of a path item. It yields `(&'static str, Operation)`: the method as it is
+/// written in the document, and the operation. They come in the order of the fields of [`PathItem`], from `get` to
+/// `trace`.
 #[derive(Drop)]
 pub struct PathItemIntoIter {
     left: Methods<Operation>,
@@ -82,8 +82,8 @@ impl Iterator for PathItemIntoIter {
 }
 
 impl PathItem {
-    /// The operations that are there, in the order get, put, post, delete, options, head, patch, trace. No memory is
-    /// taken.
+    /// Returns an iterator over the operations, in the order get, put, post, delete, options, head, patch, trace. It
+    /// allocates nothing.
     pub fn iter(&self) -> PathItemIter<'_>
         ensures rest { result ≡ present_operations self.now }
         ensures forms { forms_under operation_form result ≡ present_ops (path_item_form self.now) }
@@ -105,7 +105,7 @@ impl PathItem {
     }
 }
 
-/// The operations that are there, in the order get, put, post, delete, options, head, patch, trace. No memory is taken.
+/// Moves the operations out, in the order get, put, post, delete, options, head, patch, trace. It allocates nothing.
 impl IntoIterator for PathItem {
     ghost use Rattle.openapi_documents.specs.declared.operation.Operation.{Operation};
 

@@ -1,15 +1,15 @@
-//! The law of whole documents: the function does nothing, and its contract is the law.
+//! The law of whole documents: the function has no effect, and its contract is the law.
 ghost use Rattle.openapi_documents.specs.Headline.{Headline};
 
-/// What holds of every tree that is to be a document, put together of the laws of the tables.
+/// States what holds for every JSON value that is read as a document, from the laws of the field tables.
 ///
-/// - A tree does not conform exactly where a rule that is asked of a value in it is broken there. `OpenAPI::from_node`
-///   reads exactly the trees that conform, and its refusals name such a place and such a rule.
-/// - A document that was read can be written: `OpenAPI::to_node` gives the cleaned tree.
-/// - The cleaned tree conforms, and has at most twice as many values.
-/// - What is read of the cleaned tree is settled: writing and reading it again changes nothing.
-/// - It is the value that was read first exactly where no schema that is held as one of any members is printed as one
-///   of another sort.
+/// - A value does not conform if and only if a rule that applies to a value in it is broken there. Unless an allocation
+///   fails, `OpenAPI::from_node` reads exactly the values that conform. Its faults name such a rule and its location.
+/// - A document that was read can be written, and is written as the normalized value.
+/// - The normalized value conforms, and has at most twice as many values.
+/// - A document that is read from the normalized value is stable: writing and reading it again changes nothing.
+/// - It is equal to the first document if and only if no [`AnySchema`](openapi_schema::AnySchema) of that one is
+///   written as a schema of another kind.
 pub fn headline()
     ensures { Headline }
 {}

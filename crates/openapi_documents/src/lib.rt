@@ -1,5 +1,5 @@
 #![tactic(auto)]
-//! Whole documents, by OpenAPI 3.0.3: the OpenAPI Object, its components, the Paths Object, and what may be called. A path
+//! Whole documents, by OpenAPI 3.0.3: the OpenAPI Object, its components, the Paths Object, and the operations. A path
 //! item has operations, these may have callbacks, and these have path items.
 mod callback;
 mod components;

@@ -17,16 +17,16 @@ use std::alloc::Global;
 /// The OpenAPI Object (OpenAPI 3.0.3, section 4.7.1): a whole document.
 #[derive(Clone, Debug, PartialEq, Drop)]
 pub struct OpenAPI {
-    /// The version of the OpenAPI Specification that the document is written by, such as `3.0.3`. Required. It is not
+    /// The version of the OpenAPI Specification that the document follows, such as `3.0.3`. Required; its value is not
     /// checked.
     pub openapi: String,
-    /// The servers of the API. Where there are none, the API is at the URL `/`.
+    /// The servers of the API. If there are none, the API is at the URL `/`.
     pub servers: Vec<Server>,
-    /// The security requirements of every operation that has none of its own: one of them has to be met.
+    /// The security requirements of every operation that has none of its own. A call has to meet one of them.
     pub security: Option<Vec<SecurityRequirement>>,
-    /// The tags that operations use, in the order in which tools show them.
+    /// The tags of operations, in the order in which tools show them.
     pub tags: Vec<Tag>,
-    /// Further documentation.
+    /// External documentation of the API.
     pub external_docs: Option<ExternalDocumentation>,
     /// Extensions: the members whose names begin with `x-`, in their order.
     pub extensions: OrderedMap<Node>,
@@ -34,12 +34,12 @@ pub struct OpenAPI {
     pub paths: Paths,
     /// Metadata about the API. Required.
     pub info: Info,
-    /// What the document may refer to.
+    /// The objects to which the document may refer.
     pub components: Option<Components>,
 }
 
 impl OpenAPI {
-    /// Empty texts, lists and maps, and nothing else.
+    /// Creates an empty document; every field, also of `info` and `paths`, is `None` or empty.
     pub fn new(alloc: Global) -> OpenAPI
         ensures openapi { string_bytes result.openapi ≡ [] }
         ensures title { string_bytes result.info.title ≡ [] }

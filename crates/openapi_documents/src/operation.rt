@@ -18,45 +18,44 @@ use openapi_security::SecurityRequirement;
 use openapi_values::ReferenceOr;
 use std::alloc::Global;
 
-/// The Operation Object (OpenAPI 3.0.3, section 4.7.10): one operation of an API under a path, by the HTTP method that
-/// it stands under.
+/// The Operation Object (OpenAPI 3.0.3, section 4.7.10): one operation of an API, under a path and an HTTP method.
 #[cycle(operations)]
 #[derive(Clone, Debug, PartialEq, Drop)]
 pub struct Operation {
     /// The tags by which the operation is grouped.
     pub tags: Vec<String>,
-    /// What the operation does, in a few words.
+    /// A short summary of the operation.
     pub summary: Option<String>,
-    /// What the operation does, in CommonMark.
+    /// A description of the operation, in CommonMark.
     pub description: Option<String>,
-    /// `operationId`: a name of the operation that no other operation of the API has, which is not checked.
+    /// `operationId`: a name of the operation, unique in the API (not checked).
     pub operation_id: Option<String>,
     /// Whether the operation should no longer be used. False by default.
     pub deprecated: bool,
     /// External documentation of the operation.
     pub external_docs: Option<ExternalDocumentation>,
-    /// What a call needs of security: one of these requirements. It takes the place of what the document asks for; an
-    /// empty list takes that away.
+    /// The security requirements, of which a call has to meet one. They replace those of the document, and an empty
+    /// list removes those.
     pub security: Option<Vec<SecurityRequirement>>,
-    /// The servers of the operation, in the place of those of the path item or the document.
+    /// The servers of the operation, which replace those of the path item or the document.
     pub servers: Vec<Server>,
     /// Extensions: the members whose names begin with `x-`, in their order.
     pub extensions: OrderedMap<Node>,
-    /// The parameters of the operation, or references to some. One takes the place of a parameter of the path item that
-    /// has its name and place.
+    /// The parameters of the operation, or references to some. One replaces a parameter of the path item with the same
+    /// name and location.
     pub parameters: Vec<ReferenceOr<Parameter>>,
-    /// The requests that the API may send in turn, or references to some, by names.
+    /// The callbacks of the operation, or references to some, by names.
     pub callbacks: OrderedMap<ReferenceOr<Callback>>,
-    /// The responses that may come. Required.
+    /// The possible responses. Required.
     pub responses: Responses,
-    /// `requestBody`: what is sent as the body of a request, or a reference to it.
+    /// `requestBody`: the body of a request, or a reference to one.
     pub request_body: Option<ReferenceOr<RequestBody>>,
 }
 
 impl Operation {
     ghost use Rattle.openapi_documents.specs.declared.operation.Operation.{out-Operation};
 
-    /// What nothing is said of, without responses.
+    /// Creates an operation with no fields set and no responses.
     pub fn new(alloc: Global) -> Operation
         ensures tags { (out-Operation result).tags.items ≡ [] }
         ensures summary { (out-Operation result).summary ≡ None }

@@ -1,4 +1,4 @@
-//! The iterator over the operations of a document. It is seen as the list of the operations that it has left.
+//! The iterator over the operations of a document. Contracts see it as the list of the operations that are left.
 ghost use Rattle.std.specs.Prelude.{◌≡◌, ℕ, List, length};
 ghost use Rattle.std.specs.Iterator.{at_most};
 ghost use Rattle.std.specs.Map.Iter.{TakesFirst, ShowsInOrder};
@@ -16,9 +16,9 @@ use openapi_map::Iter;
 use openapi_values::ReferenceOr;
 use std::marker::Model;
 
-/// The operations of a document, each as `(&str, &'static str, &Operation)`: its path, its method as it is written in
-/// the document, and the operation. They come path by path in the order of the map, and under a path in the order of
-/// the fields of [`PathItem`], from `get` to `trace`. A path item that is a reference has none.
+/// An iterator over the operations of a document. It yields `(&str, &'static str, &Operation)`: the path, the method as
+/// it is written in the document, and the operation. They come path by path in the order of the map. Those under a path
+/// come in the order of the fields of [`PathItem`], from `get` to `trace`. A path item that is a reference has none.
 #[derive(Drop)]
 pub struct Operations<'a> {
     paths: Iter<'a, ReferenceOr<PathItem>>,
@@ -93,8 +93,8 @@ fn next_of<'a>(
 }
 
 impl OpenAPI {
-    /// All operations of the document: those that `PathItem::iter` gives, path by path in the order of the map. A path
-    /// item that is a reference has none. No memory is taken.
+    /// Returns an iterator over all operations of the document, path by path in the order of the map. Those under a
+    /// path come as [`PathItem::iter`] returns them. A path item that is a reference has none. It allocates nothing.
     pub fn operations(&self) -> Operations<'_>
         ensures rest { result ≡ document_operations self.now }
         ensures forms { placed_forms result ≡ ops (document_form self.now) }

@@ -19,13 +19,13 @@ use openapi_parameters::Parameter;
 use openapi_values::ReferenceOr;
 use std::alloc::Global;
 
-/// The Path Item Object (OpenAPI 3.0.3, section 4.7.9): the operations under one path, each by its HTTP method.
+/// The Path Item Object (OpenAPI 3.0.3, section 4.7.9): the operations under one path, by their HTTP methods.
 #[cycle(operations)]
 #[derive(Clone, Debug, PartialEq, Drop)]
 pub struct PathItem {
-    /// What all operations under the path are about, in a few words.
+    /// A short summary of all operations under the path.
     pub summary: Option<String>,
-    /// What all operations under the path are about, in CommonMark.
+    /// A description of all operations under the path, in CommonMark.
     pub description: Option<String>,
     /// The operation of GET.
     pub get: Option<Operation>,
@@ -43,7 +43,7 @@ pub struct PathItem {
     pub patch: Option<Operation>,
     /// The operation of TRACE.
     pub trace: Option<Operation>,
-    /// The servers of the operations under the path, in the place of those of the document.
+    /// The servers of the operations under the path, which replace those of the document.
     pub servers: Vec<Server>,
     /// The parameters of all operations under the path, or references to some.
     pub parameters: Vec<ReferenceOr<Parameter>>,
@@ -54,7 +54,7 @@ pub struct PathItem {
 impl PathItem {
     ghost use Rattle.openapi_documents.specs.declared.path_item.PathItem.{out-PathItem};
 
-    /// A path without operations.
+    /// Creates a path item without operations; every field is `None` or empty.
     pub fn new(alloc: Global) -> PathItem
         ensures summary { (out-PathItem result).summary ≡ None }
         ensures description { (out-PathItem result).description ≡ None }
@@ -118,8 +118,12 @@ impl Referable for PathItem {
     ghost spares_ref = { path_item_spares };
 }
 
-/// Reads a path item or a reference to one. Err names a rule that the tree breaks, at its place, or says that memory ran
-/// out.
+/// Reads a path item or a reference to one.
+///
+/// # Errors
+///
+/// Returns a [`Fault`](openapi_node::Fault) with a rule that the value breaks and the location where it does. An
+/// allocation failure has [`Cause::Memory`](openapi_node::Cause::Memory) and the empty location.
 pub fn path_item_ref_from_node(
     alloc: Global,
     node: &Node,
@@ -133,8 +137,13 @@ pub fn path_item_ref_from_node(
     ReferenceOr::from_node(alloc, node, steps)
 }
 
-/// Writes a path item or a reference to one. Err at a name or a code in it that would not be read again, or for want of
-/// memory.
+/// Writes a path item or a reference to one.
+///
+/// # Errors
+///
+/// Returns a [`Fault`](openapi_node::Fault) with [`Cause::NameNotWritable`](openapi_node::Cause::NameNotWritable) at a
+/// name or a status code that would not be read again, such as an extension without `x-`. An allocation failure has
+/// [`Cause::Memory`](openapi_node::Cause::Memory) and the empty location.
 pub fn path_item_ref_to_node(alloc: Global, value: &ReferenceOr<PathItem>) -> Result<Node>
     ensures { WrittenAs (ref_to (by path_item)) (reference_form path_item_form value.now) result }
 {

@@ -35,18 +35,18 @@ impl ClassNames for PathNames {
     ghost by_name = { λ n. refl };
 }
 
-/// The Paths Object (OpenAPI 3.0.3, section 4.7.8): the paths of an API, each with its operations.
+/// The Paths Object (OpenAPI 3.0.3, section 4.7.8): the paths of an API, each with its path item.
 #[derive(Clone, Debug, PartialEq, Drop)]
 pub struct Paths {
-    /// The operations under each path, or a reference to them: the members whose names begin with `/`, in their order.
-    /// Other names but those of extensions are ignored, and what stands under them is not looked at.
+    /// The path item of each path, or a reference to one: the members whose names begin with `/`, in their order. Any
+    /// other member but an extension is ignored, and its value is not read.
     pub paths: OrderedMap<ReferenceOr<PathItem>>,
     /// Extensions: the members whose names begin with `x-`, in their order.
     pub extensions: OrderedMap<Node>,
 }
 
 impl Paths {
-    /// No paths.
+    /// Creates an empty `Paths`; both maps are empty.
     pub fn new(alloc: Global) -> Paths
         ensures paths { result.paths ≡ [] }
         ensures extensions { result.extensions ≡ [] }
@@ -57,7 +57,7 @@ impl Paths {
         }
     }
 
-    /// The paths with their path items or references, in their order.
+    /// Returns an iterator over the paths with their path items or references, in their order.
     pub fn iter(&self) -> Iter<'_, ReferenceOr<PathItem>>
         ensures rest { result ≡ self.now.paths }
         ensures runs { ShowsInOrder (deref_pair {K = List ℕ} {X = ReferenceOr PathItem}) }
@@ -69,7 +69,7 @@ impl Paths {
     }
 }
 
-/// The paths with their path items or references, in their order.
+/// Moves the paths with their path items or references out, in their order.
 impl IntoIterator for Paths {
     ghost use Rattle.openapi_values.specs.declared.reference.ReferenceOr.{ReferenceOr};
     ghost use Rattle.openapi_documents.specs.declared.path_item.PathItem.{PathItem};
@@ -87,7 +87,7 @@ impl IntoIterator for Paths {
     }
 }
 
-/// It is refused where it is written also at a name among `paths` that does not begin with `/`, which would not be read again.
+/// A name among `paths` that does not begin with `/` can't be written: it would not be read again.
 impl Object for Paths {
     ghost table = { paths };
 

@@ -13,20 +13,20 @@ use openapi_node::{Node, OrderedMap, Result, Steps, View};
 use openapi_values::{QueryStyle, ReferenceOr};
 use std::alloc::Global;
 
-/// The Encoding Object (OpenAPI 3.0.3, section 4.7.15): how one property of what is sent is encoded.
+/// The Encoding Object (OpenAPI 3.0.3, section 4.7.15): how one property of a body is encoded.
 #[cycle(contents)]
 #[derive(Clone, Debug, PartialEq, Drop)]
 pub struct Encoding {
-    /// The media type of the property, a range of media types, or a list of both. Where it is not said, null is written.
+    /// The media type of the property, a media type range, or a list of both. `None` is written as `null`.
     pub content_type: Option<String>,
-    /// More about the property, as the headers of its part, or references to some, by names.
+    /// Headers with more information about the property, or references to some, by names.
     pub headers: OrderedMap<ReferenceOr<Header>>,
-    /// How the value of the property is written, as of a parameter in the query.
+    /// How the value of the property is serialized, as for a query parameter.
     pub style: Option<QueryStyle>,
-    /// Whether each element or member of the value is a parameter of its own. False by default here, as in the Rust
-    /// crate, though OpenAPI has true by default for `form`.
+    /// Whether each item or member of the value is a parameter of its own. False by default here, as in the Rust crate,
+    /// although OpenAPI has true by default for `form`.
     pub explode: bool,
-    /// Whether reserved characters of RFC 3986 may stand in the value as they are. False by default.
+    /// Whether the value may contain reserved characters of RFC 3986 without escapes. False by default.
     pub allow_reserved: bool,
     /// Extensions: the members whose names begin with `x-`, in their order.
     pub extensions: OrderedMap<Node>,
@@ -35,7 +35,7 @@ pub struct Encoding {
 impl Encoding {
     ghost use Rattle.openapi_media_types.specs.declared.encoding.Encoding.{out-Encoding};
 
-    /// What nothing is said of.
+    /// Creates an encoding with both flags false; every other field is `None` or empty.
     pub fn new(alloc: Global) -> Encoding
         ensures content_type { (out-Encoding result).content_type ≡ None }
         ensures headers { (out-Encoding result).headers ≡ [] }

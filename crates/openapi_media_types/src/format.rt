@@ -13,18 +13,18 @@ use openapi_schema::Schema;
 use openapi_values::ReferenceOr;
 use std::alloc::Global;
 
-/// What a parameter (OpenAPI 3.0.3, section 4.7.12) or a header is like: OpenAPI wants either a `schema` or a `content`.
-/// An object that has both is read by the one that stands first in it.
+/// The description of a parameter (OpenAPI 3.0.3, section 4.7.12) or a header: a `schema` or a `content`. OpenAPI
+/// allows only one of the two; of an object with both, the first one is read.
 #[cycle(contents)]
 #[derive(Clone, Debug, PartialEq, Drop)]
 pub enum ParameterSchemaOrContent {
     /// `schema`: the schema of the type, or a reference to one.
     Schema(ReferenceOr<Schema>),
-    /// `content`: the media type, with what describes it. OpenAPI wants exactly one entry, which is not checked.
+    /// `content`: the media type with its description. OpenAPI requires exactly one entry (not checked).
     Content(Content),
 }
 
-/// The name of the member that a parameter or a header is described by.
+/// Returns the name of the member that describes a parameter or a header: `schema` or `content`.
 pub fn format_name(format: &ParameterSchemaOrContent) -> &'static str
     ensures { result.now ≡ deciding_name (format_form format.now) }
 {

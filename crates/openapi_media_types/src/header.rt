@@ -18,24 +18,24 @@ use openapi_node::{Node, OrderedMap, Result, Steps, View};
 use openapi_values::{HeaderStyle, ReferenceOr};
 use std::alloc::Global;
 
-/// The Header Object (OpenAPI 3.0.3, section 4.7.21): a header of a response or of a part of a body. It is described as a
-/// parameter in a header is, but for its name, which stands before it.
+/// The Header Object (OpenAPI 3.0.3, section 4.7.21): a header of a response or of a part of a body. It is like a
+/// header parameter without a name: its name is the key in a map.
 #[cycle(contents)]
 #[derive(Clone, Debug, PartialEq, Drop)]
 pub struct Header {
     /// A description of the header, in CommonMark.
     pub description: Option<String>,
-    /// How the value is written in the header. `simple` by default, which is written too.
+    /// How the value is serialized. `simple` by default; the default is written too.
     pub style: HeaderStyle,
-    /// Whether the header has to be there. False by default.
+    /// Whether the header is required. False by default.
     pub required: bool,
     /// Whether the header should no longer be used.
     pub deprecated: Option<bool>,
-    /// An example of the value. It excludes `examples`, which is not checked.
+    /// An example of the value. Mutually exclusive with `examples` (not checked).
     pub example: Option<Node>,
-    /// What the value is like: `schema` or `content`. Required here, as in the Rust crate.
+    /// The description of the value: `schema` or `content`. Required here, as in the Rust crate.
     pub format: ParameterSchemaOrContent,
-    /// Examples of the value, or references to some, by names. They exclude `example`, which is not checked.
+    /// Examples of the value, or references to some, by names. Mutually exclusive with `example` (not checked).
     pub examples: OrderedMap<ReferenceOr<Example>>,
     /// Extensions: the members whose names begin with `x-`, in their order.
     pub extensions: OrderedMap<Node>,
@@ -45,7 +45,8 @@ impl Header {
     ghost use Rattle.openapi_media_types.specs.declared.header.Header.{out-Header};
     ghost use Rattle.openapi_values.specs.declared.parameter.HeaderStyle.TheVariants.{Simple};
 
-    /// Creates a header that is not required, described by a schema or by its content. The style is the default one.
+    /// Creates a header that is not required, with a schema or a content and the default style. Every other field is
+    /// `None` or empty.
     pub fn new(alloc: Global, format: ParameterSchemaOrContent) -> Header
         ensures description { (out-Header result).description ≡ None }
         ensures style { (out-Header result).style ≡ Simple }
@@ -99,8 +100,12 @@ impl Referable for Header {
     ghost spares_ref = { header_spares };
 }
 
-/// Reads a header or a reference to one. Err names a rule that the tree breaks, at its place, or says that memory ran
-/// out.
+/// Reads a header or a reference to one.
+///
+/// # Errors
+///
+/// Returns a [`Fault`](openapi_node::Fault) with a rule that the value breaks and the location where it does. An
+/// allocation failure has [`Cause::Memory`](openapi_node::Cause::Memory) and the empty location.
 pub fn header_ref_from_node(
     alloc: Global,
     node: &Node,
@@ -114,8 +119,13 @@ pub fn header_ref_from_node(
     ReferenceOr::from_node(alloc, node, steps)
 }
 
-/// Writes a header or a reference to one. Err at a name of an extension that does not begin with `x-`, or for want of
-/// memory.
+/// Writes a header or a reference to one.
+///
+/// # Errors
+///
+/// Returns a [`Fault`](openapi_node::Fault) with [`Cause::NameNotWritable`](openapi_node::Cause::NameNotWritable) at an
+/// extension whose name does not begin with `x-`. An allocation failure has
+/// [`Cause::Memory`](openapi_node::Cause::Memory) and the empty location.
 pub fn header_ref_to_node(alloc: Global, value: &ReferenceOr<Header>) -> Result<Node>
     ensures { WrittenAs (ref_to (by header)) (reference_form header_form value.now) result }
 {

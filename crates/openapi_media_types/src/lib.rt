@@ -1,5 +1,6 @@
 #![tactic(auto)]
-//! What is sent in headers and bodies, by OpenAPI 3.0.3: Header, Media Type and Encoding Objects, which hold one another.
+//! The content of headers and bodies, by OpenAPI 3.0.3: Header, Media Type and Encoding Objects, which contain one
+//! another.
 mod encoding;
 mod format;
 mod header;

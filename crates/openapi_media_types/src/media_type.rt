@@ -19,29 +19,29 @@ use openapi_schema::Schema;
 use openapi_values::ReferenceOr;
 use std::alloc::Global;
 
-/// What a parameter, a header, a body or a response holds: Media Type Objects by their media types or ranges of these.
+/// The content of a parameter, a header, a body or a response: Media Type Objects by media types or media type ranges.
 pub type Content = OrderedMap<MediaType>;
 
-/// The Media Type Object (OpenAPI 3.0.3, section 4.7.14): what is sent as one media type.
+/// The Media Type Object (OpenAPI 3.0.3, section 4.7.14): the content for one media type.
 #[cycle(contents)]
 #[derive(Clone, Debug, PartialEq, Drop)]
 pub struct MediaType {
-    /// An example of what is sent. It excludes `examples`, which is not checked.
+    /// An example of the content. Mutually exclusive with `examples` (not checked).
     pub example: Option<Node>,
-    /// Examples of what is sent, or references to some, by names. They exclude `example`, which is not checked.
+    /// Examples of the content, or references to some, by names. Mutually exclusive with `example` (not checked).
     pub examples: OrderedMap<ReferenceOr<Example>>,
-    /// How the properties of the schema are encoded, by their names.
+    /// How the properties of the schema are encoded, by the names of the properties.
     pub encoding: OrderedMap<Encoding>,
     /// Extensions: the members whose names begin with `x-`, in their order.
     pub extensions: OrderedMap<Node>,
-    /// The schema of what is sent, or a reference to one.
+    /// The schema of the content, or a reference to one.
     pub schema: Option<ReferenceOr<Schema>>,
 }
 
 impl MediaType {
     ghost use Rattle.openapi_media_types.specs.declared.media_type.MediaType.{out-MediaType};
 
-    /// Nothing of what is sent.
+    /// Creates an empty `MediaType`; every field is `None` or empty.
     pub fn new(alloc: Global) -> MediaType
         ensures schema { (out-MediaType result).schema ≡ None }
         ensures example { (out-MediaType result).example ≡ None }
@@ -85,8 +85,12 @@ impl ToNode for MediaType {
     ghost there = { λ x. refl };
 }
 
-/// Reads a content: an object whose members are all Media Type Objects. Err names a rule that the tree breaks, at its
-/// place, or says that memory ran out.
+/// Reads a content: an object whose members are all Media Type Objects.
+///
+/// # Errors
+///
+/// Returns a [`Fault`](openapi_node::Fault) with a rule that the value breaks and the location where it does. An
+/// allocation failure has [`Cause::Memory`](openapi_node::Cause::Memory) and the empty location.
 pub fn content_from_node(alloc: Global, node: &Node, steps: &mut Steps) -> Result<Content>
     ensures reads { ReadAs (map_form media_type_form) result content node.now }
     ensures refuses { Refuses result content node.now }
@@ -96,7 +100,13 @@ pub fn content_from_node(alloc: Global, node: &Node, steps: &mut Steps) -> Resul
     Content::from_node(alloc, node, steps)
 }
 
-/// Writes a content. Err at a name of an extension that does not begin with `x-`, or for want of memory.
+/// Writes a content.
+///
+/// # Errors
+///
+/// Returns a [`Fault`](openapi_node::Fault) with [`Cause::NameNotWritable`](openapi_node::Cause::NameNotWritable) at an
+/// extension whose name does not begin with `x-`. An allocation failure has
+/// [`Cause::Memory`](openapi_node::Cause::Memory) and the empty location.
 pub fn content_to_node(alloc: Global, value: &Content) -> Result<Node>
     ensures { WrittenAs content (map_form media_type_form value.now) result }
 {

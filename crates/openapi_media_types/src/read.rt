@@ -1,7 +1,7 @@
 #![tactic(auto, unfolding(openapi_tables::specs::Tables::final_tables, openapi_tables::specs::Tables::tables_with))]
-//! How headers and contents are read. The functions are mutually recursive: a header may hold a content, a content
-//! holds media types, these hold encodings, and these hold headers. Each gets a smaller part of the tree in the end. A
-//! value is looked at once, and handed down as the view of that look.
+//! Readers of headers and contents. The functions are mutually recursive: a header may have a content, a content has
+//! media types, these have encodings, and these have headers. Each call gets a smaller part of the JSON value in the
+//! end. A value is opened once, and passed on as its view.
 ghost use Rattle.std.specs.Prelude.{◌≡◌, ◌+◌, ◌*◌, ◌≤◌, Some, codes};
 ghost use Rattle.openapi_node.specs.Tree.{members_of, members_size, object, size_of};
 ghost use Rattle.openapi_node.specs.View.{shown};
@@ -80,8 +80,13 @@ fn header_of(alloc: Global, members: &Members, steps: &mut Steps) -> Result<Head
     })
 }
 
-/// Reads what a parameter or a header is like, among the members of an object: `schema` or `content`. Where both are
-/// there, the one that stands first decides, and the other one is not looked at.
+/// Reads the description of a parameter or a header among the members of an object: `schema` or `content`. If both are
+/// present, the first one decides, and the other one is not read.
+///
+/// # Errors
+///
+/// Returns a [`Fault`](openapi_node::Fault) with a rule that the object breaks and the location where it does. An
+/// allocation failure has [`Cause::Memory`](openapi_node::Cause::Memory) and the empty location.
 #[cycle(read)]
 pub fn read_format(
     alloc: Global,

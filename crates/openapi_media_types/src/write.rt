@@ -72,7 +72,13 @@ fn header_members(alloc: Global, header: &Header) -> Result<Members>
     Ok(out)
 }
 
-/// Writes what a parameter or a header is described by, to stand under its name ([`format_name`]).
+/// Writes the description of a parameter or a header: the value of the member with the name [`format_name`].
+///
+/// # Errors
+///
+/// Returns a [`Fault`](openapi_node::Fault) with [`Cause::NameNotWritable`](openapi_node::Cause::NameNotWritable) at an
+/// extension whose name does not begin with `x-`. An allocation failure has
+/// [`Cause::Memory`](openapi_node::Cause::Memory) and the empty location.
 #[cycle(write)]
 pub fn write_format(alloc: Global, format: &ParameterSchemaOrContent) -> Result<Node>
     ensures { WrittenAs (cond (same_text (codes "schema") (deciding_name (format_form format.now))) schema_ref content)

@@ -21,7 +21,7 @@ pub struct Contact {
 }
 
 impl Contact {
-    /// Empty texts, lists and maps, and nothing else.
+    /// Creates an empty `Contact`; every field is `None` or empty.
     pub fn new(alloc: Global) -> Contact
         ensures name { result.name ≡ None }
         ensures url { result.url ≡ None }

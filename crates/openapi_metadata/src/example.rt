@@ -20,17 +20,17 @@ pub struct Example {
     pub summary: Option<String>,
     /// A long description of the example, in CommonMark.
     pub description: Option<String>,
-    /// The URL of the literal example, where it can't well stand in a JSON document. It excludes `value`, which is not
-    /// checked.
+    /// The URL of the literal example, for values that JSON text can't hold well. Mutually exclusive with `value` (not
+    /// checked).
     pub external_value: Option<String>,
     /// Extensions: the members whose names begin with `x-`, in their order.
     pub extensions: OrderedMap<Node>,
-    /// The example itself, a literal value. It excludes `external_value`, which is not checked.
+    /// The example itself, a literal value. Mutually exclusive with `external_value` (not checked).
     pub value: Option<Node>,
 }
 
 impl Example {
-    /// Empty texts, lists and maps, and nothing else.
+    /// Creates an empty `Example`; every field is `None` or empty.
     pub fn new(alloc: Global) -> Example
         ensures summary { result.summary ≡ None }
         ensures description { result.description ≡ None }
@@ -80,8 +80,12 @@ impl Referable for Example {
     ghost spares_ref = { example_spares };
 }
 
-/// Reads an example or a reference to one. Err names a rule that the tree breaks, at its place, or says that memory ran
-/// out.
+/// Reads an example or a reference to one.
+///
+/// # Errors
+///
+/// Returns a [`Fault`](openapi_node::Fault) with a rule that the value breaks and the location where it does. An
+/// allocation failure has [`Cause::Memory`](openapi_node::Cause::Memory) and the empty location.
 pub fn example_ref_from_node(
     alloc: Global,
     node: &Node,
@@ -95,8 +99,13 @@ pub fn example_ref_from_node(
     ReferenceOr::from_node(alloc, node, steps)
 }
 
-/// Writes an example or a reference to one. Err at a name of an extension that does not begin with `x-`, or for want of
-/// memory.
+/// Writes an example or a reference to one.
+///
+/// # Errors
+///
+/// Returns a [`Fault`](openapi_node::Fault) with [`Cause::NameNotWritable`](openapi_node::Cause::NameNotWritable) at an
+/// extension whose name does not begin with `x-`. An allocation failure has
+/// [`Cause::Memory`](openapi_node::Cause::Memory) and the empty location.
 pub fn example_ref_to_node(alloc: Global, value: &ReferenceOr<Example>) -> Result<Node>
     ensures { WrittenAs (ref_to (by example)) (reference_form (record_form example_rows) value.now) result }
 {

@@ -29,7 +29,7 @@ pub struct Info {
 }
 
 impl Info {
-    /// Empty texts, lists and maps, and nothing else.
+    /// Creates an empty `Info`; every field is `None` or empty.
     pub fn new(alloc: Global) -> Info
         ensures title { string_bytes result.title ≡ [] }
         ensures description { result.description ≡ None }

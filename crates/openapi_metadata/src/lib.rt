@@ -1,5 +1,5 @@
 #![tactic(auto, unfolding(openapi_tables::specs::Tables::final_tables, openapi_tables::specs::Tables::tables_with))]
-//! The objects of OpenAPI 3.0 documents that hold no schema, read from trees and written as trees.
+//! The objects of OpenAPI 3.0 documents that hold no schema, read from JSON values and written as JSON values.
 mod contact;
 mod example;
 mod info;

@@ -19,7 +19,7 @@ pub struct License {
 }
 
 impl License {
-    /// Empty texts, lists and maps, and nothing else.
+    /// Creates an empty `License`; every field is `None` or empty.
     pub fn new(alloc: Global) -> License
         ensures name { string_bytes result.name ≡ [] }
         ensures url { result.url ≡ None }

@@ -18,26 +18,26 @@ use openapi_node::{Members, Node, OrderedMap, Result, Steps};
 use openapi_values::ReferenceOr;
 use std::alloc::Global;
 
-/// The Link Object (OpenAPI 3.0.3, section 4.7.20): an operation that may follow a response, and how what the response
-/// gives is handed to it.
+/// The Link Object (OpenAPI 3.0.3, section 4.7.20): an operation that may follow a response, and the values that are
+/// passed to it.
 #[derive(Clone, Debug, PartialEq, Drop)]
 pub struct Link {
     /// A description of the link, in CommonMark.
     pub description: Option<String>,
-    /// The operation that is linked to: `operationRef` or `operationId`. Required here, as in the Rust crate.
+    /// The linked operation: `operationRef` or `operationId`. Required here, as in the Rust crate.
     pub operation: LinkOperation,
-    /// Literal values or runtime expressions to be passed to the operation, by the names of its parameters.
+    /// Literal values or runtime expressions that are passed to the operation, by the names of its parameters.
     pub parameters: OrderedMap<Node>,
     /// Extensions: the members whose names begin with `x-`, in their order.
     pub extensions: OrderedMap<Node>,
-    /// A literal value or a runtime expression to be sent as the request body of the operation.
+    /// A literal value or a runtime expression that is sent as the request body of the operation.
     pub request_body: Option<Node>,
-    /// The server to be used for the operation.
+    /// The server of the operation.
     pub server: Option<Server>,
 }
 
 impl Link {
-    /// Creates a link to an operation, which is required. Everything else is `None` or empty.
+    /// Creates a link to an operation; every other field is `None` or empty.
     pub fn new(alloc: Global, operation: LinkOperation) -> Link
         ensures description { result.description ≡ None }
         ensures operation { result.operation ≡ operation }
@@ -91,8 +91,12 @@ impl Referable for Link {
     ghost spares_ref = { link_spares };
 }
 
-/// Reads a link or a reference to one. Err names a rule that the tree breaks, at its place, or says that memory ran
-/// out.
+/// Reads a link or a reference to one.
+///
+/// # Errors
+///
+/// Returns a [`Fault`](openapi_node::Fault) with a rule that the value breaks and the location where it does. An
+/// allocation failure has [`Cause::Memory`](openapi_node::Cause::Memory) and the empty location.
 pub fn link_ref_from_node(
     alloc: Global,
     node: &Node,
@@ -106,8 +110,13 @@ pub fn link_ref_from_node(
     ReferenceOr::from_node(alloc, node, steps)
 }
 
-/// Writes a link or a reference to one. Err at a name of an extension that does not begin with `x-`, or for want of
-/// memory.
+/// Writes a link or a reference to one.
+///
+/// # Errors
+///
+/// Returns a [`Fault`](openapi_node::Fault) with [`Cause::NameNotWritable`](openapi_node::Cause::NameNotWritable) at an
+/// extension whose name does not begin with `x-`. An allocation failure has
+/// [`Cause::Memory`](openapi_node::Cause::Memory) and the empty location.
 pub fn link_ref_to_node(alloc: Global, value: &ReferenceOr<Link>) -> Result<Node>
     ensures { WrittenAs (ref_to (by link)) (reference_form (record_form link_rows) value.now) result }
 {

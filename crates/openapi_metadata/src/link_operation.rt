@@ -12,8 +12,8 @@ use openapi_fields::{Either, HasSlots, Object, Record, decided, put_first, put_s
 use openapi_node::{Members, Node, Result, Steps};
 use std::alloc::Global;
 
-/// The operation that a Link Object (OpenAPI 3.0.3, section 4.7.20) leads to. OpenAPI lets a link name it in one way only;
-/// an object that names it in both is read by the name that stands first in it.
+/// The operation to which a Link Object (OpenAPI 3.0.3, section 4.7.20) leads. OpenAPI allows a link only one of the
+/// two names; of an object with both, the first one is read.
 #[derive(Clone, Debug, PartialEq, Drop)]
 pub enum LinkOperation {
     /// `operationRef`: a relative or absolute URI reference to an operation.
@@ -65,7 +65,7 @@ pub(crate) fn put_operation<R: HasSlots>(
     }
 }
 
-/// An object is read by the first of its members that is called `operationRef` or `operationId`, and written with one member.
+/// Of an object with both members `operationRef` and `operationId`, the first one is read; one member is written.
 impl Object for LinkOperation {
     ghost table = { link_operation };
 

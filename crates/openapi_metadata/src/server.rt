@@ -11,19 +11,18 @@ use std::alloc::Global;
 /// The Server Object (OpenAPI 3.0.3, section 4.7.5): a server that offers the API.
 #[derive(Clone, Debug, PartialEq, Drop)]
 pub struct Server {
-    /// The URL of the target host, which may be relative to the document. Names of variables stand in it in braces.
-    /// Required.
+    /// The URL of the target host, which may be relative to the document. Variable names are in braces. Required.
     pub url: String,
     /// A description of the host, in CommonMark.
     pub description: Option<String>,
-    /// The server variables by their names, whose values are put into the URL.
+    /// The server variables by their names; their values are substituted into the URL.
     pub variables: Option<OrderedMap<ServerVariable>>,
     /// Extensions: the members whose names begin with `x-`, in their order.
     pub extensions: OrderedMap<Node>,
 }
 
 impl Server {
-    /// Empty texts, lists and maps, and nothing else.
+    /// Creates an empty `Server`; every field is `None` or empty.
     pub fn new(alloc: Global) -> Server
         ensures url { string_bytes result.url ≡ [] }
         ensures description { result.description ≡ None }

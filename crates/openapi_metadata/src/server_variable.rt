@@ -10,9 +10,9 @@ use std::alloc::Global;
 /// The Server Variable Object (OpenAPI 3.0.3, section 4.7.6): a variable of the URL of a server.
 #[derive(Clone, Debug, PartialEq, Drop)]
 pub struct ServerVariable {
-    /// `enum`: the values that the variable is limited to. Empty where any value may be put in.
+    /// `enum`: the values that the variable is limited to. Empty if any value is allowed.
     pub enumeration: Vec<String>,
-    /// The value that is put in where none is supplied. Required.
+    /// The value that is used if none is supplied. Required.
     pub default: String,
     /// A description of the server variable, in CommonMark.
     pub description: Option<String>,
@@ -21,7 +21,7 @@ pub struct ServerVariable {
 }
 
 impl ServerVariable {
-    /// Empty texts, lists and maps, and nothing else.
+    /// Creates an empty `ServerVariable`; every field is `None` or empty.
     pub fn new(alloc: Global) -> ServerVariable
         ensures enumeration { result.enumeration.items ≡ [] }
         ensures default { string_bytes result.default ≡ [] }

@@ -11,7 +11,7 @@ use std::alloc::Global;
 /// The Tag Object (OpenAPI 3.0.3, section 4.7.22): metadata of a tag by which operations are grouped.
 #[derive(Clone, Debug, PartialEq, Drop)]
 pub struct Tag {
-    /// The name of the tag, by which operations name it. Required.
+    /// The name of the tag, by which operations refer to it. Required.
     pub name: String,
     /// A description of the tag, in CommonMark.
     pub description: Option<String>,
@@ -22,7 +22,7 @@ pub struct Tag {
 }
 
 impl Tag {
-    /// Empty texts, lists and maps, and nothing else.
+    /// Creates an empty `Tag`; every field is `None` or empty.
     pub fn new(alloc: Global) -> Tag
         ensures name { string_bytes result.name ≡ [] }
         ensures description { result.description ≡ None }

@@ -1,5 +1,5 @@
 #![tactic(auto)]
-//! The parameters of operations, by OpenAPI 3.0.3: the Parameter Object, told apart by the place that a parameter is in.
+//! The parameters of operations, by OpenAPI 3.0.3: the Parameter Object, with a variant for each location.
 mod location;
 mod parameter;
 mod parameter_data;

@@ -20,42 +20,42 @@ use openapi_node::{Cause, Expected, Fault, Node, OrderedMap, Result, Steps, View
 use openapi_values::{CookieStyle, HeaderStyle, PathStyle, QueryStyle, ReferenceOr};
 use std::alloc::Global;
 
-/// The Parameter Object (OpenAPI 3.0.3, section 4.7.12): one parameter of an operation. Its `in` says where it is. A
-/// style is written also where it is the default one.
+/// The Parameter Object (OpenAPI 3.0.3, section 4.7.12): one parameter of an operation. The variants are the values of
+/// its `in`. A default style is written too.
 #[derive(Clone, Debug, PartialEq, Drop)]
 pub enum Parameter {
-    /// `query`: in the query of the URL, as `id` in `/items?id=7`.
+    /// `query`: in the query of the URL, such as `id` in `/items?id=7`.
     Query {
-        /// What parameters of all places have.
+        /// The fields that parameters of all locations have.
         parameter_data: ParameterData,
-        /// `allowReserved`: whether the value may have the reserved characters of RFC 3986 as they are. False by
+        /// `allowReserved`: whether the value may contain reserved characters of RFC 3986 without escapes. False by
         /// default.
         allow_reserved: bool,
-        /// How the value is written. `form` by default.
+        /// How the value is serialized. `form` by default.
         style: QueryStyle,
-        /// `allowEmptyValue`: whether the parameter may be sent with an empty value. It is false by default, and
-        /// OpenAPI advises against its use.
+        /// `allowEmptyValue`: whether the parameter may be sent with an empty value. False by default. OpenAPI advises
+        /// against its use.
         allow_empty_value: Option<bool>,
     },
-    /// `header`: in a header of the request, in whose name capitals do not count.
+    /// `header`: in a header of the request, whose name is case-insensitive.
     Header {
-        /// What parameters of all places have.
+        /// The fields that parameters of all locations have.
         parameter_data: ParameterData,
-        /// How the value is written. `simple` by default, the only one.
+        /// How the value is serialized. `simple` by default, the only one.
         style: HeaderStyle,
     },
-    /// `path`: in the path of the URL, as `id` in `/items/{id}`.
+    /// `path`: in the path of the URL, such as `id` in `/items/{id}`.
     Path {
-        /// What parameters of all places have.
+        /// The fields that parameters of all locations have.
         parameter_data: ParameterData,
-        /// How the value is written. `simple` by default.
+        /// How the value is serialized. `simple` by default.
         style: PathStyle,
     },
     /// `cookie`: in a cookie that is sent.
     Cookie {
-        /// What parameters of all places have.
+        /// The fields that parameters of all locations have.
         parameter_data: ParameterData,
-        /// How the value is written. `form` by default, the only one.
+        /// How the value is serialized. `form` by default, the only one.
         style: CookieStyle,
     },
 }
@@ -89,7 +89,7 @@ impl Parameter {
         }
     }
 
-    /// Creates a parameter in the path of the URL, in the default style. It is required, as OpenAPI wants it.
+    /// Creates a parameter in the path of the URL, in the default style. It is required, as OpenAPI demands.
     pub fn path(parameter_data: ParameterData) -> Parameter
         ensures { result ≡ parameters.Path (record parameter_data { required = true }) path_styles.Simple }
     {
@@ -111,7 +111,7 @@ impl Parameter {
         }
     }
 
-    /// What the parameter has as those of all places have it. The rest is dropped.
+    /// Returns the fields that parameters of all locations have. The other ones are dropped.
     pub fn parameter_data(self) -> ParameterData
         ensures { result ≡ data_of_parameter self }
     {
@@ -123,7 +123,7 @@ impl Parameter {
         }
     }
 
-    /// What the parameter has as those of all places have it.
+    /// Returns a reference to the fields that parameters of all locations have.
     pub fn parameter_data_ref(&self) -> &ParameterData
         ensures { result.now ≡ data_of_parameter self.now }
     {
@@ -182,8 +182,12 @@ impl Referable for Parameter {
     ghost spares_ref = { parameter_spares };
 }
 
-/// Reads a parameter or a reference to one. Err names a rule that the tree breaks, at its place, or says that memory ran
-/// out.
+/// Reads a parameter or a reference to one.
+///
+/// # Errors
+///
+/// Returns a [`Fault`](openapi_node::Fault) with a rule that the value breaks and the location where it does. An
+/// allocation failure has [`Cause::Memory`](openapi_node::Cause::Memory) and the empty location.
 pub fn parameter_ref_from_node(
     alloc: Global,
     node: &Node,
@@ -197,8 +201,13 @@ pub fn parameter_ref_from_node(
     ReferenceOr::from_node(alloc, node, steps)
 }
 
-/// Writes a parameter or a reference to one. Err at a name of an extension that does not begin with `x-`, or for want of
-/// memory.
+/// Writes a parameter or a reference to one.
+///
+/// # Errors
+///
+/// Returns a [`Fault`](openapi_node::Fault) with [`Cause::NameNotWritable`](openapi_node::Cause::NameNotWritable) at an
+/// extension whose name does not begin with `x-`. An allocation failure has
+/// [`Cause::Memory`](openapi_node::Cause::Memory) and the empty location.
 pub fn parameter_ref_to_node(alloc: Global, value: &ReferenceOr<Parameter>) -> Result<Node>
     ensures { WrittenAs (ref_to parameter) (reference_form parameter_form value.now) result }
 {

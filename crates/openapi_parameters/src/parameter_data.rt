@@ -1,4 +1,4 @@
-//! What parameters of all places have.
+//! The fields that parameters of all locations have.
 ghost use Rattle.std.specs.Prelude.{◌≡◌, [], None, false};
 ghost use Rattle.openapi_tables.specs.Kind.{parameter_data};
 ghost use Rattle.openapi_parameters.specs.Parameters.{parameter_data_rows};
@@ -12,35 +12,35 @@ use openapi_node::{Members, Node, OrderedMap, Result, Steps};
 use openapi_values::ReferenceOr;
 use std::alloc::Global;
 
-/// What a Parameter Object (OpenAPI 3.0.3, section 4.7.12) has wherever its parameter is: all but `in`, `style`, and
-/// what stands in a query alone.
+/// The fields that a Parameter Object (OpenAPI 3.0.3, section 4.7.12) has at all locations: all but `in`, `style` and
+/// those of queries alone.
 #[derive(Clone, Debug, PartialEq, Drop)]
 pub struct ParameterData {
-    /// The name of the parameter, in which capitals count: in a path the name of a part of its template, in a header
-    /// that of the header. Required.
+    /// The name of the parameter, which is case-sensitive. In a path it is the name of a template expression, and in a
+    /// header that of the header. Required.
     pub name: String,
     /// A description of the parameter, in CommonMark.
     pub description: Option<String>,
-    /// Whether the parameter has to be there. False by default. OpenAPI wants it true in a path, which is not checked.
+    /// Whether the parameter is required. False by default. OpenAPI requires true in a path (not checked).
     pub required: bool,
     /// Whether the parameter should no longer be used.
     pub deprecated: Option<bool>,
-    /// An example of the value. It excludes `examples`, which is not checked.
+    /// An example of the value. Mutually exclusive with `examples` (not checked).
     pub example: Option<Node>,
-    /// Examples of the value, or references to some, by names. They exclude `example`, which is not checked.
+    /// Examples of the value, or references to some, by names. Mutually exclusive with `example` (not checked).
     pub examples: OrderedMap<ReferenceOr<Example>>,
-    /// Whether each element of a list and each member of an object is sent as a parameter of its own. By default it is
-    /// where the style is `form`, and is not where it is another.
+    /// Whether each item of an array and each member of an object is a parameter of its own. By default true for the
+    /// style `form`, and false for others.
     pub explode: Option<bool>,
     /// Extensions: the members whose names begin with `x-`, in their order.
     pub extensions: OrderedMap<Node>,
-    /// What the value is like: `schema` or `content`. Required here, as in the Rust crate.
+    /// The description of the value: `schema` or `content`. Required here, as in the Rust crate.
     pub format: ParameterSchemaOrContent,
 }
 
 impl ParameterData {
-    /// Creates what a parameter has wherever it is: its name, and the schema or the content that describes it. It is not
-    /// required. Everything else is `None` or empty.
+    /// Creates the fields of a parameter that is not required, with its name and its schema or content. Every other
+    /// field is `None` or empty.
     pub fn new(alloc: Global, name: String, format: ParameterSchemaOrContent) -> ParameterData
         ensures name { result.name ≡ name }
         ensures description { result.description ≡ None }

@@ -1,4 +1,4 @@
-//! Documents, of which references are resolved.
+//! Documents whose references are resolved.
 ghost use Rattle.std.specs.Prelude.{◌≡◌, ◌≢◌, None, Some, IfOk, IfErr};
 ghost use Rattle.openapi_resolve.specs.Resolved.{component_of};
 ghost use Rattle.openapi_resolve.specs.declared.error.ResolveError.TheVariants.{OutOfMemory};
@@ -9,7 +9,7 @@ use crate::error::ResolveError;
 use openapi_documents::OpenAPI;
 use openapi_values::ReferenceOr;
 
-/// What has components to which references lead: a document.
+/// A document whose references are resolved to its components.
 pub trait Resolve {
     ghost use Rattle.std.specs.Prelude.{◌≡◌, ◌≢◌, None, Some, IfOk, IfErr, Option};
     ghost use Rattle.openapi_documents.specs.declared.components.Components.{Components};
@@ -20,8 +20,8 @@ pub trait Resolve {
     /// The components, if there are any.
     ghost components_of: { Self → Option Components };
 
-    /// Returns the component to which a reference leads, such as `#/components/schemas/Pet`. A reference in the place of the component is
-    /// followed.
+    /// Returns the component to which a reference such as `#/components/schemas/Pet` leads. If the component is itself
+    /// a reference, that one is followed.
     ///
     /// # Errors
     ///
@@ -33,7 +33,7 @@ pub trait Resolve {
         ensures missing { IfErr result (λ e. e ≢ OutOfMemory
             → component_of T.the_section (components_of self.now) reference.now ≡ None) };
 
-    /// Returns the item, or the component to which the reference in its place leads, as [`component`](Resolve::component) does.
+    /// Returns the item, or the component to which its reference leads, as [`component`](Resolve::component) does.
     ///
     /// # Errors
     ///
@@ -50,7 +50,7 @@ pub trait Resolve {
         }
     }
 
-    /// Returns the same of an item in a box, as the properties of a schema are.
+    /// Returns the boxed item, such as a property of a schema, or the component to which its reference leads.
     ///
     /// # Errors
     ///

@@ -2,13 +2,14 @@
 use std::alloc::AllocError;
 use std::fmt;
 
-/// Why a reference leads to no component. It prints as one line of text, with the chain of references that was followed.
+/// The reason why a reference was not resolved. It prints as one line of text, with the chain of references that was
+/// followed.
 #[derive(Debug, Drop, PartialEq)]
 pub enum ResolveError {
-    /// The last reference of the chain leads to no component of the kind that was expected: there is none of its name, it is of
-    /// another kind, or the reference is not of the form `#/components/SECTION/NAME`.
+    /// The last reference of the chain leads to no component of the expected kind. No component has its name, or the
+    /// component is of another kind, or the reference is not of the form `#/components/SECTION/NAME`.
     Missing(Vec<String>),
-    /// The last reference of the chain is one that is in it before.
+    /// The last reference of the chain is also an earlier one of it.
     Cycle(Vec<String>),
     /// An allocation failed.
     OutOfMemory,

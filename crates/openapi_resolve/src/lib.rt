@@ -1,7 +1,8 @@
 //! Resolving the references of an OpenAPI document to its components.
 //!
-//! [`Resolve::resolve`] returns the item of a [`ReferenceOr`], or the component to which the reference in its place leads. Local references
-//! of the form `#/components/SECTION/NAME` are resolved; those to other documents and to other parts of a document are not.
+//! [`Resolve::resolve`] returns the item of a [`ReferenceOr`], or the component to which its reference leads. Only
+//! local references of the form `#/components/SECTION/NAME` are resolved. References to other documents and to other
+//! parts of a document are not.
 //!
 //! [`ReferenceOr`]: openapi_values::ReferenceOr
 #![tactic(auto)]

@@ -1,6 +1,6 @@
 #![tactic(auto)]
-//! The bodies that are sent to operations and what operations answer, by OpenAPI 3.0.3: Request Body, Response and
-//! Responses Objects.
+//! The bodies of requests and the responses of operations, by OpenAPI 3.0.3: Request Body, Response and Responses
+//! Objects.
 mod codes;
 mod request_body;
 mod response;

@@ -16,22 +16,22 @@ use openapi_node::{Members, Node, OrderedMap, Result, Steps};
 use openapi_values::ReferenceOr;
 use std::alloc::Global;
 
-/// The Request Body Object (OpenAPI 3.0.3, section 4.7.13): what is sent to an operation in the body of a request.
+/// The Request Body Object (OpenAPI 3.0.3, section 4.7.13): the body of a request.
 #[derive(Clone, Debug, PartialEq, Drop)]
 pub struct RequestBody {
     /// A description of the body, in CommonMark.
     pub description: Option<String>,
-    /// What the body may hold, by media types or ranges of these. Required by OpenAPI; here a missing one is empty, as in
-    /// the Rust crate.
+    /// The content of the body, by media types or media type ranges. OpenAPI requires it; here a missing one is empty,
+    /// as in the Rust crate.
     pub content: Content,
-    /// Whether the body has to be sent. False by default.
+    /// Whether the body is required. False by default.
     pub required: bool,
     /// Extensions: the members whose names begin with `x-`, in their order.
     pub extensions: OrderedMap<Node>,
 }
 
 impl RequestBody {
-    /// No description, nothing that may be sent, and not required.
+    /// Creates a request body that is not required; every other field is `None` or empty.
     pub fn new(alloc: Global) -> RequestBody
         ensures description { result.description ≡ None }
         ensures content { result.content ≡ [] }
@@ -78,8 +78,12 @@ impl Referable for RequestBody {
     ghost spares_ref = { request_body_spares };
 }
 
-/// Reads a request body or a reference to one. Err names a rule that the tree breaks, at its place, or says that memory
-/// ran out.
+/// Reads a request body or a reference to one.
+///
+/// # Errors
+///
+/// Returns a [`Fault`](openapi_node::Fault) with a rule that the value breaks and the location where it does. An
+/// allocation failure has [`Cause::Memory`](openapi_node::Cause::Memory) and the empty location.
 pub fn request_body_ref_from_node(
     alloc: Global,
     node: &Node,
@@ -93,8 +97,13 @@ pub fn request_body_ref_from_node(
     ReferenceOr::from_node(alloc, node, steps)
 }
 
-/// Writes a request body or a reference to one. Err at a name of an extension that does not begin with `x-`, or for want
-/// of memory.
+/// Writes a request body or a reference to one.
+///
+/// # Errors
+///
+/// Returns a [`Fault`](openapi_node::Fault) with [`Cause::NameNotWritable`](openapi_node::Cause::NameNotWritable) at an
+/// extension whose name does not begin with `x-`. An allocation failure has
+/// [`Cause::Memory`](openapi_node::Cause::Memory) and the empty location.
 pub fn request_body_ref_to_node(alloc: Global, value: &ReferenceOr<RequestBody>) -> Result<Node>
     ensures { WrittenAs (ref_to (by request_body)) (reference_form (record_form request_body_rows) value.now) result }
 {

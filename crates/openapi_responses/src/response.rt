@@ -15,24 +15,24 @@ use openapi_node::{Members, Node, OrderedMap, Result, Steps};
 use openapi_values::ReferenceOr;
 use std::alloc::Global;
 
-/// The Response Object (OpenAPI 3.0.3, section 4.7.17): one answer of an operation.
+/// The Response Object (OpenAPI 3.0.3, section 4.7.17): one response of an operation.
 #[derive(Clone, Debug, PartialEq, Drop)]
 pub struct Response {
     /// A description of the response, in CommonMark. Required.
     pub description: String,
-    /// The headers of the response, or references to some, by their names. OpenAPI has `Content-Type` ignored among them;
-    /// it is kept here.
+    /// The headers of the response, or references to some, by their names. OpenAPI ignores `Content-Type` among them;
+    /// here it is kept.
     pub headers: OrderedMap<ReferenceOr<Header>>,
-    /// What the response may hold, by media types or ranges of these.
+    /// The content of the response, by media types or media type ranges.
     pub content: Content,
-    /// What may follow the response: links, or references to some, by short names.
+    /// Links to operations that may follow, or references to some, by short names.
     pub links: OrderedMap<ReferenceOr<Link>>,
     /// Extensions: the members whose names begin with `x-`, in their order.
     pub extensions: OrderedMap<Node>,
 }
 
 impl Response {
-    /// The empty description, and nothing else.
+    /// Creates an empty `Response`; every field is empty.
     pub fn new(alloc: Global) -> Response
         ensures description { string_bytes result.description ≡ [] }
         ensures headers { result.headers ≡ [] }
@@ -83,8 +83,12 @@ impl Referable for Response {
     ghost spares_ref = { response_spares };
 }
 
-/// Reads a response or a reference to one. Err names a rule that the tree breaks, at its place, or says that memory ran
-/// out.
+/// Reads a response or a reference to one.
+///
+/// # Errors
+///
+/// Returns a [`Fault`](openapi_node::Fault) with a rule that the value breaks and the location where it does. An
+/// allocation failure has [`Cause::Memory`](openapi_node::Cause::Memory) and the empty location.
 pub fn response_ref_from_node(
     alloc: Global,
     node: &Node,
@@ -98,8 +102,13 @@ pub fn response_ref_from_node(
     ReferenceOr::from_node(alloc, node, steps)
 }
 
-/// Writes a response or a reference to one. Err at a name of an extension that does not begin with `x-`, or for want of
-/// memory.
+/// Writes a response or a reference to one.
+///
+/// # Errors
+///
+/// Returns a [`Fault`](openapi_node::Fault) with [`Cause::NameNotWritable`](openapi_node::Cause::NameNotWritable) at an
+/// extension whose name does not begin with `x-`. An allocation failure has
+/// [`Cause::Memory`](openapi_node::Cause::Memory) and the empty location.
 pub fn response_ref_to_node(alloc: Global, value: &ReferenceOr<Response>) -> Result<Node>
     ensures { WrittenAs (ref_to (by response)) (reference_form (record_form response_rows) value.now) result }
 {

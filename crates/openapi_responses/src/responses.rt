@@ -11,22 +11,22 @@ use openapi_node::{Members, Node, OrderedMap, Result, Steps};
 use openapi_values::{ReferenceOr, StatusCode};
 use std::alloc::Global;
 
-/// The Responses Object (OpenAPI 3.0.3, section 4.7.16): the responses that an operation may give, by their status codes.
+/// The Responses Object (OpenAPI 3.0.3, section 4.7.16): the possible responses of an operation, by their status codes.
 #[derive(Clone, Debug, PartialEq, Drop)]
 pub struct Responses {
-    /// The response for the codes that are not listed, or a reference to one.
+    /// The response for all codes that are not listed, or a reference to one.
     pub default: Option<ReferenceOr<Response>>,
     /// Extensions: the members whose names begin with `x-`, in their order.
     pub extensions: OrderedMap<Node>,
-    /// The response, or a reference to one, for each status code or range of codes, in the order in which the codes came.
-    /// Of two names of one code, such as `2xx` and `2XX`, both values are checked, and the later one stands in the place of
-    /// the earlier. Any digit may begin a range, though OpenAPI lists `1XX` to `5XX` alone. A code can be written where its
-    /// text is read as it again: one of 100 to 999, or a range of one digit.
+    /// The response, or a reference to one, for each status code or range of codes, in their order. Of two names of one
+    /// code, such as `2xx` and `2XX`, both values are checked, and the later one replaces the earlier. A range may
+    /// begin with any digit, although OpenAPI lists only `1XX` to `5XX`. A code from 100 to 999 and a range of one
+    /// digit can be written; any other code would not be read again.
     pub responses: IndexMap<StatusCode, ReferenceOr<Response>>,
 }
 
 impl Responses {
-    /// No responses.
+    /// Creates an empty `Responses`; every field is `None` or empty.
     pub fn new(alloc: Global) -> Responses
         ensures default { result.default ≡ None }
         ensures responses { result.responses.entries ≡ [] }

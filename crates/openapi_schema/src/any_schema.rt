@@ -11,11 +11,11 @@ use openapi_node::{Members, Node, OrderedMap, Result, Steps, Whole};
 use openapi_values::ReferenceOr;
 use std::alloc::Global;
 
-/// A schema whose members fit no one kind: any combination of the members by which the kinds of schemas are told apart.
+/// A schema that is of none of the other kinds: any combination of their members.
 #[cycle(schema)]
 #[derive(Debug, PartialEq, Drop)]
 pub struct AnySchema {
-    /// `type`: any text.
+    /// `type`: any string.
     pub typ: Option<String>,
     /// A regular expression (ECMA 262) that a string has to match.
     pub pattern: Option<String>,
@@ -31,9 +31,9 @@ pub struct AnySchema {
     pub maximum: Option<Whole>,
     /// The schemas of the properties of an object, by their names.
     pub properties: OrderedMap<ReferenceOr<Box<Schema>>>,
-    /// The names of the properties that an object has to have.
+    /// The names of the required properties of an object.
     pub required: Vec<String>,
-    /// `additionalProperties`: whether an object may have other properties, or the schema that they have.
+    /// `additionalProperties`: whether an object may have other properties, or their schema.
     pub additional_properties: Option<AdditionalProperties>,
     /// The least number of properties of an object.
     pub min_properties: Option<usize>,
@@ -47,7 +47,7 @@ pub struct AnySchema {
     pub max_items: Option<usize>,
     /// Whether no two items of an array may be equal.
     pub unique_items: Option<bool>,
-    /// `enum`: the values that are allowed. Empty where any is.
+    /// `enum`: the values that are allowed. Empty if any value is.
     pub enumeration: Vec<Node>,
     /// The format of a string or a number.
     pub format: Option<String>,
@@ -55,20 +55,20 @@ pub struct AnySchema {
     pub min_length: Option<usize>,
     /// The greatest number of characters of a string.
     pub max_length: Option<usize>,
-    /// `oneOf`: exactly one of these schemas has to fit.
+    /// `oneOf`: exactly one of these schemas has to match.
     pub one_of: Vec<ReferenceOr<Schema>>,
-    /// `allOf`: all of these schemas have to fit.
+    /// `allOf`: all of these schemas have to match.
     pub all_of: Vec<ReferenceOr<Schema>>,
-    /// `anyOf`: at least one of these schemas has to fit.
+    /// `anyOf`: at least one of these schemas has to match.
     pub any_of: Vec<ReferenceOr<Schema>>,
-    /// This schema may not fit.
+    /// This schema must not match.
     pub not: Option<Box<ReferenceOr<Schema>>>,
 }
 
 impl AnySchema {
     ghost use Rattle.openapi_schema.specs.declared.any_schema.AnySchema.{out-AnySchema};
 
-    /// A schema that allows anything.
+    /// Creates an empty `AnySchema`, which allows any value; every field is `None` or empty.
     pub fn new(alloc: Global) -> AnySchema
         ensures typ { (out-AnySchema result).typ ≡ None }
         ensures pattern { (out-AnySchema result).pattern ≡ None }

@@ -1,6 +1,6 @@
-//! Clones of the types that hold schemas. They are written by hand, since a derived clone of a type that leads back to
-//! itself promises nothing. The functions are mutually recursive, as schemas hold schemas: each gets a smaller
-//! part of the schema in the end. An error says that memory was refused.
+//! Clones of the types that hold schemas. They are written by hand, since a derived clone of a recursive type has no
+//! contract. The functions are mutually recursive, as schemas contain schemas: each call gets a smaller part of the
+//! schema in the end. An error is an allocation failure.
 ghost use Rattle.std.specs.Prelude.{◌≡◌, IfOk, take, drop};
 ghost use Rattle.openapi_tables.specs.Form.{leaf};
 ghost use Rattle.openapi_fields.specs.Forms.{list_form, map_form, optional_form};

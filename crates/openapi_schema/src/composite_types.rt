@@ -16,9 +16,9 @@ use std::alloc::Global;
 pub struct ObjectType {
     /// The schemas of the properties, by their names.
     pub properties: OrderedMap<ReferenceOr<Box<Schema>>>,
-    /// The names of the properties that have to be there.
+    /// The names of the required properties.
     pub required: Vec<String>,
-    /// `additionalProperties`: whether other properties may be there, or the schema that they have. True by default.
+    /// `additionalProperties`: whether other properties are allowed, or their schema. True by default.
     pub additional_properties: Option<AdditionalProperties>,
     /// The least number of properties.
     pub min_properties: Option<usize>,
@@ -29,7 +29,7 @@ pub struct ObjectType {
 impl ObjectType {
     ghost use Rattle.openapi_schema.specs.declared.composite_types.ObjectType.{out-ObjectType};
 
-    /// Any object.
+    /// Creates the type of any object; every field is `None` or empty.
     pub fn new(alloc: Global) -> ObjectType
         ensures properties { (out-ObjectType result).properties ≡ [] }
         ensures required { (out-ObjectType result).required.items ≡ [] }
@@ -64,7 +64,7 @@ pub struct ArrayType {
 impl ArrayType {
     ghost use Rattle.openapi_schema.specs.declared.composite_types.ArrayType.{out-ArrayType};
 
-    /// Creates the type of arrays of any length whose items have a schema.
+    /// Creates the type of arrays of any length, with a schema for their items.
     pub fn new(items: ReferenceOr<Box<Schema>>) -> ArrayType
         ensures items { (out-ArrayType result).items ≡ Some items }
         ensures min_items { (out-ArrayType result).min_items ≡ None }

@@ -1,4 +1,4 @@
-//! The types of this crate that hold schemas, read from trees.
+//! The types of this crate that hold schemas, read from JSON values.
 ghost use Rattle.std.proofs.Common.{refl};
 ghost use Rattle.std.specs.Prelude.{◌≡◌, ◌+◌, ◌*◌, ◌≤◌, true};
 ghost use Rattle.openapi_node.specs.Tree.{size_of};
@@ -15,8 +15,13 @@ use openapi_node::{Cause, Expected, Fault, Node, Result, Steps, View};
 use openapi_values::ReferenceOr;
 use std::alloc::Global;
 
-/// Reads a schema in a box, or a reference to one. An object with a text under `$ref` is a reference, whatever else it
-/// has.
+/// Reads a boxed schema or a reference to one. An object with a string under `$ref` is a reference, whatever other
+/// members it has.
+///
+/// # Errors
+///
+/// Returns a [`Fault`](openapi_node::Fault) with a rule that the value breaks and the location where it does. An
+/// allocation failure has [`Cause::Memory`](openapi_node::Cause::Memory) and the empty location.
 pub fn boxed_schema_ref_from_node(
     alloc: Global,
     node: &Node,
@@ -52,7 +57,7 @@ impl Referable for Schema {
     ghost spares_ref = { refl };
 }
 
-/// The kind of a schema by itself: the members that every kind of schema can have are ignored.
+/// Reads the kind of a schema by itself: the members that every kind of schema can have are ignored.
 impl FromNode for SchemaKind {
     ghost kind = { kinds.a_schema_kind };
 

@@ -1,6 +1,5 @@
 #![tactic(auto)]
-//! The Schema Object of OpenAPI 3.0.3, section 4.7.24: its types, and how the kind of a schema is told from its
-//! members.
+//! The Schema Object of OpenAPI 3.0.3, section 4.7.24: its types, and how its members determine the kind of a schema.
 mod any_names;
 mod any_schema;
 mod boxes;

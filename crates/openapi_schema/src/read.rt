@@ -1,5 +1,5 @@
-//! How schemas are read. The functions are mutually recursive, as schemas hold schemas: each gets a smaller part
-//! of the tree in the end. A value is looked at once, and handed down as the view of that look.
+//! Readers of schemas. The functions are mutually recursive, as schemas contain schemas: each call gets a smaller part
+//! of the JSON value in the end. A value is opened once, and passed on as its view.
 ghost use Rattle.std.specs.Prelude.{◌≡◌, ◌+◌, ◌*◌, ◌≤◌, Some, codes, IfOk};
 ghost use Rattle.openapi_node.specs.Tree.{list, items_of, members_of, size_of, items_size, members_size, object};
 ghost use Rattle.openapi_node.specs.View.{shown};
@@ -29,7 +29,13 @@ use openapi_node::{Cause, Expected, Fault, Members, Node, OrderedMap, Result, St
 use openapi_values::ReferenceOr;
 use std::alloc::Global;
 
-/// Reads a schema or a reference to one. An object with a text under `$ref` is a reference, whatever else it has.
+/// Reads a schema or a reference to one. An object with a string under `$ref` is a reference, whatever other members it
+/// has.
+///
+/// # Errors
+///
+/// Returns a [`Fault`](openapi_node::Fault) with a rule that the value breaks and the location where it does. An
+/// allocation failure has [`Cause::Memory`](openapi_node::Cause::Memory) and the empty location.
 #[cycle(read)]
 pub fn schema_ref_from_node(
     alloc: Global,

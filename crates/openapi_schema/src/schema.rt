@@ -8,20 +8,20 @@ use openapi_schema_types::{BooleanType, IntegerType, NumberType, SchemaData, Str
 use openapi_values::ReferenceOr;
 use std::alloc::Global;
 
-/// The Schema Object (OpenAPI 3.0.3, section 4.7.24): which values are allowed, in the words of JSON Schema.
+/// The Schema Object (OpenAPI 3.0.3, section 4.7.24): which values are allowed, in the vocabulary of JSON Schema.
 #[cycle(schema)]
 #[derive(Debug, PartialEq, Drop)]
 pub struct Schema {
-    /// What every kind of schema can say: its annotations.
+    /// The annotations, which every kind of schema can have.
     pub schema_data: SchemaData,
-    /// The kind of the schema, with what it asks of values.
+    /// The kind of the schema, with its constraints on values.
     pub schema_kind: SchemaKind,
 }
 
 impl Schema {
     ghost use Rattle.openapi_schema.specs.declared.schema.Schema.{out-Schema};
 
-    /// Creates a schema of a kind without annotations.
+    /// Creates a schema of a kind, without annotations.
     pub fn new(alloc: Global, schema_kind: SchemaKind) -> Schema
         ensures kind { (out-Schema result).schema_kind ≡ schema_kind }
         ensures data { HasNoAnnotations (out-Schema result).schema_data }
@@ -33,25 +33,25 @@ impl Schema {
     }
 }
 
-/// The kinds of schemas, told apart by which members a Schema Object has.
+/// The kinds of schemas, distinguished by the members of a Schema Object.
 #[cycle(schema)]
 #[derive(Debug, PartialEq, Drop)]
 pub enum SchemaKind {
     /// A schema with a `type`, and no member that belongs to another type.
     Typed(SchemaType),
-    /// `oneOf`: exactly one of the schemas has to fit.
+    /// `oneOf`: exactly one of the schemas has to match.
     OneOf { one_of: Vec<ReferenceOr<Schema>> },
-    /// `allOf`: all of the schemas have to fit.
+    /// `allOf`: all of the schemas have to match.
     AllOf { all_of: Vec<ReferenceOr<Schema>> },
-    /// `anyOf`: at least one of the schemas has to fit.
+    /// `anyOf`: at least one of the schemas has to match.
     AnyOf { any_of: Vec<ReferenceOr<Schema>> },
-    /// `not`: the schema may not fit.
+    /// `not`: the schema must not match.
     Not { not: Box<ReferenceOr<Schema>> },
-    /// Any other combination of members, with no loss of any.
+    /// Any other combination of members.
     Any(AnySchema),
 }
 
-/// The `type` of a schema, with the members that it has.
+/// The `type` of a schema, with the members that belong to it.
 #[cycle(schema)]
 #[derive(Debug, PartialEq, Drop)]
 pub enum SchemaType {
@@ -69,15 +69,15 @@ pub enum SchemaType {
     Boolean(BooleanType),
 }
 
-/// The name that the crate openapiv3 has for `SchemaType`.
+/// The name of [`SchemaType`] in the Rust crate openapiv3.
 pub type Type = SchemaType;
 
 /// `additionalProperties` (OpenAPI 3.0.3, section 4.7.24): the properties of an object that its schema does not name.
 #[cycle(schema)]
 #[derive(Debug, PartialEq, Drop)]
 pub enum AdditionalProperties {
-    /// Whether there may be others, of any schema.
+    /// Whether other properties, of any schema, are allowed.
     Any(bool),
-    /// The schema that they have, or a reference to one.
+    /// The schema of the other properties, or a reference to one.
     Schema(Box<ReferenceOr<Schema>>),
 }

@@ -1,4 +1,4 @@
-//! The types of this crate that hold schemas, written as trees.
+//! The types of this crate that hold schemas, written as JSON values.
 ghost use Rattle.std.proofs.Common.{refl};
 ghost use Rattle.openapi_schema.specs.Present.{additional_there, schema_there};
 
@@ -17,7 +17,7 @@ impl ToNode for Schema {
     ghost there = { schema_there };
 }
 
-/// The kind of a schema by itself, with no member that every kind of schema can have.
+/// Writes the kind of a schema by itself, with no member that every kind of schema can have.
 impl ToNode for SchemaKind {
     fn to_node(&self, alloc: Global) -> Result<Node> {
         match kind_rows(alloc, self) {

@@ -25,8 +25,13 @@ use openapi_node::{Fault, Members, Node, OrderedMap, Result};
 use openapi_values::ReferenceOr;
 use std::alloc::Global;
 
-/// Writes a schema or a reference to one. It is refused where a schema in it holds an extension whose name does not
-/// begin with `x-`, at the place of that name, or for want of memory, with the empty place.
+/// Writes a schema or a reference to one.
+///
+/// # Errors
+///
+/// Returns a [`Fault`](openapi_node::Fault) with [`Cause::NameNotWritable`](openapi_node::Cause::NameNotWritable) at an
+/// extension whose name does not begin with `x-`. An allocation failure has
+/// [`Cause::Memory`](openapi_node::Cause::Memory) and the empty location.
 #[cycle(write)]
 pub fn schema_ref_to_node(alloc: Global, value: &ReferenceOr<Schema>) -> Result<Node>
     ensures { WrittenAs (kinds.ref_to kinds.a_schema) (ref_form value.now) result }
@@ -37,7 +42,13 @@ pub fn schema_ref_to_node(alloc: Global, value: &ReferenceOr<Schema>) -> Result<
     }
 }
 
-/// Writes a schema in a box, or a reference to one. It is refused as by [`schema_ref_to_node`].
+/// Writes a boxed schema or a reference to one.
+///
+/// # Errors
+///
+/// Returns a [`Fault`](openapi_node::Fault) with [`Cause::NameNotWritable`](openapi_node::Cause::NameNotWritable) at an
+/// extension whose name does not begin with `x-`. An allocation failure has
+/// [`Cause::Memory`](openapi_node::Cause::Memory) and the empty location.
 #[cycle(write)]
 pub fn boxed_schema_ref_to_node(alloc: Global, value: &ReferenceOr<Box<Schema>>) -> Result<Node>
     ensures { WrittenAs (kinds.ref_to kinds.a_schema) (inner_box_form value.now) result }

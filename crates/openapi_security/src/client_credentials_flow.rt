@@ -14,14 +14,14 @@ pub struct ClientCredentialsOAuth2Flow {
     pub refresh_url: Option<String>,
     /// The token URL of the flow. Required.
     pub token_url: String,
-    /// The scopes of the flow: a short description by the name of each. Required, and may be empty.
+    /// The scopes of the flow: the name of each with a short description. Required, and may be empty.
     pub scopes: OrderedMap<String>,
     /// Extensions: the members whose names begin with `x-`, in their order.
     pub extensions: OrderedMap<Node>,
 }
 
 impl ClientCredentialsOAuth2Flow {
-    /// Creates a flow with what is required: its token URL, and a short description of each scope by its name.
+    /// Creates a flow with its token URL and its scopes; every other field is `None` or empty.
     pub fn new(
         alloc: Global,
         token_url: String,

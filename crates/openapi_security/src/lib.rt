@@ -1,5 +1,5 @@
 #![tactic(auto, unfolding(openapi_tables::specs::Tables::final_tables, openapi_tables::specs::Tables::tables_with))]
-//! The objects of OpenAPI 3.0 documents that say who may call: security schemes with the flows of OAuth, and security
+//! The objects of OpenAPI 3.0 documents for authentication: security schemes, the flows of OAuth, and security
 //! requirements.
 mod authorization_code_flow;
 mod client_credentials_flow;

@@ -10,7 +10,7 @@ use std::alloc::Global;
 impl SecurityScheme {
     ghost use Rattle.openapi_security.specs.declared.security_scheme.SecurityScheme.TheVariants as schemes;
 
-    /// Creates a scheme by an API key, which is sent at a location under a name. It has no description.
+    /// Creates an API key scheme from the location and the name of the key. It has no description.
     pub fn api_key(alloc: Global, location: APIKeyLocation, name: String) -> SecurityScheme
         ensures { result ≡ schemes.APIKey location name None [] }
     {
@@ -22,7 +22,7 @@ impl SecurityScheme {
         }
     }
 
-    /// Creates a scheme by HTTP authentication, as `basic` or `bearer`. It has no description and no bearer format.
+    /// Creates an HTTP authentication scheme, such as `basic` or `bearer`. It has no description and no bearer format.
     pub fn http(alloc: Global, scheme: String) -> SecurityScheme
         ensures { result ≡ schemes.HTTP scheme None None [] }
     {
@@ -34,7 +34,7 @@ impl SecurityScheme {
         }
     }
 
-    /// Creates a scheme by OAuth 2 with its flows. It has no description.
+    /// Creates an OAuth 2 scheme from its flows. It has no description.
     pub fn oauth2(alloc: Global, flows: OAuth2Flows) -> SecurityScheme
         ensures { result ≡ schemes.OAuth2 flows None [] }
     {
@@ -45,7 +45,7 @@ impl SecurityScheme {
         }
     }
 
-    /// Creates a scheme by OpenID Connect Discovery at a URL. It has no description.
+    /// Creates an OpenID Connect Discovery scheme from its URL. It has no description.
     pub fn open_id_connect(alloc: Global, open_id_connect_url: String) -> SecurityScheme
         ensures { result ≡ schemes.OpenIDConnect open_id_connect_url None [] }
     {

@@ -27,7 +27,7 @@ pub struct OAuth2Flows {
 }
 
 impl OAuth2Flows {
-    /// Empty texts, lists and maps, and nothing else.
+    /// Creates an empty `OAuth2Flows`; every field is `None` or empty.
     pub fn new(alloc: Global) -> OAuth2Flows
         ensures implicit { result.implicit ≡ None }
         ensures password { result.password ≡ None }

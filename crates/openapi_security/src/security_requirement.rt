@@ -9,11 +9,16 @@ use openapi_fields::{FromNode, ToNode};
 use openapi_node::{Node, OrderedMap, Result, Steps};
 use std::alloc::Global;
 
-/// The Security Requirement Object (OpenAPI 3.0.3, section 4.7.30): by the name of each security scheme that a call
-/// needs, the scopes that it needs of it. The list is empty for schemes that have no scopes.
+/// The Security Requirement Object (OpenAPI 3.0.3, section 4.7.30): the security schemes that a call needs, each by its
+/// name with the scopes that are required. The list is empty for schemes without scopes.
 pub type SecurityRequirement = OrderedMap<Vec<String>>;
 
-/// Reads a security requirement. Err names a rule that the tree breaks, at its place, or says that memory ran out.
+/// Reads a security requirement.
+///
+/// # Errors
+///
+/// Returns a [`Fault`](openapi_node::Fault) with a rule that the value breaks and the location where it does. An
+/// allocation failure has [`Cause::Memory`](openapi_node::Cause::Memory) and the empty location.
 pub fn security_requirement_from_node(
     alloc: Global,
     node: &Node,
@@ -27,7 +32,12 @@ pub fn security_requirement_from_node(
     SecurityRequirement::from_node(alloc, node, steps)
 }
 
-/// Writes a security requirement. Err only for want of memory.
+/// Writes a security requirement.
+///
+/// # Errors
+///
+/// Returns a [`Fault`](openapi_node::Fault) with [`Cause::Memory`](openapi_node::Cause::Memory) and the empty location
+/// if an allocation fails. There is no other error.
 pub fn security_requirement_to_node(
     alloc: Global,
     requirement: &SecurityRequirement,

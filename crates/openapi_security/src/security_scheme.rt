@@ -24,8 +24,8 @@ use openapi_node::{Cause, Expected, Fault, Members, Node, OrderedMap, Result, St
 use openapi_values::{APIKeyLocation, ReferenceOr, Word};
 use std::alloc::Global;
 
-/// The Security Scheme Object (OpenAPI 3.0.3, section 4.7.27): a security scheme that operations may use. Its `type`
-/// says which.
+/// The Security Scheme Object (OpenAPI 3.0.3, section 4.7.27): a security scheme that operations may use. The variants
+/// are the values of its `type`.
 #[derive(Clone, Debug, PartialEq, Drop)]
 pub enum SecurityScheme {
     /// `apiKey`: an API key in a header, a query parameter or a cookie.
@@ -41,9 +41,9 @@ pub enum SecurityScheme {
     },
     /// `http`: HTTP authentication by the `Authorization` header.
     HTTP {
-        /// The HTTP authentication scheme (RFC 7235), as `basic` or `bearer`. Required.
+        /// The HTTP authentication scheme (RFC 7235), such as `basic` or `bearer`. Required.
         scheme: String,
-        /// `bearerFormat`: a hint at how a bearer token is formatted, for people to read.
+        /// `bearerFormat`: a hint at the format of a bearer token, for people to read.
         bearer_format: Option<String>,
         /// A description of the security scheme, in CommonMark.
         description: Option<String>,
@@ -61,7 +61,7 @@ pub enum SecurityScheme {
     },
     /// `openIdConnect`: OpenID Connect Discovery.
     OpenIDConnect {
-        /// `openIdConnectUrl`: the OpenID Connect URL, at which OAuth 2 configuration values are found. Required.
+        /// `openIdConnectUrl`: the OpenID Connect URL, at which the OAuth 2 configuration values are found. Required.
         open_id_connect_url: String,
         /// A description of the security scheme, in CommonMark.
         description: Option<String>,
@@ -306,8 +306,12 @@ impl Referable for SecurityScheme {
     ghost spares_ref = { security_scheme_spares };
 }
 
-/// Reads a security scheme or a reference to one. Err names a rule that the tree breaks, at its place, or says that
-/// memory ran out.
+/// Reads a security scheme or a reference to one.
+///
+/// # Errors
+///
+/// Returns a [`Fault`](openapi_node::Fault) with a rule that the value breaks and the location where it does. An
+/// allocation failure has [`Cause::Memory`](openapi_node::Cause::Memory) and the empty location.
 pub fn security_scheme_ref_from_node(
     alloc: Global,
     node: &Node,
@@ -321,8 +325,13 @@ pub fn security_scheme_ref_from_node(
     ReferenceOr::from_node(alloc, node, steps)
 }
 
-/// Writes a security scheme or a reference to one. Err at a name of an extension that does not begin with `x-`, or for
-/// want of memory.
+/// Writes a security scheme or a reference to one.
+///
+/// # Errors
+///
+/// Returns a [`Fault`](openapi_node::Fault) with [`Cause::NameNotWritable`](openapi_node::Cause::NameNotWritable) at an
+/// extension whose name does not begin with `x-`. An allocation failure has
+/// [`Cause::Memory`](openapi_node::Cause::Memory) and the empty location.
 pub fn security_scheme_ref_to_node(
     alloc: Global,
     value: &ReferenceOr<SecurityScheme>,

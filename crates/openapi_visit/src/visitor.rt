@@ -10,10 +10,14 @@ use openapi_schema::Schema;
 use openapi_security::SecurityScheme;
 use std::alloc::{AllocError, Global};
 
-/// What is done with the parts of a document. Each method gets the location of the part in the document, a JSON Pointer (RFC 6901),
-/// and does nothing by default. An error ends the visit.
+/// A visitor of the objects of a document. Each method gets the location of the object in the document, a JSON Pointer
+/// (RFC 6901), and does nothing by default.
+///
+/// # Errors
+///
+/// An error of a method ends the visit, and [`visit`] returns it.
 pub trait Visitor {
-    /// Why a visit ends early.
+    /// The error that ends a visit early.
     type Error: From<AllocError>;
 
     /// Visits the components of the document.
@@ -55,7 +59,7 @@ pub trait Visitor {
         Ok(())
     }
 
-    /// Visits a content of one media type.
+    /// Visits a media type.
     fn media_type(&mut self, _location: &str, _media_type: &MediaType) -> Result<(), Self::Error> {
         Ok(())
     }
@@ -94,20 +98,20 @@ pub trait Visitor {
         Ok(())
     }
 
-    /// Visits a reference in the place of any of these. It is not followed.
+    /// Visits a reference to any of these. It is not followed.
     fn reference(&mut self, _location: &str, _reference: &str) -> Result<(), Self::Error> {
         Ok(())
     }
 }
 
-/// Visits all parts of a document: each before the parts inside it, and these in the order of its fields. Locations are those in the
-/// document as it is written, so the status code `2xx` of a text is `2XX` in them.
+/// Visits all objects of a document: each before the objects inside it, and these in the order of its fields. A
+/// location is that in the document as it is written, so a status code `2xx` of the text is `2XX` there.
 ///
-/// The parts that wait are in a list on the heap, so the depth of a document costs no stack.
+/// The objects that are left are in a list on the heap, so the depth of a document uses no stack.
 ///
 /// # Errors
 ///
-/// Returns the first error of the visitor, and an error that is made of [`AllocError`] if an allocation fails.
+/// Returns the first error of the visitor, or an error converted from [`AllocError`] if an allocation fails.
 pub fn visit<V: Visitor>(
     alloc: Global,
     document: &OpenAPI,

@@ -1,4 +1,4 @@
-//! The laws of reading and writing: each function does nothing, and its contract is the law.
+//! The laws of reading and writing: each function has no effect, and its contract is the law.
 pub use openapi_documents::laws::headline;
 pub use openapi_tables::laws::{
     callbacks_kept, canonical, codes, distinct_names, faults, first_value, ignored, order,

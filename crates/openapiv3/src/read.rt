@@ -10,15 +10,15 @@ use openapi_node::{Fault, Steps};
 use std::alloc::Global;
 use thiserror::Error;
 
-/// Why bytes were not read as an object of OpenAPI. It prints as one line of text: what is wrong, and the JSON Pointer of the
-/// value. [`ReadError::locate`] adds its line and column.
+/// The reason why bytes were not read as an OpenAPI object. It prints as one line of text: what is wrong, and the JSON
+/// Pointer of the value. [`ReadError::locate`] adds its line and column.
 #[derive(Debug, Drop, Error, PartialEq)]
 pub enum ReadError {
-    /// The bytes are not UTF-8 or no JSON, or a number in them is not whole; or an allocation failed.
+    /// The bytes are not UTF-8 or not JSON, a number in them is not whole, or an allocation failed.
     #[error("{0}")]
     Json(JsonFault),
-    /// The bytes are JSON, and not the object that was expected; or an allocation failed. The fault has the location and the
-    /// rule that is broken there.
+    /// The bytes are JSON, but not the expected object. The fault has a location and a rule that is broken there, or
+    /// reports an allocation failure.
     #[error("{0}")]
     Refused(Fault),
 }
@@ -43,12 +43,13 @@ impl From<Fault> for ReadError {
     }
 }
 
-/// Reads an object of OpenAPI from JSON text, with the entries of each map in the order of their names.
+/// Reads an OpenAPI object from JSON text, with the entries of each map in the order of their names.
 ///
 /// # Errors
 ///
-/// Returns [`ReadError::Json`] if the bytes are no JSON in UTF-8 or a number in them is not whole, and [`ReadError::Refused`] with
-/// a location and the rule that is broken there if the JSON is no such object. Each of them also reports an allocation failure.
+/// Returns [`ReadError::Json`] if the bytes are not JSON in UTF-8, or if a number in them is not whole. Returns
+/// [`ReadError::Refused`] with a location and a rule that is broken there if the JSON value is not such an object. Both
+/// variants also report an allocation failure.
 pub fn from_json<T: FromNode>(
     alloc: Global,
     bytes: &[u8],
@@ -62,7 +63,8 @@ pub fn from_json<T: FromNode>(
     Ok(value)
 }
 
-/// Reads an object of OpenAPI from JSON text as [`from_json`] does, but with the entries of each map in the order of the text.
+/// Reads an OpenAPI object from JSON text as [`from_json`] does, but with the entries of each map in the order of the
+/// text.
 ///
 /// # Errors
 ///

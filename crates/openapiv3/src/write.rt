@@ -10,13 +10,13 @@ use openapi_json::{json_from_node, json_from_node_in_order, pretty_from_node_in_
 use openapi_node::{Fault, Result, Steps};
 use std::alloc::Global;
 
-/// Writes an object of OpenAPI as compact JSON text, with the members of each object in the order of their names.
+/// Writes an OpenAPI object as compact JSON text, with the members of each object in the order of their names.
 ///
 /// # Errors
 ///
-/// Returns a [`Fault`] with [`Cause::NameNotWritable`](openapi_node::Cause::NameNotWritable) and the location of a name that would
-/// not be read again, such as an extension without `x-`, and with [`Cause::Memory`](openapi_node::Cause::Memory) if an allocation
-/// fails.
+/// Returns a [`Fault`] with [`Cause::NameNotWritable`](openapi_node::Cause::NameNotWritable) at a name or a status code
+/// that would not be read again, such as an extension without `x-`. An allocation failure has
+/// [`Cause::Memory`](openapi_node::Cause::Memory) and the empty location.
 pub fn to_json<T: ToNode>(alloc: Global, value: &T, steps: &mut Steps) -> Result<String>
     ensures text { IfOk result (λ s. IsWrittenOf IsByName T.FromNode.kind (T.FromNode.form_of value.now) (string_bytes s)) }
     ensures refuses { IfErr result (λ f. NotWritable f (unwritable final_tables T.FromNode.kind
@@ -29,8 +29,8 @@ pub fn to_json<T: ToNode>(alloc: Global, value: &T, steps: &mut Steps) -> Result
     }
 }
 
-/// Writes an object of OpenAPI as compact JSON text, with its fields in the order of the field tables and the entries of each map in
-/// their order.
+/// Writes an OpenAPI object as compact JSON text. Fields are in the order of the field tables, and the entries of each
+/// map in their order.
 ///
 /// # Errors
 ///
@@ -47,8 +47,8 @@ pub fn to_json_in_order<T: ToNode>(alloc: Global, value: &T, steps: &mut Steps) 
     }
 }
 
-/// Writes an object of OpenAPI as [`to_json_in_order`] does, but with a line for each item and each member, indented by two
-/// spaces. There is no line feed at the end.
+/// Writes an OpenAPI object as [`to_json_in_order`] does, but with a line for each item and each member, indented by
+/// two spaces. There is no line feed at the end.
 ///
 /// # Errors
 ///

@@ -73,7 +73,7 @@ const MOST_SPACES: u64 = 16;
 ///
 /// # Errors
 ///
-/// `AllocError` when memory runs out.
+/// Returns [`AllocError`] if an allocation fails.
 pub fn command_line<'a>(alloc: Global) -> Result<Command<'a>, AllocError> {
     Command::new(alloc, "openapi")
         .version(VERSION)

@@ -18,7 +18,7 @@ pub fn shown_name(file: &str) -> &str {
 ///
 /// # Errors
 ///
-/// The error of the system if the file can't be opened or read, or if memory runs out.
+/// Returns the error of the system if the file can't be opened or read, or if an allocation fails.
 pub fn read_input(rt: &HostRuntime, file: &str) -> io::Result<Vec<u8>> {
     if file == INPUT {
         read_all(rt.alloc(), &mut rt.reader())

@@ -38,7 +38,11 @@ pub enum ListFormat {
 impl FromStr for ListFormat {
     type Err = ();
 
-    /// Reads `text` or `json`. `Err` for any other word.
+    /// Reads `text` or `json`.
+    ///
+    /// # Errors
+    ///
+    /// Returns `()` for any other word.
     fn from_str(word: &str) -> Result<ListFormat, ()> {
         match word {
             "text" => Ok(ListFormat::Text),

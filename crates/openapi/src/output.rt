@@ -23,7 +23,11 @@ pub enum Format {
 impl FromStr for Format {
     type Err = ();
 
-    /// Reads `text`, `json` or `github`. `Err` for any other word.
+    /// Reads `text`, `json` or `github`.
+    ///
+    /// # Errors
+    ///
+    /// Returns `()` for any other word.
     fn from_str(word: &str) -> Result<Format, ()> {
         match word {
             "text" => Ok(Format::Text),
@@ -38,7 +42,7 @@ impl FromStr for Format {
 ///
 /// # Errors
 ///
-/// `AllocError` when memory runs out.
+/// Returns [`AllocError`] if an allocation fails.
 pub fn printed(
     alloc: Global,
     format: Format,
@@ -89,7 +93,7 @@ fn push_finding(
 ///
 /// # Errors
 ///
-/// The error of the system, which is reported here.
+/// Returns the error of the system, after it is reported on standard error.
 pub fn write_output(rt: &HostRuntime, text: &str) -> io::Result<()> {
     let written = io::writer(rt).write_all(text.as_bytes());
     if let Err(error) = &written {

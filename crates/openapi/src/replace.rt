@@ -6,14 +6,15 @@ use std::{fs, io};
 /// How many names are tried for a temporary file.
 const TRIES: usize = 100;
 
-/// Replaces the content of a file, or makes it.
+/// Replaces the content of a file, or creates it.
 ///
-/// The content is written to a temporary file beside it, which then takes its name, so a failure leaves the file as it was. It
-/// keeps its permissions, and a symbolic link stays one. What is no regular file, as `/dev/null`, is written to.
+/// The content is written to a temporary file beside it, which then gets its name, so a failure leaves the file as it
+/// was. The file keeps its permissions, and a symbolic link stays one. A file that is not a regular file, such as
+/// `/dev/null`, is written directly.
 ///
 /// # Errors
 ///
-/// The error of the system.
+/// Returns the error of the system.
 pub fn replace_file(rt: &HostRuntime, file: &str, content: &[u8]) -> io::Result<()> {
     let path = match fs::canonicalize(rt, file) {
         Ok(path) => path,

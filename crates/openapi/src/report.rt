@@ -15,7 +15,7 @@ pub fn report_failure(rt: &HostRuntime, name: &str, error: &io::Error) {
     let _printed = eprintln!(rt; "error: {name}: {error}");
 }
 
-/// Prints that memory ran out for a file.
+/// Prints an out-of-memory error for a file.
 pub fn report_no_memory(rt: &HostRuntime, name: &str) {
     report_failure(rt, name, &io::Error::from(AllocError));
 }

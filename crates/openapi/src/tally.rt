@@ -17,7 +17,7 @@ pub struct Tally {
 }
 
 impl Tally {
-    /// Returns that no file was checked.
+    /// Creates a tally of no files.
     pub fn new() -> Tally
         ensures { result.status ≡ 0 }
     {

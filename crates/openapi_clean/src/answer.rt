@@ -1,5 +1,5 @@
-//! The text that answers an input. Each step lets go of what the step before it made, the first of the input itself, so
-//! that no more than two forms of it stand at a time (`openapi_text` says more).
+//! The output for an input. Each step drops what the step before it made, and the first drops the input. So at most two
+//! forms of it are in memory (see `openapi_text`).
 ghost use Rattle.std.specs.Prelude.{◌≡◌, ◌++◌, ◌∷◌, [], string_bytes, IfOk, IfErr, OnOk, true};
 ghost use Rattle.openapi_clean.specs.Commands.{kind_of};
 ghost use Rattle.openapi_clean.specs.Output.{IsAnswer, lines_of, operation_line, text_for};
@@ -18,7 +18,12 @@ use openapi_text::{Layout, Rewriting, RunFault, read_object, read_tree, rewrite,
 use std::alloc::Global;
 use std::mem;
 
-/// The text that answers the bytes, of which it lets go as soon as it has their tree.
+/// Returns the output of a command for the bytes of an input, which are dropped once they are read.
+///
+/// # Errors
+///
+/// Returns [`RunFault::NotJson`] if the bytes are not JSON. Returns [`RunFault::Refused`] if a number is not whole or
+/// the value does not conform, and [`RunFault::Memory`] if an allocation fails.
 pub fn answer(
     alloc: Global,
     command: Command,

@@ -20,8 +20,8 @@ pub enum Command {
 }
 
 impl Command {
-    /// The command that a command line names, of which the first word is the name of the program: there is one word
-    /// behind that name, and it is the command's. `None` for any other words.
+    /// Returns the command of a command line. The words are the name of the program and one word behind it, which is
+    /// that of the command. `None` for any other words.
     pub fn of_words(words: &[String]) -> Option<Command>
         ensures { AreWordsOf (map string_bytes words.now) result }
     {
@@ -31,7 +31,7 @@ impl Command {
         }
     }
 
-    /// The line that is shown on standard error for any other arguments, without its end.
+    /// Returns the line that standard error shows for wrong arguments, without a line feed.
     pub fn usage() -> &'static str
         ensures { result.now ≡ usage_line }
     {
@@ -46,7 +46,11 @@ impl FromStr for Command {
 
     ghost from_str_gives = { IsCommandOf };
 
-    /// The command of a word. `Err` says that no command has that word.
+    /// Returns the command of a word.
+    ///
+    /// # Errors
+    ///
+    /// Returns `()` for any other word.
     fn from_str(word: &str) -> Result<Command, ()> {
         match word {
             "tag" => Ok(Command::Tag),

@@ -18,8 +18,8 @@ pub enum Outcome {
 }
 
 impl Outcome {
-    /// What the process ends with: 0 where the line was written, 2 for wrong arguments, and else the status of the
-    /// failure.
+    /// Returns the exit code of the process: 0 if the output was written, 2 for wrong arguments, and otherwise the
+    /// status of the failure.
     pub fn exit_code(&self) -> ExitCode
         ensures { exit_status result ≡ status_at_end self.now }
     {

@@ -12,13 +12,21 @@ use openapi_text::{Layout, RunFault, read_all, write_all};
 use std::alloc::Global;
 use std::io::{Read, Write};
 
-/// Reads the reader to its end, and writes the text that answers the command: the tree of the input, read as the
-/// command's object and cleaned or settled, as compact JSON and the end of a line; or a line for each operation.
+/// Reads a reader to its end and writes the output of a command: the normalized or stable value as one line of compact
+/// JSON, or a line for each operation.
 ///
-/// The text is made whole before its first byte is written, so on every failure but `Write` nothing was written, and
-/// on `Write` a beginning of the text. `Read` comes where the reader fails or does not end, `NotJson` where the bytes
-/// are no JSON, `Refused` where a number is not whole or the tree does not conform, `Memory` wherever a growth is
-/// refused. What was taken from the reader is gone; on every failure but `Read` and `Memory` that is all it had.
+/// The output is complete before its first byte is written. Any error but [`RunFault::Read`] and [`RunFault::Memory`]
+/// leaves the reader at its end.
+///
+/// # Errors
+///
+/// Returns [`RunFault::Write`] if the writer fails, which then has a prefix of the output. On any other error nothing
+/// was written:
+///
+/// - [`RunFault::Read`] if the reader fails or does not end,
+/// - [`RunFault::NotJson`] if the bytes are not JSON,
+/// - [`RunFault::Refused`] if a number is not whole or the value does not conform,
+/// - [`RunFault::Memory`] if an allocation fails.
 pub fn run<R: Read, W: Write>(
     alloc: Global,
     command: Command,

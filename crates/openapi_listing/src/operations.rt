@@ -53,8 +53,8 @@ impl Located for ListedOperation {
 ///
 /// # Errors
 ///
-/// A [`Refusal`] if the bytes are no JSON, if a number of it is not whole, or if the document does not conform to the field
-/// tables; or if an allocation fails.
+/// Returns a [`Refusal`] if the bytes are not JSON, if a number is not whole, or if the document does not conform to
+/// the field tables. An allocation failure is also a [`Refusal`].
 pub fn list_operations(
     alloc: Global,
     bytes: &[u8],

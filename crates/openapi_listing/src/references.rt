@@ -28,12 +28,12 @@ impl Located for Reference {
     }
 }
 
-/// Returns every reference of a document, from the bytes of its JSON text: each object with a text under `$ref` where OpenAPI
-/// allows a reference. The document need not conform to the field tables, and its numbers need not be whole.
+/// Returns every reference of a document, from the bytes of its JSON text: each object with a string under `$ref` where
+/// OpenAPI allows a reference. The document need not conform to the field tables, and its numbers need not be whole.
 ///
 /// # Errors
 ///
-/// [`JsonFault::NotJson`] if the bytes are no JSON, and [`JsonFault::Memory`] if an allocation fails.
+/// Returns [`JsonFault::NotJson`] if the bytes are not JSON, or [`JsonFault::Memory`] if an allocation fails.
 pub fn list_references(
     alloc: Global,
     bytes: &[u8],

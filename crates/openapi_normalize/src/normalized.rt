@@ -37,12 +37,12 @@ pub struct Normalized {
 
 /// Returns the normalized text of an object, from the bytes of its JSON text.
 ///
-/// `is_last` says that the process ends soon, so that the memory of the value needs not be freed.
+/// If `is_last` is true, the memory of the value is not freed, since the process is to end soon.
 ///
 /// # Errors
 ///
-/// A [`Refusal`] if the bytes are no JSON, if a number of it is not whole, or if the value does not conform to the field tables,
-/// with the position of the value; or if an allocation fails.
+/// Returns a [`Refusal`] if the bytes are not JSON, if a number is not whole, or if the value does not conform to the
+/// field tables. It has the position of the value, if that is known. An allocation failure is also a [`Refusal`].
 pub fn normalize(
     alloc: Global,
     task: Task,

@@ -13,15 +13,19 @@ use openapi_text::{ReadFault, read_bytes, write_bytes};
 use std::alloc::Global;
 use std::io::{Read, Write};
 
-/// Reads a reader to its end, writes the normalized text of the object that it held, and returns how many members were dropped.
+/// Reads a reader to its end, writes the normalized text of the object in it, and returns how many members were
+/// dropped.
 ///
-/// The text is made whole before its first byte is written.
+/// The text is complete before its first byte is written.
 ///
 /// # Errors
 ///
-/// [`Failure::Write`] if the writer fails, when it has a beginning of the text. On every other failure nothing was written:
-/// [`Failure::Read`] if the reader fails or does not end, [`Failure::Memory`] if there is no memory for what it holds, and
-/// [`Failure::Refused`] with the bytes that were read if they are refused (see [`normalize`]).
+/// Returns [`Failure::Write`] if the writer fails, which then has a prefix of the text. On any other failure nothing
+/// was written:
+///
+/// - [`Failure::Read`] if the reader fails or does not end,
+/// - [`Failure::Memory`] if an allocation fails while the input is read,
+/// - [`Failure::Refused`] with the bytes that were read if they are refused (see [`normalize`]).
 pub fn run<R: Read, W: Write>(
     alloc: Global,
     task: Task,

@@ -24,7 +24,11 @@ impl FromStr for Object {
 
     ghost from_str_gives = { IsObjectOf };
 
-    /// Reads `document`, `schema` or `tag`. `Err` for any other word.
+    /// Reads `document`, `schema` or `tag`.
+    ///
+    /// # Errors
+    ///
+    /// Returns `()` for any other word.
     fn from_str(word: &str) -> Result<Object, ()> {
         match word {
             "document" => Ok(Object::Document),

@@ -7,23 +7,23 @@ use openapi_node::Fault;
 use std::alloc::AllocError;
 use thiserror::Error;
 
-/// Why a run wrote no whole line. What is printed is one line of text, without its end.
+/// The reason why a run wrote no whole line. It prints as one line of text, without a line feed.
 #[derive(Debug, Drop, Error)]
 pub enum RunFault {
-    /// The input is JSON and was refused: a number in it is not whole, or the value is not what the command reads. The
-    /// fault tells the cause and its place, and is what is printed.
+    /// The input is JSON, but a number in it is not whole, or it is not the object of the command. The fault, with its
+    /// cause and location, is what is printed.
     #[error("{0}")]
     Refused(Fault),
     /// The input is not UTF-8 or not JSON (RFC 8259).
     #[error("not JSON")]
     NotJson,
-    /// Some growth of memory was refused.
+    /// An allocation failed.
     #[error("out of memory")]
     Memory,
     /// The reader failed, or did not end.
     #[error("read failed")]
     Read,
-    /// The writer failed, or took nothing.
+    /// The writer failed, or accepted nothing.
     #[error("write failed")]
     Write,
 }
@@ -53,7 +53,8 @@ impl From<JsonFault> for RunFault {
 }
 
 impl RunFault {
-    /// The exit status of the program: 1 for a refusal, 2 for what is no JSON, 3 for all else.
+    /// Returns the exit status of the program: 1 for [`RunFault::Refused`], 2 for [`RunFault::NotJson`], and 3 for the
+    /// others.
     pub fn status(&self) -> u8
         ensures { result ≡ status_of self.now }
     {

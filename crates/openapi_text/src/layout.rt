@@ -1,4 +1,4 @@
-//! How a tree stands in a text.
+//! How a JSON value is laid out in a text.
 ghost use Rattle.std.specs.Prelude.{◌≡◌, IfOk, IfErr, string_bytes};
 ghost use Rattle.openapi_text.specs.Texts.{IsTextOf, IsUnread, text_in};
 
@@ -10,7 +10,7 @@ use openapi_json::{
 use openapi_node::{Node, Steps};
 use std::alloc::Global;
 
-/// How a tree is read of a text and written.
+/// How a JSON value is read from a text and written.
 #[derive(Clone, Copy, Debug, PartialEq, Eq)]
 pub enum Layout {
     /// With members by name, and no space.
@@ -21,9 +21,12 @@ pub enum Layout {
     Pretty,
 }
 
-/// The tree that bytes hold.
+/// Returns the JSON value that bytes hold.
 ///
-/// Err says that they are no JSON (RFC 8259), that a number of it is not whole, or that memory ran out.
+/// # Errors
+///
+/// Returns [`RunFault::NotJson`] if the bytes are not JSON (RFC 8259) in UTF-8, and [`RunFault::Refused`] if a number
+/// in them is not whole. Returns [`RunFault::Memory`] if an allocation fails.
 #[tactic(auto, using(crate::proofs::Texts::tree_by_name, crate::proofs::Texts::tree_in_order, crate::proofs::Texts::tree_of_pretty, crate::proofs::Texts::unread_text))]
 pub fn read_tree(alloc: Global, layout: Layout, bytes: &[u8]) -> Result<Node, RunFault>
     ensures ok { IfOk result (λ n. IsTextOf layout bytes.now (λ t. n ≡ t)) }
@@ -36,9 +39,11 @@ pub fn read_tree(alloc: Global, layout: Layout, bytes: &[u8]) -> Result<Node, Ru
     Ok(node)
 }
 
-/// The text of a tree, and the end of its last line.
+/// Returns the text of a JSON value, with the end of its last line.
 ///
-/// Err says that memory ran out.
+/// # Errors
+///
+/// Returns [`RunFault::Memory`] if an allocation fails. There is no other error.
 pub fn text_of(
     alloc: Global,
     node: &Node,

@@ -1,6 +1,6 @@
 #![tactic(auto)]
-//! From JSON text to JSON text: what the programs share. A tree is read of bytes, the object that it holds is cleaned or
-//! settled, and what comes of it is written, by name or in order; all bytes of a reader are taken, and a text is written
+//! From JSON text to JSON text: what the programs share. A JSON value is read from bytes. Its object is normalized or
+//! brought to its stable form, and written by name or in order. All bytes of a reader are read, and a text is written
 //! whole.
 mod fault;
 pub mod laws;

@@ -21,7 +21,7 @@ pub enum ReadFault {
 ///
 /// # Errors
 ///
-/// [`ReadFault::Reader`] with the error of the reader, and [`ReadFault::Memory`] if an allocation fails.
+/// Returns [`ReadFault::Reader`] with the error of the reader, or [`ReadFault::Memory`] if an allocation fails.
 pub fn read_bytes<R: Read>(alloc: Global, reader: &mut R) -> Result<Vec<u8>, ReadFault>
     ensures bytes { IfOk result (λ v. IfSome (R.remaining reader.old) (λ bytes. v.items ≡ bytes)) }
     ensures end { OnOk result (IsAtEnd (R.remaining reader.new)) }
@@ -47,7 +47,7 @@ pub fn read_bytes<R: Read>(alloc: Global, reader: &mut R) -> Result<Vec<u8>, Rea
 ///
 /// # Errors
 ///
-/// [`RunFault::Read`] if the reader fails or does not end, and [`RunFault::Memory`] if an allocation fails.
+/// Returns [`RunFault::Read`] if the reader fails or does not end, or [`RunFault::Memory`] if an allocation fails.
 pub fn read_all<R: Read>(alloc: Global, reader: &mut R) -> Result<Vec<u8>, RunFault>
     ensures bytes { IfOk result (λ v. IfSome (R.remaining reader.old) (λ bytes. v.items ≡ bytes)) }
     ensures end { OnOk result (IsAtEnd (R.remaining reader.new)) }
@@ -64,7 +64,7 @@ pub fn read_all<R: Read>(alloc: Global, reader: &mut R) -> Result<Vec<u8>, RunFa
 ///
 /// # Errors
 ///
-/// The error of the writer, or `WriteZero` if it takes nothing. It has a beginning of the text then.
+/// Returns the error of the writer, or `WriteZero` if it accepts nothing. It has a prefix of the text then.
 pub fn write_bytes<W: Write>(writer: &mut W, text: &[u8]) -> io::Result<()>
     ensures ok { OnOk result (Appends (W.contents writer.old) (W.contents writer.new) text.now) }
     ensures err { OnErr result (AppendsPart (W.contents writer.old) (W.contents writer.new) text.now) }
@@ -84,7 +84,7 @@ pub fn write_bytes<W: Write>(writer: &mut W, text: &[u8]) -> io::Result<()>
 ///
 /// # Errors
 ///
-/// [`RunFault::Write`] if the writer fails or takes nothing. It has a beginning of the text then.
+/// Returns [`RunFault::Write`] if the writer fails or accepts nothing. It has a prefix of the text then.
 pub fn write_all<W: Write>(writer: &mut W, text: &[u8]) -> Result<(), RunFault>
     ensures ok { OnOk result (Appends (W.contents writer.old) (W.contents writer.new) text.now) }
     ensures err { IfErr result (λ e. (e ≡ RunFault.Write)

@@ -14,12 +14,14 @@ use std::alloc::{AllocError, Global};
 pub struct Refusal {
     /// What is wrong, or that an allocation failed.
     pub fault: RunFault,
-    /// The position of the value that breaks a rule. `None` if the text is no JSON, or if memory ran out.
+    /// The position of the value that breaks a rule, if it is known. `None` if the text is not JSON or an allocation
+    /// failed.
     pub position: Option<Position>,
 }
 
 impl Refusal {
-    /// Returns the refusal of a text for a fault, with its position; or that memory ran out while that was sought.
+    /// Returns the refusal of a text for a fault, with its position; or an allocation failure while the position is
+    /// searched.
     pub fn located(alloc: Global, bytes: &[u8], fault: RunFault) -> Refusal
         ensures { (k : Kind) → Explains layout.InOrder k bytes.now fault → IsRefusal k bytes.now result }
     {

@@ -1,6 +1,6 @@
-//! The tree that is made of a tree, by way of the object that it holds. Each step lets go of what the step before it made,
-//! so that no more than two forms of an input stand at a time: its tree, the object that was read, the cleaned or settled
-//! tree. Three stand while a tree is settled: the tree, the cleaned one, and an object.
+//! Normalized and stable values, by way of the typed object. Each step drops what the step before it made, so that at
+//! most two forms of an input are in memory: its JSON value, the object, or the normalized value. For a stable value
+//! there are three: the input, the normalized value, and an object.
 ghost use Rattle.std.specs.Prelude.{◌≡◌, ◌≢◌, ◌⊎◌, IfOk, IfErr, true, false};
 ghost use Rattle.openapi_text.specs.Texts.{IsFaultOf, kind_of, rewritten};
 ghost use Rattle.openapi_fields.specs.Settled.{settled};
@@ -18,7 +18,7 @@ use openapi_schema::Schema;
 use std::alloc::Global;
 use std::str::FromStr;
 
-/// Which object a tree holds, and what is made of it.
+/// The object that a JSON value holds, and what is made of it.
 #[derive(Clone, Copy, Debug, PartialEq, Eq)]
 pub enum Rewriting {
     /// A Tag Object (OpenAPI 3.0.3, section 4.7.22) is cleaned.
@@ -38,7 +38,11 @@ impl FromStr for Rewriting {
 
     ghost from_str_gives = { IsRewritingOf };
 
-    /// The rewriting that a word names: `tag`, `schema`, `document` or `settle`. `Err` says that it names none.
+    /// Returns the rewriting that a word names: `tag`, `schema`, `document` or `settle`.
+    ///
+    /// # Errors
+    ///
+    /// Returns `()` for any other word.
     fn from_str(word: &str) -> Result<Rewriting, ()> {
         match word {
             "tag" => Ok(Rewriting::Tag),
@@ -54,7 +58,7 @@ impl FromStr for Rewriting {
 ///
 /// # Errors
 ///
-/// [`RunFault::Refused`] if the value does not conform, with the location and the rule that it breaks, and
+/// Returns [`RunFault::Refused`] with a location and a rule that is broken there if the value does not conform, or
 /// [`RunFault::Memory`] if an allocation fails.
 pub fn rewrite(
     alloc: Global,
@@ -74,11 +78,11 @@ pub fn rewrite(
     }
 }
 
-/// Returns the value that is written of the object which a value holds: cleaned once.
+/// Returns the normalized value of the object that a value holds: read and written once.
 ///
 /// # Errors
 ///
-/// [`RunFault::Refused`] if the value does not conform, with the location and the rule that it breaks, and
+/// Returns [`RunFault::Refused`] with a location and a rule that is broken there if the value does not conform, or
 /// [`RunFault::Memory`] if an allocation fails.
 pub fn cleaned_tree<T: ToNode + Drop>(
     alloc: Global,
@@ -93,11 +97,11 @@ pub fn cleaned_tree<T: ToNode + Drop>(
     tree_of_object(alloc, &object)
 }
 
-/// Returns the value of an object in stable form: cleaned twice, after which cleaning changes nothing.
+/// Returns the value of an object in stable form: normalized twice, after which normalizing changes nothing.
 ///
 /// # Errors
 ///
-/// [`RunFault::Refused`] if the value does not conform, with the location and the rule that it breaks, and
+/// Returns [`RunFault::Refused`] with a location and a rule that is broken there if the value does not conform, or
 /// [`RunFault::Memory`] if an allocation fails.
 #[tactic(auto, using(crate::proofs::Refusals::not_conforming))]
 pub fn settled_tree<T: ToNode + Drop>(
@@ -119,7 +123,7 @@ pub fn settled_tree<T: ToNode + Drop>(
 ///
 /// # Errors
 ///
-/// [`RunFault::Refused`] if the value does not conform, with the location and the rule that it breaks, and
+/// Returns [`RunFault::Refused`] with a location and a rule that is broken there if the value does not conform, or
 /// [`RunFault::Memory`] if an allocation fails.
 #[tactic(auto, using(crate::proofs::Refusals::not_conforming))]
 pub fn read_object<T: FromNode + Drop>(

@@ -5,6 +5,10 @@ use openapiv3::{OpenAPI, Steps, from_json_in_order, to_json_pretty};
 use std::alloc::Global;
 
 /// Returns the text of a document with another version of the API.
+///
+/// # Errors
+///
+/// Returns an error if the bytes are not a document, if it can't be written, or if an allocation fails.
 pub fn with_version(
     alloc: Global,
     bytes: &[u8],

@@ -18,6 +18,8 @@ mod loops;
 #[cfg(test)]
 mod made;
 #[cfg(test)]
+mod methods;
+#[cfg(test)]
 mod parameters;
 #[cfg(test)]
 mod printed;
@@ -31,6 +33,8 @@ mod readme_tests;
 mod refused;
 #[cfg(test)]
 mod resolved;
+#[cfg(test)]
+mod rewritten;
 #[cfg(test)]
 mod values;
 #[cfg(test)]

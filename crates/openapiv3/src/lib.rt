@@ -159,7 +159,7 @@ pub use openapi_security::{
 // Maps that keep the order of their entries: by names, and by other keys such as status codes.
 pub use indexmap::IndexMap;
 pub use openapi_map::{
-    Entry, IntoIter, Iter, Keys, OccupiedEntry, OrderedMap, VacantEntry, Values,
+    Entry, IntoIter, Iter, IterMut, Keys, OccupiedEntry, OrderedMap, VacantEntry, Values, ValuesMut,
 };
 
 // Nodes: JSON values with whole numbers, the access count, and the faults of readers and writers.
@@ -171,7 +171,7 @@ pub use openapi_node::{
 pub use openapi_resolve::{Component, Resolve, ResolveError};
 
 // Visitors: a method for each object of a document, with its location.
-pub use openapi_visit::{Visitor, visit};
+pub use openapi_visit::{Visitor, VisitorMut, visit, visit_mut};
 
 // Traits that read and write: from and to nodes, and as one word of a set.
 pub use openapi_fields::{FromNode, Referable, Settle, ToNode};

@@ -165,6 +165,41 @@ fn changes_one_after_another(rt: HostRuntime) -> Result<(), Fail> {
 }
 
 #[test]
+fn changes_all_values(rt: HostRuntime) -> Result<(), Fail> {
+    let alloc = rt.alloc();
+    let mut map = sample(alloc)?;
+    for value in map.values_mut() {
+        *value = value.wrapping_mul(2);
+    }
+    assert_eq!(rt; told(alloc, &map)?.as_str(), "b=2 a=8 c=6 ");
+    for (name, value) in map.iter_mut() {
+        if name != "a" {
+            *value = 0;
+        }
+    }
+    assert_eq!(rt; told(alloc, &map)?.as_str(), "b=0 a=8 c=0 ");
+    for (name, value) in &mut map {
+        if name == "c" {
+            *value = 5;
+        }
+    }
+    assert_eq!(rt; told(alloc, &map)?.as_str(), "b=0 a=8 c=5 ");
+    Ok(())
+}
+
+#[test]
+fn changes_all_of_many_and_of_none(rt: HostRuntime) -> Result<(), Fail> {
+    let mut many = numbered(rt.alloc(), 17)?;
+    for value in many.values_mut() {
+        *value = value.wrapping_add(100);
+    }
+    assert_eq!(rt; (many.get("0"), many.get("16")), (Some(&100), Some(&116)));
+    let mut none = OrderedMap::<u8>::new(rt.alloc());
+    assert!(rt; none.values_mut().next().is_none() && none.iter_mut().next().is_none());
+    Ok(())
+}
+
+#[test]
 fn writes_through_entries(rt: HostRuntime) -> Result<(), Fail> {
     let alloc = rt.alloc();
     let mut map = pairs_of(alloc, &[("to", 1), ("be", 1)])?

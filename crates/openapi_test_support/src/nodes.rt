@@ -247,6 +247,52 @@ fn check_debug(rt: &impl Abort, alloc: Global, node: &Node, wanted: &str) -> Res
 }
 
 #[test]
+fn values_become_nodes(rt: HostRuntime) -> Result<(), Fail> {
+    let alloc = rt.alloc();
+    check_debug(&rt, alloc, &Node::from(true), "Bool(true)")?;
+    check_debug(&rt, alloc, &Node::from(-1i32), "Number(-1)")?;
+    check_debug(&rt, alloc, &Node::from(-2i64), "Number(-2)")?;
+    check_debug(&rt, alloc, &Node::from(3u32), "Number(3)")?;
+    check_debug(
+        &rt,
+        alloc,
+        &Node::from(u64::MAX),
+        "Number(18446744073709551615)",
+    )?;
+    check_debug(&rt, alloc, &Node::from(4usize), "Number(4)")?;
+    check_debug(&rt, alloc, &Node::from(Whole::from(5u64)), "Number(5)")?;
+    let text = Node::try_from_str(alloc, "t")?;
+    check_debug(&rt, alloc, &text, "String(\"t\")")?;
+    let text = Node::from(String::from_str(alloc, "owned")?);
+    let list = Node::from(vec![in alloc; text, Node::from(false)]?);
+    check_debug(&rt, alloc, &list, "Array [String(\"owned\"), Bool(false)]")?;
+    let mut members = OrderedMap::new(alloc);
+    members.insert(String::from_str(alloc, "a")?, list)?;
+    let wanted = "Object {\"a\": Array [String(\"owned\"), Bool(false)]}";
+    check_debug(&rt, alloc, &Node::from(members), wanted)
+}
+
+/// Returns the text under a name of an object.
+fn text_under<'a>(rt: &HostRuntime, node: &'a Node, name: &str) -> Option<&'a str> {
+    let View::Object(members) = node.view(rt) else {
+        return None;
+    };
+    match members.get(name)?.view(rt) {
+        View::Text(text) => Some(text),
+        _ => None,
+    }
+}
+
+#[test]
+fn programs_view_nodes_without_a_count(rt: HostRuntime) -> Result<(), Fail> {
+    let node = read(rt.alloc(), "{\"a\":\"first\",\"b\":[]}")?;
+    assert_eq!(rt; text_under(&rt, &node, "a"), Some("first"));
+    assert_eq!(rt; text_under(&rt, &node, "b"), None);
+    assert_eq!(rt; text_under(&rt, &node, "c"), None);
+    Ok(())
+}
+
+#[test]
 fn copies(rt: HostRuntime) -> Result<(), Fail> {
     let alloc = rt.alloc();
     let mut steps = Steps::new(&rt);

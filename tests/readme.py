@@ -1,6 +1,7 @@
 #!/usr/bin/env python3
-"""Tells whether what the README shows in Rattle is what the gate compiles and runs, word for word: each piece of code stands in a
-source of the examples, or is all of crates/openapi_vectors/src/readme.rt but the lines that begin with `//!`.
+"""Checks that what the README and docs/COMMANDS.md show in Rattle is what `./check` compiles and runs, word for word. Each piece of
+code is in a source of the examples, or is all of crates/openapi_vectors/src/readme.rt but the lines that begin with `//!`. The
+README has to show the latter. Code in a block that is not found is a failure.
 
 The last line is `N passed, M failed`.
 """
@@ -10,6 +11,11 @@ import re
 import sys
 
 TOP = os.path.dirname(os.path.dirname(os.path.realpath(__file__)))
+# The pages whose code is compared; docs/USING.md has a program of its own, which `tests/using.py` runs.
+PAGES = ("README.md", "docs/COMMANDS.md")
+CODE = re.compile(r"^```rust\n(.*?)^```$", re.M | re.S)
+# What begins a block of code in Rattle, however it is written.
+FENCE = re.compile(r"^[ \t>]*(?:`{3,}|~{3,})[ \t]*(?:rust|rs|rattle|rt)\b", re.M | re.I)
 
 
 def text_of(path):
@@ -18,17 +24,26 @@ def text_of(path):
 
 
 def main():
-    shown = re.findall(r"^```rust\n(.*?)^```$", text_of(f"{TOP}/README.md"), re.M | re.S)
     whole = re.sub(r"^//!.*\n+", "", text_of(f"{TOP}/crates/openapi_vectors/src/readme.rt"), flags=re.M)
     examples = [text_of(it) for it in glob.glob(f"{TOP}/crates/example_*/src/*.rt")]
-    strange = [it for it in shown if it != whole and not any(f"\n{it}\n" in text for text in examples)]
-    for it in strange:
-        print(f"FAILED: the README shows code that stands nowhere:\n{it}")
-    lacking = whole not in shown
-    if lacking:
-        print("FAILED: the README does not show crates/openapi_vectors/src/readme.rt")
-    failed = len(strange) + lacking
-    print(f"{len(shown) - len(strange)} passed, {failed} failed")
+    passed = failed = 0
+    for page in PAGES:
+        text = text_of(f"{TOP}/{page}")
+        shown = CODE.findall(text)
+        for code in shown:
+            if code == whole or any(f"\n{code}\n" in it for it in examples):
+                passed += 1
+            else:
+                failed += 1
+                print(f"FAILED: {page} shows code that is in no source:\n{code}")
+        lost = len(FENCE.findall(text)) - len(shown)
+        if lost:
+            failed += 1
+            print(f"FAILED: {page} has {lost} blocks of code that are not compared")
+        if page == "README.md" and whole not in shown:
+            failed += 1
+            print("FAILED: the README does not show crates/openapi_vectors/src/readme.rt")
+    print(f"{passed} passed, {failed} failed")
     return 1 if failed else 0
 
 

@@ -32,6 +32,8 @@ mod refused;
 #[cfg(test)]
 mod resolved;
 #[cfg(test)]
+mod rewritten;
+#[cfg(test)]
 mod values;
 #[cfg(test)]
 mod walked;

@@ -33,9 +33,21 @@ pub(crate) trait AsPart {
     fn as_part(&self) -> Part<'_>;
 }
 
+impl AsPart for Components {
+    fn as_part(&self) -> Part<'_> {
+        Part::Components(self)
+    }
+}
+
 impl AsPart for PathItem {
     fn as_part(&self) -> Part<'_> {
         Part::PathItem(self)
+    }
+}
+
+impl AsPart for Operation {
+    fn as_part(&self) -> Part<'_> {
+        Part::Operation(self)
     }
 }
 

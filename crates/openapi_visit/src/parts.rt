@@ -1,13 +1,18 @@
 //! What is inside each part.
+use crate::inside::{
+    any_schema_parts, components_parts, described_parts, document_parts, media_type_parts,
+    object_type_parts, operation_parts, path_item_parts, response_parts, schema_parts,
+};
 use crate::part::{AsPart, Part};
+use indexmap::IndexMap;
 use openapi_documents::{Components, OpenAPI, Operation, PathItem};
 use openapi_map::OrderedMap;
-use openapi_media_types::{MediaType, ParameterSchemaOrContent};
-use openapi_metadata::Example;
+use openapi_media_types::{Header, MediaType, ParameterSchemaOrContent};
 use openapi_node::ReferenceToken;
+use openapi_parameters::ParameterData;
 use openapi_responses::Response;
-use openapi_schema::{AdditionalProperties, SchemaKind, Type};
-use openapi_values::ReferenceOr;
+use openapi_schema::{AdditionalProperties, AnySchema, ObjectType, Schema, SchemaKind, Type};
+use openapi_values::{ReferenceOr, StatusCode};
 use std::alloc::{AllocError, Global};
 
 /// The parts inside one part, each with its location, a JSON Pointer.
@@ -26,6 +31,11 @@ impl<'a> Parts<'a> {
         Ok(self.found.push((location, part))?)
     }
 
+    /// Adds an object.
+    fn object<T: AsPart>(&mut self, path: &str, value: &'a T) -> Result<(), AllocError> {
+        self.add(path, value.as_part())
+    }
+
     /// Adds a reference, or the item in its place.
     fn one<T: AsPart>(&mut self, path: &str, value: &'a ReferenceOr<T>) -> Result<(), AllocError> {
         match value {
@@ -34,14 +44,22 @@ impl<'a> Parts<'a> {
         }
     }
 
-    /// Adds what is there, if there is something.
+    /// Adds the value of a field that has one.
     fn some<T: AsPart>(
         &mut self,
         path: &str,
-        value: Option<&'a ReferenceOr<T>>,
+        value: &'a Option<ReferenceOr<T>>,
     ) -> Result<(), AllocError> {
         match value {
             Some(value) => self.one(path, value),
+            None => Ok(()),
+        }
+    }
+
+    /// Adds the operation of a method, if there is one.
+    fn operation(&mut self, method: &str, value: &'a Option<Operation>) -> Result<(), AllocError> {
+        match value {
+            Some(value) => self.object(method, value),
             None => Ok(()),
         }
     }
@@ -54,6 +72,19 @@ impl<'a> Parts<'a> {
     ) -> Result<(), AllocError> {
         for (name, value) in values.iter() {
             let path = format!(in self.alloc; "{path}/{}", ReferenceToken(name))?;
+            self.one(path.as_str(), value)?;
+        }
+        Ok(())
+    }
+
+    /// Adds each response of a status code.
+    fn codes(
+        &mut self,
+        path: &str,
+        values: &'a IndexMap<StatusCode, ReferenceOr<Response>>,
+    ) -> Result<(), AllocError> {
+        for (code, value) in values.iter() {
+            let path = format!(in self.alloc; "{path}/{code}")?;
             self.one(path.as_str(), value)?;
         }
         Ok(())
@@ -72,7 +103,7 @@ impl<'a> Parts<'a> {
         Ok(())
     }
 
-    /// Adds each value of a map of objects, behind the beginning of a path.
+    /// Adds each value of a map of objects. The path is what comes before their names.
     fn objects<T: AsPart>(
         &mut self,
         path: &str,
@@ -80,118 +111,54 @@ impl<'a> Parts<'a> {
     ) -> Result<(), AllocError> {
         for (name, value) in values.iter() {
             let path = format!(in self.alloc; "{path}{}", ReferenceToken(name))?;
-            self.add(path.as_str(), value.as_part())?;
+            self.object(path.as_str(), value)?;
         }
         Ok(())
     }
 
-    /// Adds the schema or the content of a parameter or a header.
-    fn format(&mut self, format: &'a ParameterSchemaOrContent) -> Result<(), AllocError> {
-        match format {
-            ParameterSchemaOrContent::Schema(it) => self.one("schema", it),
-            ParameterSchemaOrContent::Content(it) => self.objects("content/", it),
-        }
-    }
-
-    /// Adds the parts of an operation.
-    fn operation(&mut self, it: &'a Operation) -> Result<(), AllocError> {
-        let responses = &it.responses;
-        self.list("parameters", &it.parameters)?;
-        self.some("requestBody", it.request_body.as_ref())?;
-        self.some("responses/default", responses.default.as_ref())?;
-        for (code, it) in responses.responses.iter() {
-            let path = format!(in self.alloc; "responses/{code}")?;
-            self.one(path.as_str(), it)?;
-        }
-        self.map("callbacks", &it.callbacks)
-    }
-
-    /// Adds the parts of components.
-    fn components(&mut self, it: &'a Components) -> Result<(), AllocError> {
-        self.map("schemas", &it.schemas)?;
-        self.map("responses", &it.responses)?;
-        self.map("parameters", &it.parameters)?;
-        self.map("examples", &it.examples)?;
-        self.map("requestBodies", &it.request_bodies)?;
-        self.map("headers", &it.headers)?;
-        self.map("securitySchemes", &it.security_schemes)?;
-        self.map("links", &it.links)?;
-        self.map("callbacks", &it.callbacks)
-    }
-
-    /// Adds the schema of additional properties, if there is one.
-    fn additional(&mut self, it: Option<&'a AdditionalProperties>) -> Result<(), AllocError> {
-        match it {
-            Some(AdditionalProperties::Schema(it)) => { self.one("additionalProperties", it) }
-            _ => Ok(()),
-        }
-    }
-
-    /// Adds the schemas inside a schema.
-    fn schema(&mut self, kind: &'a SchemaKind) -> Result<(), AllocError> {
-        match kind {
-            SchemaKind::Typed(Type::Object(it)) => {
-                self.map("properties", &it.properties)?;
-                self.additional(it.additional_properties.as_ref())
-            }
-            SchemaKind::Typed(Type::Array(it)) => { self.some("items", it.items.as_ref()) }
-            SchemaKind::Typed(_) => Ok(()),
-            SchemaKind::OneOf { one_of } => self.list("oneOf", one_of),
-            SchemaKind::AllOf { all_of } => self.list("allOf", all_of),
-            SchemaKind::AnyOf { any_of } => self.list("anyOf", any_of),
-            SchemaKind::Not { not } => self.one("not", not),
-            SchemaKind::Any(it) => {
-                self.map("properties", &it.properties)?;
-                self.additional(it.additional_properties.as_ref())?;
-                self.some("items", it.items.as_ref())?;
-                self.list("oneOf", &it.one_of)?;
-                self.list("allOf", &it.all_of)?;
-                self.list("anyOf", &it.any_of)?;
-                self.some("not", it.not.as_deref())
-            }
-        }
-    }
-
-    /// Adds the parts of a document.
     fn document(&mut self, it: &'a OpenAPI) -> Result<(), AllocError> {
-        self.map("paths", &it.paths.paths)?;
-        match &it.components {
-            Some(it) => self.add("components", Part::Components(it)),
-            None => Ok(()),
-        }
+        document_parts!(self, it)
     }
 
-    /// Adds the parts of a path item.
+    fn components(&mut self, it: &'a Components) -> Result<(), AllocError> {
+        components_parts!(self, it)
+    }
+
     fn path_item(&mut self, it: &'a PathItem) -> Result<(), AllocError> {
-        self.list("parameters", &it.parameters)?;
-        for (method, it) in it.iter() {
-            self.add(method, Part::Operation(it))?;
-        }
-        Ok(())
+        path_item_parts!(self, it)
     }
 
-    /// Adds the parts of a parameter or a header.
-    fn described(
-        &mut self,
-        format: &'a ParameterSchemaOrContent,
-        examples: &'a OrderedMap<ReferenceOr<Example>>,
-    ) -> Result<(), AllocError> {
-        self.format(format)?;
-        self.map("examples", examples)
+    fn operation_fields(&mut self, it: &'a Operation) -> Result<(), AllocError> {
+        operation_parts!(self, it)
     }
 
-    /// Adds the parts of a response.
+    fn parameter(&mut self, it: &'a ParameterData) -> Result<(), AllocError> {
+        described_parts!(self, it)
+    }
+
+    fn header(&mut self, it: &'a Header) -> Result<(), AllocError> {
+        described_parts!(self, it)
+    }
+
     fn response(&mut self, it: &'a Response) -> Result<(), AllocError> {
-        self.map("headers", &it.headers)?;
-        self.objects("content/", &it.content)?;
-        self.map("links", &it.links)
+        response_parts!(self, it)
     }
 
-    /// Adds the parts of a media type.
     fn media_type(&mut self, it: &'a MediaType) -> Result<(), AllocError> {
-        self.some("schema", it.schema.as_ref())?;
-        self.map("examples", &it.examples)?;
-        self.objects("encoding/", &it.encoding)
+        media_type_parts!(self, it)
+    }
+
+    fn object_type(&mut self, it: &'a ObjectType) -> Result<(), AllocError> {
+        object_type_parts!(self, it)
+    }
+
+    fn any_schema(&mut self, it: &'a AnySchema) -> Result<(), AllocError> {
+        object_type_parts!(self, it)?;
+        any_schema_parts!(self, it)
+    }
+
+    fn schema(&mut self, it: &'a Schema) -> Result<(), AllocError> {
+        schema_parts!(self, it.schema_kind)
     }
 
     /// Adds the parts of a part, in the order of its fields.
@@ -200,18 +167,15 @@ impl<'a> Parts<'a> {
             Part::Document(it) => self.document(it),
             Part::Components(it) => self.components(it),
             Part::PathItem(it) => self.path_item(it),
-            Part::Operation(it) => self.operation(it),
-            Part::Parameter(it) => {
-                let it = it.parameter_data_ref();
-                self.described(&it.format, &it.examples)
-            }
+            Part::Operation(it) => self.operation_fields(it),
+            Part::Parameter(it) => self.parameter(it.parameter_data_ref()),
             Part::RequestBody(it) => self.objects("content/", &it.content),
             Part::Response(it) => self.response(it),
-            Part::Header(it) => self.described(&it.format, &it.examples),
+            Part::Header(it) => self.header(it),
             Part::MediaType(it) => self.media_type(it),
             Part::Encoding(it) => self.map("headers", &it.headers),
             Part::Callback(it) => self.objects("", &it.paths),
-            Part::Schema(it) => self.schema(&it.schema_kind),
+            Part::Schema(it) => self.schema(it),
             Part::Example(_) | Part::Link(_) | Part::SecurityScheme(_) | Part::Reference(_) => Ok(
                 (),
             ),

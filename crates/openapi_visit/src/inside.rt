@@ -1,0 +1,143 @@
+//! What is inside each object, in the order of its fields. The macros are used for shared borrows, and with `mut` for mutable ones.
+
+/// Adds the parts of a document.
+macro_rules! document_parts {
+    ($parts:ident, $it:ident $(, $m:tt)?) => {{
+        $parts.map("paths", &$($m)? $it.paths.paths)?;
+        match &$($m)? $it.components {
+            Some(it) => $parts.object("components", it),
+            None => Ok(()),
+        }
+    }};
+}
+
+pub(crate) use document_parts;
+
+/// Adds the parts of components.
+macro_rules! components_parts {
+    ($parts:ident, $it:ident $(, $m:tt)?) => {{
+        $parts.map("schemas", &$($m)? $it.schemas)?;
+        $parts.map("responses", &$($m)? $it.responses)?;
+        $parts.map("parameters", &$($m)? $it.parameters)?;
+        $parts.map("examples", &$($m)? $it.examples)?;
+        $parts.map("requestBodies", &$($m)? $it.request_bodies)?;
+        $parts.map("headers", &$($m)? $it.headers)?;
+        $parts.map("securitySchemes", &$($m)? $it.security_schemes)?;
+        $parts.map("links", &$($m)? $it.links)?;
+        $parts.map("callbacks", &$($m)? $it.callbacks)
+    }};
+}
+
+pub(crate) use components_parts;
+
+/// Adds the parts of a path item, which has an operation or none for each of eight methods.
+macro_rules! path_item_parts {
+    ($parts:ident, $it:ident $(, $m:tt)?) => {{
+        $parts.list("parameters", &$($m)? $it.parameters)?;
+        $parts.operation("get", &$($m)? $it.get)?;
+        $parts.operation("put", &$($m)? $it.put)?;
+        $parts.operation("post", &$($m)? $it.post)?;
+        $parts.operation("delete", &$($m)? $it.delete)?;
+        $parts.operation("options", &$($m)? $it.options)?;
+        $parts.operation("head", &$($m)? $it.head)?;
+        $parts.operation("patch", &$($m)? $it.patch)?;
+        $parts.operation("trace", &$($m)? $it.trace)
+    }};
+}
+
+pub(crate) use path_item_parts;
+
+/// Adds the parts of an operation.
+macro_rules! operation_parts {
+    ($parts:ident, $it:ident $(, $m:tt)?) => {{
+        $parts.list("parameters", &$($m)? $it.parameters)?;
+        $parts.some("requestBody", &$($m)? $it.request_body)?;
+        $parts.some("responses/default", &$($m)? $it.responses.default)?;
+        $parts.codes("responses", &$($m)? $it.responses.responses)?;
+        $parts.map("callbacks", &$($m)? $it.callbacks)
+    }};
+}
+
+pub(crate) use operation_parts;
+
+/// Adds the parts of a response.
+macro_rules! response_parts {
+    ($parts:ident, $it:ident $(, $m:tt)?) => {{
+        $parts.map("headers", &$($m)? $it.headers)?;
+        $parts.objects("content/", &$($m)? $it.content)?;
+        $parts.map("links", &$($m)? $it.links)
+    }};
+}
+
+pub(crate) use response_parts;
+
+/// Adds the parts of a media type.
+macro_rules! media_type_parts {
+    ($parts:ident, $it:ident $(, $m:tt)?) => {{
+        $parts.some("schema", &$($m)? $it.schema)?;
+        $parts.map("examples", &$($m)? $it.examples)?;
+        $parts.objects("encoding/", &$($m)? $it.encoding)
+    }};
+}
+
+pub(crate) use media_type_parts;
+
+/// Adds the parts of a parameter or a header.
+macro_rules! described_parts {
+    ($parts:ident, $it:ident $(, $m:tt)?) => {{
+        match &$($m)? $it.format {
+            ParameterSchemaOrContent::Schema(it) => $parts.one("schema", it)?,
+            ParameterSchemaOrContent::Content(it) => $parts.objects("content/", it)?,
+        }
+        $parts.map("examples", &$($m)? $it.examples)
+    }};
+}
+
+pub(crate) use described_parts;
+
+/// Adds the schemas inside an object type or a schema of any kind, in the order of their fields.
+macro_rules! object_type_parts {
+    ($parts:ident, $it:ident $(, $m:tt)?) => {{
+        $parts.map("properties", &$($m)? $it.properties)?;
+        match &$($m)? $it.additional_properties {
+            Some(AdditionalProperties::Schema(it)) => $parts.one("additionalProperties", it),
+            _ => Ok(()),
+        }
+    }};
+}
+
+pub(crate) use object_type_parts;
+
+/// Adds the schemas inside a schema of no kind.
+macro_rules! any_schema_parts {
+    ($parts:ident, $it:ident $(, $m:tt)?) => {{
+        $parts.some("items", &$($m)? $it.items)?;
+        $parts.list("oneOf", &$($m)? $it.one_of)?;
+        $parts.list("allOf", &$($m)? $it.all_of)?;
+        $parts.list("anyOf", &$($m)? $it.any_of)?;
+        match &$($m)? $it.not {
+            Some(it) => $parts.one("not", it),
+            None => Ok(()),
+        }
+    }};
+}
+
+pub(crate) use any_schema_parts;
+
+/// Adds the schemas inside a schema.
+macro_rules! schema_parts {
+    ($parts:ident, $kind:expr $(, $m:tt)?) => {
+        match &$($m)? $kind {
+            SchemaKind::Typed(Type::Object(it)) => $parts.object_type(it),
+            SchemaKind::Typed(Type::Array(it)) => $parts.some("items", &$($m)? it.items),
+            SchemaKind::Typed(_) => Ok(()),
+            SchemaKind::OneOf { one_of } => $parts.list("oneOf", one_of),
+            SchemaKind::AllOf { all_of } => $parts.list("allOf", all_of),
+            SchemaKind::AnyOf { any_of } => $parts.list("anyOf", any_of),
+            SchemaKind::Not { not } => $parts.one("not", not),
+            SchemaKind::Any(it) => $parts.any_schema(it),
+        }
+    };
+}
+
+pub(crate) use schema_parts;

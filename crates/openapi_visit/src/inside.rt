@@ -3,7 +3,7 @@
 /// Adds the parts of a document.
 macro_rules! document_parts {
     ($parts:ident, $it:ident $(, $m:tt)?) => {{
-        $parts.map("paths", &$($m)? $it.paths.paths)?;
+        $parts.paths(&$($m)? $it.paths)?;
         match &$($m)? $it.components {
             Some(it) => $parts.object("components", it),
             None => Ok(()),
@@ -52,13 +52,22 @@ macro_rules! operation_parts {
     ($parts:ident, $it:ident $(, $m:tt)?) => {{
         $parts.list("parameters", &$($m)? $it.parameters)?;
         $parts.some("requestBody", &$($m)? $it.request_body)?;
-        $parts.some("responses/default", &$($m)? $it.responses.default)?;
-        $parts.codes("responses", &$($m)? $it.responses.responses)?;
+        $parts.responses(&$($m)? $it.responses)?;
         $parts.map("callbacks", &$($m)? $it.callbacks)
     }};
 }
 
 pub(crate) use operation_parts;
+
+/// Adds the responses of an operation.
+macro_rules! responses_parts {
+    ($parts:ident, $it:ident $(, $m:tt)?) => {{
+        $parts.some("responses/default", &$($m)? $it.default)?;
+        $parts.codes("responses", &$($m)? $it.responses)
+    }};
+}
+
+pub(crate) use responses_parts;
 
 /// Adds the parts of a response.
 macro_rules! response_parts {

@@ -1,16 +1,17 @@
 //! What is inside each part.
 use crate::inside::{
     any_schema_parts, components_parts, described_parts, document_parts, media_type_parts,
-    object_type_parts, operation_parts, path_item_parts, response_parts, schema_parts,
+    object_type_parts, operation_parts, path_item_parts, response_parts, responses_parts,
+    schema_parts,
 };
 use crate::part::{AsPart, Part};
 use indexmap::IndexMap;
-use openapi_documents::{Components, OpenAPI, Operation, PathItem};
+use openapi_documents::{Components, OpenAPI, Operation, PathItem, Paths};
 use openapi_map::OrderedMap;
 use openapi_media_types::{Header, MediaType, ParameterSchemaOrContent};
 use openapi_node::ReferenceToken;
 use openapi_parameters::ParameterData;
-use openapi_responses::Response;
+use openapi_responses::{Response, Responses};
 use openapi_schema::{AdditionalProperties, AnySchema, ObjectType, Schema, SchemaKind, Type};
 use openapi_values::{ReferenceOr, StatusCode};
 use std::alloc::{AllocError, Global};
@@ -120,6 +121,10 @@ impl<'a> Parts<'a> {
         document_parts!(self, it)
     }
 
+    fn paths(&mut self, it: &'a Paths) -> Result<(), AllocError> {
+        self.map("paths", &it.paths)
+    }
+
     fn components(&mut self, it: &'a Components) -> Result<(), AllocError> {
         components_parts!(self, it)
     }
@@ -130,6 +135,10 @@ impl<'a> Parts<'a> {
 
     fn operation_fields(&mut self, it: &'a Operation) -> Result<(), AllocError> {
         operation_parts!(self, it)
+    }
+
+    fn responses(&mut self, it: &'a Responses) -> Result<(), AllocError> {
+        responses_parts!(self, it)
     }
 
     fn parameter(&mut self, it: &'a ParameterData) -> Result<(), AllocError> {

@@ -1,16 +1,17 @@
 //! What is inside each part, borrowed mutably.
 use crate::inside::{
     any_schema_parts, components_parts, described_parts, document_parts, media_type_parts,
-    object_type_parts, operation_parts, path_item_parts, response_parts, schema_parts,
+    object_type_parts, operation_parts, path_item_parts, response_parts, responses_parts,
+    schema_parts,
 };
 use crate::part_mut::{AsPartMut, PartMut};
 use indexmap::IndexMap;
-use openapi_documents::{Components, OpenAPI, Operation, PathItem};
+use openapi_documents::{Components, OpenAPI, Operation, PathItem, Paths};
 use openapi_map::OrderedMap;
 use openapi_media_types::{Header, MediaType, ParameterSchemaOrContent};
 use openapi_node::ReferenceToken;
 use openapi_parameters::{Parameter, ParameterData};
-use openapi_responses::Response;
+use openapi_responses::{Response, Responses};
 use openapi_schema::{AdditionalProperties, AnySchema, ObjectType, Schema, SchemaKind, Type};
 use openapi_values::{ReferenceOr, StatusCode};
 use std::alloc::{AllocError, Global};
@@ -130,6 +131,10 @@ impl<'a> PartsMut<'a> {
         document_parts!(self, it, mut)
     }
 
+    fn paths(&mut self, it: &'a mut Paths) -> Result<(), AllocError> {
+        self.map("paths", &mut it.paths)
+    }
+
     fn components(&mut self, it: &'a mut Components) -> Result<(), AllocError> {
         components_parts!(self, it, mut)
     }
@@ -140,6 +145,10 @@ impl<'a> PartsMut<'a> {
 
     fn operation_fields(&mut self, it: &'a mut Operation) -> Result<(), AllocError> {
         operation_parts!(self, it, mut)
+    }
+
+    fn responses(&mut self, it: &'a mut Responses) -> Result<(), AllocError> {
+        responses_parts!(self, it, mut)
     }
 
     fn parameter(&mut self, it: &'a mut Parameter) -> Result<(), AllocError> {

@@ -18,6 +18,8 @@ mod loops;
 #[cfg(test)]
 mod made;
 #[cfg(test)]
+mod methods;
+#[cfg(test)]
 mod parameters;
 #[cfg(test)]
 mod printed;

@@ -2,8 +2,8 @@
 
 For each crate that is proved, or kept from an earlier run, it prints a line with the seconds since the crate before, how many
 of how many crates are done, and an estimate of what is left, by the lines of the others. On a terminal each such line
-replaces the one before. For a crate that is not proved it prints all that `rt ci` did, and at the end what `rt ci` prints of
-failures and of the whole run.
+replaces the one before. For a crate that is not proved it prints all that `rt ci` did. At the end it prints what `rt ci`
+reports on failures and on the whole run.
 """
 import re
 import sys
@@ -15,14 +15,14 @@ DONE = re.compile(r"rt: (\w+) (proved|NOT PROVED|is kept: .*)$")
 TESTS = re.compile(r"rt: (\w+): its tests are (proved|NOT PROVED)$")
 # Lines on a crate that report no failure.
 IS_WELL = re.compile(r": proved$|^statements ")
-# The lines after the proofs, on edits, tests, programs and the whole run; and those of them that report no failure.
+# The lines after the proofs, on must-fail mutations, tests, programs and the whole run; and those of them that report no failure.
 IS_SAID = re.compile(r"rt: |test .* \.\.\. FAILED|\d+ passed")
 VERDICT = re.compile(r"\d+ passed, \d+ failed")
 PASSED = re.compile(r"refused, as it must be|trying its must-fail edits|must-fail edits were tried by|waiting for it$|ran.*, and wrote what")
 
 
 def crate_of(line):
-    """Returns the crate that a line says is proved or kept, or None."""
+    """Returns the crate that a line reports as proved or kept, or None."""
     done = DONE.match(line.rstrip())
     return done and done[2] != "NOT PROVED" and done[1] or None
 

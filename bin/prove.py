@@ -9,12 +9,12 @@ when it is done. The last line is `N passed, M failed`, and the exit status is t
 
 `rt ci NAME ..` would do for the second, but some releases of the kit take no names, and those that do leave no program. So
 the copy has no other crates, and `rt ci` without names proves all of it. A kit that keeps proofs keeps them by hashes of what
-they rest on, so each counts for later runs of `rt ci` here, in other clones too. Where CI is `true` in the environment, names
-are refused, as `rt ci` refuses them there: some crates are not enough for a merge.
+they rest on. So each counts for later runs of `rt ci` here, in other clones too. If CI is `true` in the environment, names
+are refused, as by `rt ci`: some crates are not enough for a merge.
 
-With such a kit each library that others use is proved by a run of its own first, when those that it uses are proved, and two
-of them side by side. A run divides the processors among all that is ready, also tests that a crate has not, and so proves a
-library with two of four. A run takes 3 to 20 seconds even if all is kept, so a library that was proved so is noted in a folder
+With such a kit each library that others use is first proved by a run of its own, when those that it uses are proved. Two such
+runs are side by side. A run divides the processors among all that is ready, also tests that a crate has not, and so proves a
+library with two of four. A run takes 3 to 20 seconds even if all is kept. So a library that was proved so is noted in a folder
 for temporary files, by a hash of its sources and of those below it. It is left to the last run, which proves it if it is not
 kept any more.
 """
@@ -50,15 +50,15 @@ def start(folder):
 
 
 def keeps_proofs():
-    """Returns whether the kit keeps proofs for later runs. Those that do take names of crates, and say so; but where CI is `true`
-    they refuse names before they do."""
+    """Returns whether the kit keeps proofs for later runs. A kit that does takes names of crates, and its help lists them. If CI
+    is `true` it refuses names instead."""
     elsewhere = {name: value for name, value in os.environ.items() if name != "CI"}
     ran = subprocess.run(["rt", "ci", "--help"], env=elsewhere, stdout=subprocess.PIPE, stderr=subprocess.STDOUT, text=True)
     return "names of crates" in ran.stdout
 
 
 def note_of(name, top):
-    """Returns the path that says of a library, as its sources are, that a run of its own proved it."""
+    """Returns the path of the file that exists if a run of its own proved a library, as its sources are."""
     return f"{tempfile.gettempdir()}/openapi-proved-{os.getuid()}/{sources.sum_of(name, is_proved=True, top=top)}"
 
 
@@ -74,8 +74,8 @@ class Proof:
         return max((1 + self.chain_above(it) for it, used in self.uses.items() if name in used), default=0)
 
     def alone(self, name):
-        """Proves a library and those that it uses, which are kept. Returns the exit status, and what is printed of it; of a
-        failure, all."""
+        """Proves a library and those that it uses, which are kept. Returns the exit status and the lines to print: those on the
+        library, or all after a failure."""
         note = note_of(name, self.folder)
         if os.path.isfile(note):
             return 0, []
@@ -92,8 +92,8 @@ class Proof:
         return 0, [it for it in lines if progress.crate_of(it) == name]
 
     def libraries(self):
-        """Proves the libraries that others use, each by a run of its own, and yields what is printed. Of those that are ready
-        the one on which the longest chain waits begins."""
+        """Proves the libraries that others use, each by a run of its own, and yields the lines to print. Of those that are ready
+        it begins with the one on which the longest chain waits."""
         left = {it for used in self.uses.values() for it in used}
         running = {}
         with concurrent.futures.ThreadPoolExecutor(SIDE_BY_SIDE) as pool:

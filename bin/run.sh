@@ -1,5 +1,5 @@
 #!/usr/bin/env bash
-# usage: bin/run.sh PROGRAM [WORD ..] < FILE      runs a program of this repository: the proved one, or where there is none of the
+# usage: bin/run.sh PROGRAM [WORD ..] < FILE      runs a program of this repository: the proved one, or if none is built from the
 #                                                 sources as they are, an unproved build of them, which is kept
 #
 # Prints to standard error whether the proved or the unproved build answers; set OPENAPI_CLEAN_QUIET to silence this. Standard
@@ -26,8 +26,8 @@ folders() {
     END { visit(name) }' "$top/crates.txt"
 }
 
-# Whether the kit and the sources of the program are older than a file, by times alone. What else stands in a crate's folder
-# is no source. (A folder is newer if a file was added or removed.)
+# Whether the kit and the sources of the program are older than a file, by times alone. What else is in a crate's folder is no
+# source. (A folder is newer if a file was added or removed.)
 is_newest() {
   local file=$1 no_source=$2 found
   # shellcheck disable=SC2046 # no name of a crate has a space

@@ -8,8 +8,8 @@ Exits with 0 if the program was built from the sources as they are, and with 1 o
 Beside each program that `bin/prove.py` or `bin/unproved.py` builds is a file PROGRAM.sum: a hash of what the program is
 built from, and the path of the kit's `rt`. The time of that file is from before the hash was computed. So while no source
 has changed since, the program is current, and `bin/run.sh` compares times alone. If a source is newer the hash decides, and
-an equal hash renews the time. A program that is newer than its PROGRAM.sum was built by something else, and the hash says
-nothing about it.
+an equal hash renews the time. A program that is newer than its PROGRAM.sum was built by something else, and the hash is not
+about it.
 """
 import hashlib
 import os

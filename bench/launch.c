@@ -1,5 +1,5 @@
-/* Runs a program on a file and prints how long it took by the clock, in seconds, and its peak memory, in bytes. It
-   stands between the program and bench/run.py because a process counts as its own the memory of the one that started
+/* Runs a program on a file and prints how long it took by the clock, in seconds, and its peak memory, in bytes.
+   bench/run.py starts it, and not the program itself: a process counts as its own the memory of the one that started
    it, and this one has next to none.
 
    usage: launch FILE PROGRAM ARGUMENT ..       the file is standard input; standard output is dropped */

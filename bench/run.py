@@ -1,18 +1,20 @@
 #!/usr/bin/env python3
-"""Times `openapi_clean` on inputs that it makes itself, and tells the peak memory of each run.
+"""Times `openapi_clean` on inputs that it makes itself, and measures the peak memory of each run.
 
 usage: bench/run.py [--sizes 1,4,16] [--runs N] [--command tag] [--only NAME] [--tool | --other PROGRAM [--straight]]
                     [--instructions] [PROGRAM]
 
-PROGRAM is the program to measure, by default the one that `./openapi_clean` built. For each shape of input and each
-size in megabytes it prints the bytes read in a second by the clock (the best of the runs) and the peak memory for each
-byte read, and how straight the time grew: the time for each byte at the largest size over that at the smallest. With
-`--instructions` and valgrind it counts the instructions for each byte too, at the two smallest sizes. A second program
-may be given by `--other`: it is run with the same argument on the same inputs, in turn with the first, and a line gives
-the time, the memory and the instructions of the first as shares of those of the second. With `--straight` it is run
-once more, with the word `--direct` before the argument, and has a line for each of its two ways. With `--tool` the
-second program is `openapi normalize --compact`, on tags, schemas and documents, so the line gives by name as shares of in order. It
-needs a C compiler.
+PROGRAM is the program to measure, by default the one that `bin/prove.py openapi_clean` built. For each shape of input and each
+size in megabytes it prints the bytes read in a second by the clock (the best of the runs) and the peak memory for each byte
+read. Then it prints the growth: the time for each byte at the largest size over that at the smallest. It needs a C compiler.
+
+- `--instructions` counts the instructions for each byte too, by valgrind, at the two smallest sizes.
+- `--other` names a second program. It is run with the same argument on the same inputs, alternating with the first. A line has
+  the time, the memory and the instructions of the first as shares of those of the second.
+- `--straight` runs the second program once more, with the word `--direct` before the argument, and prints a line for each of
+  its two ways.
+- `--tool` measures `openapi normalize --compact` as the second program, on tags, schemas and documents. So the line compares
+  output by name with output in order.
 """
 import argparse
 import os
@@ -202,7 +204,7 @@ def instructions(words, command, path):
 
 
 def timed(launch, programs, arguments, shape, megabytes, folder):
-    """Runs each program in turn on one input, and prints a line for each and their ratios; returns the seconds a byte of each."""
+    """Runs the programs, alternating, on one input. Prints a line for each and their ratios, and returns the seconds a byte of each."""
     path, size = made(shape, megabytes, folder)
     runs = {label: [] for label, _ in programs}
     for _ in range(arguments.runs):
@@ -257,7 +259,7 @@ def main():
     parser.add_argument("--instructions", action="store_true")
     arguments = parser.parse_args()
     if not os.access(arguments.program, os.X_OK):
-        sys.exit(f"no program at {arguments.program}: run ./openapi_clean once, which builds it")
+        sys.exit(f"no program at {arguments.program}: run bin/prove.py openapi_clean, which builds it")
     programs = [("this", [arguments.program])]
     if arguments.tool:
         programs.append(("tool", [TOOL, "normalize", "--compact", "--as"]))

@@ -2,60 +2,60 @@
 """Tries the mutations that must be refused, and keeps the verdicts.
 
 usage: tests/edits.py [--jobs N] [--together N] [CRATE ..]
-           tries those mutations of these crates, or of all, that have no verdict on the text as it stands; as many side by side
-           as there are jobs, and at most so many together in one check (12 if left out; of a large crate fewer are quicker, and
+           tries those mutations of these crates, or of all, that have no verdict on the text as it is; as many side by side as
+           there are jobs, and at most so many together in one check (12 if left out; of a large crate fewer are quicker, and
            take less memory)
        tests/edits.py --draw N [CRATE ..]
            tries N mutations that were refused, and keeps no verdict. They are drawn by the hash of the commit, from two of these
-           crates, or of the five lowest, whose proofs take minutes where none are kept
+           crates, or of the five lowest, whose proofs take minutes if none are kept
        tests/edits.py --compare
-           tries nothing: prints for each crate which of its mutations have no verdict of a refusal on the text as it stands
+           tries nothing: prints for each crate which of its mutations have no verdict of a refusal on the text as it is
 
-The mutations of a crate stand in edits/CRATE.txt. A line `file:` between two empty lines names a file of the crate, and the
+The mutations of a crate are in edits/CRATE.txt. A line `file:` between two empty lines names a file of the crate, and the
 mutations below change it, up to the next such line. A mutation is a line with its name, and below it pairs of lines `old:` and
-`new:`, of which each replaces a text that stands in the file once. (A line `file:` within a mutation leads to another file.) A
-line `twin:` behind a `new:` is the harmless twin: a text that means the same as `old:`, in the shape of `new:`. A line that
-begins with `#` is a comment.
+`new:`. Each pair replaces a text that occurs in the file once. (A line `file:` within a mutation names another file.) A line
+`twin:` behind a `new:` is the harmless twin: a text that means the same as `old:`, in the shape of `new:`. A line that begins
+with `#` is a comment.
 
 The prover must refuse the crate with the mutation, at a clause. `edits/verdicts` has a line for each mutation that was tried:
 its name, a hash of what the verdict rests on, and the reason, in one of these words:
 - `goal NAME`: the prover names a goal that is not proved: an `ensures`, a `requires`, a ghost field, the invariant of a loop or
-  of a type, or a safety fact. A goal that a proof file answers counts where its answer has another type or proves another
-  thing, and not where it names what is gone.
+  of a type, or a safety fact. A goal that a proof file answers counts if its answer has another type or proves another thing,
+  and not if it names what is gone.
 - `lemma NAME`: after a change of a definition, a lemma is not proved, in the same ways.
 - `twin REASON`: it is refused for this reason, and the crate with its twin is proved.
-- `proof`: a proof file does not check for itself, since it names what the mutation took away.
+- `proof`: a proof file does not check for itself, since it names what the mutation removed.
 - `limit`: the prover met a limit of its own, or its search did at each goal.
-- `shape`: the mutation adds a function or a loop, so the refusal may tell of what the contract of that function leaves out, or
-  of an invariant that the loop has not.
-The last three are no refusals: the mutation is rewritten, or gets a twin. A verdict without a reason was kept before reasons were, or
-written by hand for a mutation that was not tried on the text as it stands. It decides nothing: the mutation is tried again when its crate is. `--compare` fails for
-`proof`, `limit` and `shape`, and for a mutation that has no verdict on the text; those without a reason are undecided, and count
-neither as passed nor as failed.
+- `shape`: the mutation adds a function or a loop. So what is not proved may be what the contract of that function leaves out, or
+  need an invariant that the loop has not.
+The last three are no refusals: the mutation is rewritten, or gets a twin. A verdict without a reason was kept before reasons
+were, or written by hand for a mutation that was not tried on the text as it is. It decides nothing: the mutation is tried again
+when its crate is. `--compare` fails for `proof`, `limit` and `shape`, and for a mutation that has no verdict on the text. Those
+without a reason are undecided, and count neither as passed nor as failed.
 
 Mutations are expensive, so each is tried when what its verdict rests on has changed. The second line of `edits/verdicts` is that
 of `rt version`. The verdicts hold for each release of the kit that has the same logic, which that line names too.
 
 No body is seen by the proof of another function. So the verdict on a mutation in the body of one function rests on:
 - the mutation, and the text of the function with its attributes;
-- the function's own proofs, or those of its cycle, and the crate's specs that all of this names, by way of other specs and of
-  lemmas too;
+- the function's own proofs, or those of its cycle, and the crate's specs that all of this names, also by way of other specs and
+  of lemmas;
 - what the function can see of the crate's sources: the heads of functions that it names, with their contracts; the types,
-  traits, constants and macros that are named in any of this; and what stands beside the functions in the traits and impls of
-  these. An impl counts where all that its head has of the crate is named, and if it is of no trait, where one of its functions is
-  named too. If it is of a trait, the heads of its functions count, since an operator, a loop or a `?` calls one without its name;
+  traits, constants and macros that are named in any of this; and what is beside the functions in the traits and impls of these;
 - what the files of all this import under a name, or as an operator, that is written in it.
-Lemmas do not count: a lemma means what its statement says, and is proved. Any other mutation (of a definition, a constant,
-several functions, ..) rests on all sources, specs and proofs of the crate. Other crates do not count.
+An impl counts if all that its head has of the crate is named. If it is of no trait, one of its functions has to be named too. If
+it is of a trait, the heads of its functions count, since an operator, a loop or a `?` calls one without its name. Lemmas do not
+count: a lemma means what its statement states, and is proved. Any other mutation (of a definition, a constant, several
+functions, ..) rests on all sources, specs and proofs of the crate. Other crates do not count.
 
 Mutations are tried by `rt check`, in a copy of the crate with what a check of it left. Mutations of different functions are
-tried together: each of these functions has to be refused for itself, at a place in its body or in its own proof (in that of its
-cycle, at a goal of its own). One that is not refused so is tried by itself, and at last from nothing. What makes a text that
-the prover can't read, or that breaks a rule of the language, is not refused. A verdict is kept as soon as it is known, so that a
-run that was ended goes on where it stopped. The last line is `N passed, M failed`, and counts mutations.
+tried together. Each of these functions has to be refused for itself, at a location in its body or in its own proof (in that of
+its cycle, at a goal of its own). One that is not refused so is tried by itself, and at last from nothing. A mutation whose text
+the prover can't read, or that breaks a rule of the language, is not refused. A verdict is kept when it is known, so that a run
+that was ended continues where it stopped. The last line is `N passed, M failed`, and counts mutations.
 
-Lines of a source that are a comment count for no hash, nor do those that say no more than how a function is to be inlined:
-they are hints to the compiler that makes a program of what is proved. No proof sees either.
+Lines of a source that are a comment count for no hash. Nor do those that only state how a function is to be inlined: they are
+hints to the compiler that makes a program of what is proved. No proof sees either.
 """
 import argparse
 import fcntl
@@ -78,7 +78,7 @@ HEAD = "# The kit, and for each mutation the hash of what its verdict rests on, 
 REFUSED = ("goal", "lemma", "twin")
 # Why a mutation is tried again whose verdict was kept before reasons were.
 NO_REASON = "no reason"
-# The crates that `--draw` draws from where none is named: the lowest, so that few proofs are needed where none are kept.
+# The crates that `--draw` draws from if none is named: the lowest, so that few proofs are needed if none are kept.
 LOWEST = ("openapi_json", "openapi_map", "openapi_node", "openapi_tables", "openapi_values")
 # A line of a source that no proof sees: a comment, or a hint on inlining.
 UNSEEN = re.compile(r"\s*(?://.*|#\[(?:inline(?:\((?:never|always)\))?|cold)\])?\s*")
@@ -89,7 +89,7 @@ BEGINS = re.compile(
     r" *(?:pub(?:\([\w: ]+\))? |unsafe |const (?=fn)|ghost (?=use))*"
     r"(use|impl|(?:fn|struct|enum|trait|const|static|type|mod|macro_rules!)(?= (\w+)))(?!\w)"
 )
-# What the head of an impl says of its trait and its type, without what it says of their parameters.
+# The trait and the type in the head of an impl, without its parameters.
 IMPL = re.compile(r"(?:unsafe )?impl(?:<(?:[^<>]|<[^<>]*>)*>)?([^{]*?)(?:\bwhere\b|\{)")
 
 
@@ -104,7 +104,7 @@ class Edit:
         self.name, self.lines = name, lines
 
     def pairs(self):
-        """Returns the texts that it replaces: for each its file, itself, and what takes its place."""
+        """Yields for each text that it replaces the file, the text, and what replaces it."""
         file, old = "", ""
         for line in self.lines:
             word, _, text = line.partition(":")
@@ -117,7 +117,7 @@ class Edit:
                 yield file, old, text
 
     def twin(self):
-        """Returns its harmless twin, or None where it has none."""
+        """Returns its harmless twin, or None if it has none."""
         lines = []
         for line in self.lines:
             if line.startswith("twin:"):
@@ -132,7 +132,7 @@ class Edit:
         return not shapes(2) <= shapes(1)
 
     def applied(self, files):
-        """Returns the files that it changes, as it leaves them; or None, where a text that it replaces doesn't stand once."""
+        """Returns the files that it changes, as it leaves them; or None, if a text that it replaces does not occur once."""
         changed = {}
         for file, old, new in self.pairs():
             text = changed.get(file, files.get(file, ""))
@@ -204,10 +204,11 @@ def is_written(path, text):
 
 
 class Item:
-    """A function, a definition, a macro, a block (an impl or a trait) or a `use` of a source: its kind and name, its file and
-    the block that it stands in, its text with its attributes, and its head, which is what others see of it. The head of a
-    function has its contract, and that of a block all that stands in it beside its functions. What is said of a whole file is
-    as a `use`."""
+    """A function, a definition, a macro, a block (an impl or a trait) or a `use` of a source.
+
+    It has its kind and name, its file and the block that it is in, its text with its attributes, and its head, which is what
+    others see of it. The head of a function has its contract. That of a block has all that is in it beside its functions. An
+    attribute of a whole file counts as a `use`."""
 
     def __init__(self, file, lines, block=None):
         self.file, self.block, self.items, self.needs = file, block, [], set()
@@ -243,11 +244,11 @@ class Item:
             return self.block.needs <= known and (" for " in self.block.opening or self.name in called)
         if self.kind == "fn":
             return self.name in called
-        # What is not understood, and what stands in a module of its own in a file, is seen by all.
+        # What is not understood, and what is in a module of its own in a file, is seen by all.
         return self.name in known or self.kind in (None, "mod")
 
     def brings(self):
-        """Returns what this `use` brings: for each path its name, or None where that is no plain word, as of an operator."""
+        """Returns what this `use` brings: for each path its name, or None if that is no plain word, as of an operator."""
         way, _, listed = re.sub(r"\s+", " ", self.text).rstrip("; ").partition("{")
         if "{" in listed:
             return {way + listed: None}
@@ -257,7 +258,7 @@ class Item:
 
 
 class Sources:
-    """The text of a crate, and what of it the verdict on each of its edits rests on."""
+    """The text of a crate, and what of it the verdict on each of its mutations rests on."""
 
     def __init__(self, crate):
         self.crate, self.files, self.rests = crate, {}, {}
@@ -266,7 +267,7 @@ class Sources:
         self.seen = self.files | {file: "\n".join(it for _, it in lines[file]) for file in lines}
         found = [Item(file, it) for file in lines for it in cut(lines[file], "")]
         self.uses = [(it.file, it.brings()) for it in found if it.kind == "use"]
-        # A line that only names a module says nothing of what stands in it.
+        # A line that only names a module does not show what is in it.
         found = [it for it in found if it.kind != "use" and not (it.kind == "mod" and it.text.endswith(";"))]
         defined = {it.name for it in found if it.kind != "fn"}
         for it in found:
@@ -291,7 +292,7 @@ class Sources:
         """Returns the items that the proof of this function may see, and itself."""
         own = words(item.text)
         used = [path for _, paths in self.uses for path, name in paths.items() if "::" in path and name in own]
-        # A name may stand for a variant of a type, or for what has another name.
+        # A name may be that of a variant of a type, or of what has another name.
         called = own.union(*(re.findall(r"\b[A-Z]\w*|\w+(?= as )", it) for it in used))
         known, found, more = called, set(), {item, item.block} - {None}
         while more:
@@ -301,7 +302,7 @@ class Sources:
         return found
 
     def of_function(self, function):
-        """Returns the texts that the refusal of an edit in the body of this function rests on, each with its place."""
+        """Returns the texts that the refusal of a mutation in the body of this function rests on, each with its file."""
         found = [(it.file, it.text if it is function.item else it.head) for it in self.met_by(function.item)]
         said, texts = {}, {}
         for file, text in found:
@@ -316,7 +317,7 @@ class Sources:
         return found + proofs + self.specs_of(text for _, text in (*found, *proofs))
 
     def specs_of(self, texts):
-        """Returns the specs that these texts name, and those that these and the crate's lemmas name, each with its place."""
+        """Returns the specs that these texts name, and those that these and the crate's lemmas name, each with its file."""
         met, more = set(), {it for text in texts for it in self.named_by(text)}
         while more:
             met |= more
@@ -338,13 +339,13 @@ class Sources:
 
 
 def logic_of(kit):
-    """Returns what a line of `rt version` says of the logic, apart from the release of the kit."""
+    """Returns the logic in a line of `rt version`, apart from the release of the kit."""
     return kit[kit.find("logic ") :]
 
 
 def verdicts(kit):
     """Returns the line of the kit that the verdicts name, and for each mutation its hash and the reason; or this kit and nothing,
-    where that has another logic."""
+    if that has another logic."""
     if os.path.exists(VERDICTS):
         with open(VERDICTS) as it:
             before, *lines = [line.strip() for line in it if line.strip() and not line.startswith("#")] or [""]
@@ -376,8 +377,8 @@ def is_refusal(reason):
 
 
 def due_of(crate, found):
-    """Returns the names of the crate's mutations, and for each of those that these verdicts do not tell to be refused, on the
-    text that stands, why: another text, no reason or a reason that is none."""
+    """Returns the names of the crate's mutations. For each that has no verdict of a refusal on the text as it is, it returns why:
+    another text, no reason, or a reason that is none."""
     sources, due = Sources(crate), {}
     edits = edits_of(crate)
     for it in edits:
@@ -409,8 +410,8 @@ def compare():
 
 
 def owner_in(head):
-    """Returns what the prover calls an impl by its head: the type, and the trait where there is one; or nothing. It calls a
-    type parameter `Any`."""
+    """Returns what the prover calls an impl by its head: the type, and the trait if there is one; or nothing. It calls a type
+    parameter `Any`."""
     found = re.match(r"impl(?:<([^>]*)>)? (?:(?:\w+::)*(\w+)(?:<.*>)? for )?(?:\w+::)*(\w+)", head)
     if not found:
         return ""
@@ -419,13 +420,13 @@ def owner_in(head):
 
 
 class Function:
-    """A function whose body an edit changes: its file, its impl or trait and name, its cycle, and the lines that it has."""
+    """A function whose body a mutation changes: its file, its impl or trait and name, its cycle, and the lines that it has."""
 
     def __init__(self, item):
         self.item, self.file, self.name, self.lines = item, item.file, item.name, item.lines
         head = re.sub(r"\s+", " ", item.block.opening) if item.block else ""
         self.owner = item.block and (item.block.name or owner_in(head)) or ""
-        # What a trait is of stands behind its name, as the prover calls an impl of it.
+        # The prover calls an impl by the name of its trait, followed by what the trait is of.
         self.more = r"\w*" if re.match(r"impl(?:<[^>]*>)? (?:\w+::)*\w+<.*> for ", head) else ""
         cycle = re.search(r"#\[cycle\((\w+)\)\]", item.text)
         self.cycle = cycle[1] if cycle else ""
@@ -434,14 +435,14 @@ class Function:
         self.key = self.file, self.owner, self.name
 
     def is_proved_in(self, path):
-        """Returns whether a file may be one of its own proofs or of its cycle's. Those of an impl stand with the type, in a
-        folder whose name may say more."""
+        """Returns whether a file may be one of its own proofs or of its cycle's. Those of an impl are with the type, in a folder
+        whose name may be longer."""
         inside = self.module.replace("::", "/") + "/" if self.module else ""
         own = rf"(.*/)?\w*{self.owner}\w*/{self.name}" if self.item.block else f"{inside}{self.name}"
         return bool(re.match(rf"proofs/({own}|(.*/)?\+({self.cycle or self.name}))/", path, re.I))
 
     def is_told_of(self, remark):
-        """Returns whether a remark of a check tells what is not proved of this function: it names a place in its body, in its
+        """Returns whether a remark of a check reports what is not proved of this function: it names a location in its body, in its
         proof, or in that of its cycle at a goal of its own."""
         path, line, text = remark.groups()
         if path == self.file:
@@ -449,7 +450,7 @@ class Function:
         if not text.startswith("error"):
             return False
         proofs = "/".join(filter(None, ["proofs", *self.module.split("::")])) + "/"
-        # The proofs of an impl stand with its type, in whatever file the impl is; those of a function that calls itself in
+        # The proofs of an impl are with its type, in whatever file the impl is. Those of a function that calls itself are in
         # the folder of a cycle.
         own = rf"proofs/(\S*/)?{self.owner}{self.more}/" if self.owner else proofs
         if self.cycle:
@@ -459,16 +460,16 @@ class Function:
 
 # How a remark on a source begins that names a goal which is not proved.
 UNPROVED = ("it is not proved", "`search` found no proof")
-# A remark of a check on a place in a file: the file, the line, and the text, with the lines below that are a part of it.
+# A remark of a check on a location in a file: the file, the line, and the text, with the lines below that are a part of it.
 REMARK = re.compile(r"(?m)^(?:note: )?(?:\./)?(\S+?):(\d+):\d+: (.*(?:\n  .*)*)")
 # The goal that a remark names: that of an answer in a proof file, or one that has no answer.
 GOAL = re.compile(r"error: `([^`]+)`: |(?:it is not proved|`search` found no proof)[^\n]*\(`([^`]+)`\)")
-# What a remark on a proof says where that names what an edit took away, or cites such a proof.
+# A remark on a proof that names what a mutation removed, or cites such a proof.
 GONE = re.compile(r"has no field|is not in scope|has no `|was not admitted|is no name")
 
 
 def reason_of(remark, files):
-    """Returns the reason that a remark gives: `goal` or `lemma` with its name, `limit` or `proof`."""
+    """Returns the reason in a remark: `goal` or `lemma` with its name, `limit` or `proof`."""
     path, _, text = remark.groups()
     named = GOAL.search(text)
     if not named or GONE.search(text):
@@ -479,13 +480,13 @@ def reason_of(remark, files):
 
 
 def best_of(remarks, files):
-    """Returns the best reason that these remarks give, and the first remark that gives it; or None where there is none."""
+    """Returns the best reason in these remarks, and the first remark that has it; or None if there is none."""
     told = [(reason_of(it, files), it) for it in remarks]
     return next((it for word in ("goal", "lemma", "limit", "proof") for it in told if it[0].startswith(word)), None)
 
 
 def function_of(edit, sources):
-    """Returns the one function in whose body the edit changes something; or None."""
+    """Returns the one function in whose body the mutation changes something; or None."""
     found, texts = set(), {}
     for file, old, new in edit.pairs():
         text = texts.get(file, sources.files.get(file, ""))
@@ -497,17 +498,17 @@ def function_of(edit, sources):
     return Function(item) if item else None
 
 
-# What the prover says where it meets a limit of its own, which it meets wherever it checks the same.
+# What the prover prints if it meets a limit of its own, which it meets wherever it checks the same.
 LIMIT = re.compile(r"antt ran out of (stack|the (steps|memory) that the check)|outgrew the memory limit|stopped at the step limit")
 
 
 def is_place(remark):
-    """Returns whether a remark tells of what is not proved, wherever that is."""
+    """Returns whether a remark reports what is not proved, wherever that is."""
     return remark[3].startswith(("it is not proved", "error" if remark[1].startswith("proofs/") else UNPROVED[0]))
 
 
 def is_bad(said):
-    """Returns whether a check did not come to its proofs, since it can't read a text or a rule of the language is broken."""
+    """Returns whether a check did not reach its proofs, since it can't read a text or a rule of the language is broken."""
     return "logic=not-proved" not in said or re.search(r"(?m)^\S+:\d+:\d+: error\[[\w-]+\]", said)
 
 
@@ -520,8 +521,8 @@ def linked(one, other):
 
 
 class Copy:
-    """A copy of a crate in which edits are tried: its text, with what a check of it left, or with nothing. It stands in a folder
-    of its own, beside the other crates as they are, with what was kept of them as libraries."""
+    """A copy of a crate in which mutations are tried: its text, with what a check of it left, or with nothing. It is in a folder of
+    its own, beside the other crates as they are, with what was kept of them as libraries."""
 
     def __init__(self, crate, files, with_kept):
         self.files, self.room = files, tempfile.TemporaryDirectory(prefix="edits-")
@@ -536,7 +537,7 @@ class Copy:
             shutil.copytree(self.kept, f"{self.folder}/out/incremental")
 
     def said(self, edits):
-        """Returns the status and the output of a check of the crate with these edits; or None, where one doesn't fit the text."""
+        """Returns the status and the output of a check of the crate with these mutations; or None, if one does not fit the text."""
         texts = dict(self.files)
         for edit in edits:
             changed = edit.applied(texts)
@@ -552,8 +553,8 @@ class Copy:
         return ran.returncode, ran.stdout
 
     def tried(self, group):
-        """Returns for each of these mutations that the check refuses the reason, and what it says. They are of different
-        functions, or there is only one. That a function calls one that is not proved is told of it too, but by no place of its
+        """Returns for each of these mutations that the check refuses the reason, and its remark. They are of different functions,
+        or there is only one. A remark may report of a function that it calls one that is not proved, but at no location of its
         own."""
         ran = self.said([edit for _, edit in group])
         if ran is None:
@@ -571,11 +572,11 @@ class Copy:
         return found
 
     def proves(self, edits):
-        """Returns whether the crate with these edits is proved."""
+        """Returns whether the crate with these mutations is proved."""
         return (self.said(edits) or (1, ""))[0] == 0
 
     def judged(self, edit, told, is_twin_proved):
-        """Returns what came of a mutation of which a check said this: its reason where it needs no twin, or its twin is proved."""
+        """Returns the verdict on a mutation by this result of a check: its reason if it needs no twin, or its twin is proved."""
         twin, (reason, line) = edit.twin(), told or (None, "")
         if reason and twin:
             is_proved = is_twin_proved or self.proves([twin])
@@ -584,7 +585,7 @@ class Copy:
 
 
 class Trial:
-    """The mutations of one crate that are to be tried, and what came of those that were: their hash and the reason."""
+    """The mutations of one crate that are to be tried, and the results of those that were: their hash and the reason."""
 
     def __init__(self, crate, together, line, drawn=None):
         self.crate, self.at_most, self.line, self.lock = crate, together, line, threading.Lock()
@@ -595,14 +596,14 @@ class Trial:
         self.came = {it: reason[0] for it, reason in self.known.items() if reason}
 
     def left(self):
-        """Returns the mutations that are to be tried, those first that have no verdict at all on the text as it stands."""
+        """Returns the mutations that are to be tried, those first that have no verdict at all on the text as it is."""
         return sorted((it for it in self.edits if it not in self.came), key=self.known.__contains__)
 
     def failed(self):
         return [it for it in self.edits if not is_refusal(self.came.get(it, ""))]
 
     def keep(self, edit, reason, line, how):
-        """Prints what came of a mutation, and keeps it where it has a reason."""
+        """Prints the result of a mutation, and keeps it if it has a reason."""
         if reason:
             with self.lock:
                 self.came[edit] = reason
@@ -611,11 +612,11 @@ class Trial:
         print(f"{edit.name}: {reason or 'NOT REFUSED for itself'} ({how}): {line}", flush=True)
 
     def ready(self):
-        """Checks the crate as it stands, and so brings what is kept of it up to date; returns whether it is proved."""
+        """Checks the crate as it is, and so brings what is kept of it up to date; returns whether it is proved."""
         folder = f"{TOP}/crates/{self.crate}"
         ran = subprocess.run(["rt", "check"], cwd=folder, stdin=subprocess.DEVNULL, capture_output=True, text=True)
         if ran.returncode:
-            print(f"{self.crate} is not proved as it stands: {ran.stdout.strip()[-300:]}", flush=True)
+            print(f"{self.crate} is not proved as it is: {ran.stdout.strip()[-300:]}", flush=True)
         return not ran.returncode
 
     def groups(self, edits):
@@ -633,9 +634,9 @@ class Trial:
         return [it for _, it in found]
 
     def try_group(self, group):
-        """Tries the mutations of a group together, those that are not refused so by themselves, and from nothing what is not
-        refused even so, or where the crate itself is not proved over what is kept any more. The twins of those that are refused are
-        tried together too, and by themselves if that fails."""
+        """Tries the mutations of a group together, and those that are not refused so by themselves. What is not refused even so is
+        tried from nothing; so is each if the crate itself is not proved any more over what is kept. The twins of those that are
+        refused are tried together too, and by themselves if that fails."""
         copy, came = Copy(self.crate, self.sources.files, True), {}
         told = copy.tried(group) if len(group) > 1 else {}
         for function, edit in group:

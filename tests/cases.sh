@@ -23,7 +23,7 @@ trap 'rm -f "$said"' EXIT
 status=0
 "$program" "$@" > "$said" || status=$?
 cat "$said"
-# a line `FILE: N` counts the cases of a file, and a line `FILE:LINE: REQUEST` tells of one that came out otherwise
+# a line `FILE: N` counts the cases of a file, and a line `FILE:LINE: REQUEST` is a case with another result
 all=$(sed -nE 's/^[a-z_]+\.txt: ([0-9]+)$/\1/p' "$said" | awk '{ n += $1 } END { print n + 0 }')
 failed=$(grep -cE '^[a-z_]+\.txt:[0-9]+: ' "$said" || true)
 if [ $status -ne 0 ] && [ "$failed" -eq 0 ]; then failed=1; fi

@@ -1,10 +1,9 @@
 #!/usr/bin/env bash
-# Makes each call that `openapi_cases memory` knows with the Nth request for memory that the call makes refused, for N
-# from 1 until a run meets no refusal. Each run that met one must tell `refused: out of memory`, and the last
-# `answered`, by which the program also says that what the call was lent is as it was; and every run must have let go
-# of each block that it took. `to_value` may answer too where a request was refused: the map of `serde_json` sorts the
-# members that it is made of, and its sort of few does without the room that it asks for. The last line is `N passed,
-# M failed`, in which each call on a tree counts once.
+# Makes each call that `openapi_cases memory` knows, and refuses the Nth request for memory of the call, for N from 1 until a run
+# meets no refusal. Each run that met one must print `refused: out of memory`. The last must print `answered`, which also means
+# that the values borrowed by the call are unchanged. Every run must have freed each block that it allocated. `to_value` may
+# answer too if a request was refused: the map of `serde_json` sorts its members, and a sort of few works without
+# the memory that it requests. The last line is `N passed, M failed`, in which each call on a JSON value counts once.
 #
 # usage: tests/memory.sh [--unproved] [CALL [SAMPLE]]      (with none: each call)
 #
@@ -26,7 +25,7 @@ work=$(mktemp -d)
 trap 'rm -rf "$work"' EXIT
 cc -shared -fPIC -O1 -o "$work/refuse.so" "$top/tests/refuse.c" -ldl
 
-# Tells of one call what came of refusing each of its requests in turn; ends with 1 at the first that is not told.
+# Refuses each request of one call, one after another, and prints the result; ends with 1 at the first that is not reported.
 refuse_each() {
   local n status told met wanted spared=0
   for ((n = 1; ; n++)); do
@@ -36,14 +35,14 @@ refuse_each() {
     case $met in
       $'refused\nkept 0') wanted='refused: out of memory' ;;
       'kept 0') wanted=answered ;;
-      *) wanted='that all is let go of' ;;
+      *) wanted='every block freed' ;;
     esac
     if [[ $1 = to_value && $status -eq 0 && $told = answered && $met = $'refused\nkept 0' ]]; then
       spared=$((spared + 1))
       continue
     fi
     if [ $status -ne 0 ] || [ "$told" != "$wanted" ]; then
-      echo "FAILED: $* with request $n refused: status $status, told '$told', watched '${met//$'\n'/, }'"
+      echo "FAILED: $* with request $n refused: status $status, printed '$told', wanted '$wanted', observed '${met//$'\n'/, }'"
       return 1
     fi
     if [ "$told" = answered ]; then break; fi
@@ -54,10 +53,10 @@ refuse_each() {
   fi
   all=$((all + n - 1))
   if [ $spared -eq $((n - 1)) ]; then
-    echo "FAILED: $* told no refusal"
+    echo "FAILED: $* reported no refusal"
     return 1
   fi
-  echo "$*: each of $((n - 1)) requests for memory was refused in turn, and told as out of memory but for $spared"
+  echo "$*: each of $((n - 1)) requests for memory was refused, and reported as out of memory but for $spared"
 }
 
 count() {

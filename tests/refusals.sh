@@ -48,7 +48,7 @@ refuse_each() {
     met=$((met + 1))
     said=$(cat "$work/err")
     if [ $status -ne 3 ] || [ -s "$work/out" ] || [ "$said" != 'out of memory' ]; then
-      echo "FAILED: request $n of $name refused: status $status, said '$said'"
+      echo "FAILED: request $n of $name refused: status $status, printed '$said'"
       return 1
     fi
   done

@@ -1,9 +1,9 @@
-/* Loaded before a program (LD_PRELOAD), it refuses one of the program's requests for memory: the one whose number REFUSE
- * gives, counted from 1. On descriptor 9 it says `refused` as it does.
+/* Loaded before a program (LD_PRELOAD), it refuses one of the program's requests for memory: the one whose number is
+ * REFUSE, counted from 1. When it does, it writes `refused` to descriptor 9.
  *
- * Where MARKED is set, the program makes the four marks of crates/openapi_cases/src/marks.rt, of which each is a request
- * of a size that nothing else asks for. Then it counts the requests between the second and the third alone, and at the
- * fourth it says `kept` and how many blocks the program holds beyond those that it held at the first. */
+ * If MARKED is set, the program makes the four marks of crates/openapi_cases/src/marks.rt. Each is a request of a size
+ * that nothing else requests. Then it counts the requests between the second and the third alone. At the fourth it writes
+ * `kept` and how many blocks the program holds beyond those that it held at the first. */
 #define _GNU_SOURCE
 #include <dlfcn.h>
 #include <errno.h>
@@ -48,7 +48,7 @@ static int refused(size_t size) {
 
 #define REAL(name) static __typeof__(&name) real; if (!real) real = dlsym(RTLD_NEXT, #name)
 
-/* What was given, or nothing; a block that was given is held. */
+/* Returns the block, and counts it as held if there is one. */
 static void *given(void *block) {
     if (block) held++;
     return block;

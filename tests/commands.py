@@ -5,7 +5,7 @@ and standard error.
 usage: tests/commands.py [PROGRAM]      (by default crates/openapi/out/openapi, as `bin/prove.py openapi` built it)
 
 The files are made in a temporary folder, in which the program runs. What is expected is written here from what OpenAPI 3.0.3 and
-RFC 8259 say, and not taken from the program. The last line is `N passed, M failed`.
+RFC 8259 state, and not taken from the program. The last line is `N passed, M failed`.
 """
 import json
 import os
@@ -19,7 +19,7 @@ from tool import BUILT, GOOD, Runner, document, refuse_each, shown
 
 INDENTED = GOOD.replace('{ "title": "t", "version": "1" }', '{\n    "title": "t",\n    "version": "1"\n  }')
 COMPACT = '{"openapi":"3.0.3","info":{"title":"t","version":"1"},"paths":{}}\n'
-# What each schema may have is printed first, its extensions with it, and then what its type says.
+# What each schema may have is printed first, its extensions with it, and then the members of its type.
 SCHEMA = '{"type":"string","enum":[],"x-b":0,"x-a":{"z":1,"a":2}}'
 # An empty list is a member when the kind of the schema is decided, and is not printed, so this is an integer when it is read again.
 AGAIN = '{"type":"integer","exclusiveMinimum":false,"required":[]}'
@@ -140,7 +140,7 @@ WHOLE = "only whole numbers within 64 bits are supported here; `openapi check` t
 def test_normalized(runner):
     for what, words, given, output in NORMALIZED:
         runner.check(what, ["normalize", *words], 0, output, "", input=given.encode())
-        runner.check(f"{what}, as its name says", ["normalize", *words, "-"], 0, output, "", input=given.encode())
+        runner.check(f"{what}, from `-`", ["normalize", *words, "-"], 0, output, "", input=given.encode())
         file = runner.write("in.json", given)
         runner.check(f"{what}, from a file", ["normalize", file, *words], 0, output, "")
         if "--settle" in words or given != AGAIN:

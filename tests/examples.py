@@ -1,13 +1,13 @@
 #!/usr/bin/env python3
-"""Runs the programs as the README and docs/COMMANDS.md show them, and as their crates say, and compares output and exit status.
+"""Runs the programs as the README and docs/COMMANDS.md show them, and as their crates state, and compares output and exit status.
 
 usage: tests/examples.py [--unproved [NAME ..]]
            (runs what `bin/prove.py` built; of these crates, or of all if none is named, what `bin/unproved.py` built)
 
 A run in a page is a line `    $ COMMAND`. The lines below it, up to an empty one or the next run, are what a terminal shows:
 standard output and standard error. What is printed with empty lines is in a block that begins with "```console", whose lines are
-not indented. The exit status is 0, unless the next run of the same block is `echo $?`, which prints it. A line that looks like a
-run and is in no such block is a failure, and so is a page without runs, or a program that neither page runs.
+not indented. The exit status is 0, unless the next run of the same block is `echo $?`, which prints it. A line that begins
+like a run and is in no such block is a failure, and so is a page without runs, or a program that neither page runs.
 
 A crate of a program has files `stdin`, `args` (a word a line), `stdout` and `status` (0 by default), which `rt ci` compares too.
 
@@ -24,7 +24,7 @@ TOP = os.path.dirname(os.path.dirname(os.path.realpath(__file__)))
 PAGES = ("README.md", "docs/COMMANDS.md")
 BLOCK = re.compile(r"((?:^    [^\n]*\n)+)|^```console\n(.*?)^```$", re.M | re.S)
 RUN = re.compile(r"^\$ (.*)\n((?:(?!\$ ).*\n)*)", re.M)
-# What looks like a run, wherever it is.
+# A line that begins like a run, wherever it is.
 PROMPT = re.compile(r"^[ \t>]*\$ .*$", re.M)
 # What the pages call the programs; `./example NAME` runs example_NAME.
 SCRIPTS = {"openapi": "openapi", "openapi_clean": "openapi_clean", "example": "example_$1"}
@@ -36,13 +36,13 @@ def programs():
 
 
 def blocks_of(text):
-    """Returns the runs of each block of a page: the command, and what is shown of it."""
+    """Returns the runs of each block of a page: the command, and the output that is shown."""
     found = [RUN.findall(re.sub("^    ", "", indented, flags=re.M) + fenced) for indented, fenced in BLOCK.findall(text)]
     return [runs for runs in found if runs]
 
 
 def lost_runs(text):
-    """Returns the lines of a page that look like runs, without those that are run."""
+    """Returns the lines of a page that begin like runs, without those that are run."""
     lost = [it.strip() for it in PROMPT.findall(text)]
     for command, _ in (run for runs in blocks_of(text) for run in runs):
         lost.remove(f"$ {command}".strip())
@@ -70,10 +70,10 @@ class Tests:
             self.passed += 1
         else:
             self.failed += 1
-            print(f"FAILED: {what}: exit status {came[0]} in place of {wanted[0]}, and output\n{came[1]}in place of\n{wanted[1]}")
+            print(f"FAILED: {what}: exit status {came[0]}, not {wanted[0]}, and output\n{came[1]}instead of\n{wanted[1]}")
 
     def run_crate(self, crate):
-        """Runs a program as its crate says."""
+        """Runs a program as the files of its crate state."""
         words = [self.program_of(crate), *file_of(crate, "args", "").splitlines()]
         ran = subprocess.run(words, input=file_of(crate, "stdin", ""), stdout=subprocess.PIPE, text=True)
         self.compare(f"crates/{crate}", (ran.returncode, ran.stdout), (int(file_of(crate, "status", "0")), file_of(crate, "stdout", "")))

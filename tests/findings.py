@@ -3,13 +3,13 @@
 
 usage: tests/findings.py [--unproved] [--seed N] [--count N]
 
-The maker is that of `tests/random_documents.py`, which makes values from OpenAPI's own tables. Of each value:
-- it has no fault, since it conforms;
-- with several faults planted, of which none hides another, exactly these are found;
-- members are dropped, and without them the value is normalized to the same text, and none is dropped any more;
-- a visitor of a document visits each object and each reference that OpenAPI's own tables have in its normalized text, an object before
-  the objects in it, and the references are those that `references` returns.
-Then come a fault below 120 levels, a hundred thousand faults in a list, and one under a name of a megabyte.
+The maker is that of `tests/random_documents.py`, which makes values from OpenAPI's own tables. It checks of each value:
+- It has no fault, since it conforms.
+- With several faults planted, of which none hides another, exactly these are found.
+- Without the members that are dropped the value is normalized to the same text, and none is dropped any more.
+- A visitor of a document visits each object and each reference that OpenAPI's own tables have in its normalized text. It visits
+  an object before the objects in it. The references are those that `references` returns.
+Then it checks a fault below 120 levels, a hundred thousand faults in a list, and one under a name of a megabyte.
 
 The program is `openapi_cases`, as `bin/prove.py openapi_cases` built it; with --unproved as `bin/unproved.py openapi_cases` did.
 The last line is `N passed, M failed`.
@@ -58,7 +58,7 @@ def apart(faults, dice):
 
 
 def without(value, answer):
-    """Returns the value without the members that an answer says are dropped. Members are removed from the last on, since one may
+    """Returns the value without the members that an answer lists as dropped. Members are removed from the last on, since one may
     be in another."""
     value = copy.deepcopy(value)
     for line in reversed([it for it in answer if it != "= none"]):
@@ -128,12 +128,12 @@ class Round:
             self.broken = with_fault(self.broken, it)
 
     def requests(self):
-        """Returns what is asked at first."""
+        """Returns the first requests."""
         faults, dropped = f"faults {self.kind}", f"dropped {self.kind}"
         return [(faults, self.value), (faults, self.broken), (dropped, self.value), (f"clean {self.kind}", self.value)]
 
     def then(self, dropped, clean):
-        """Returns what is asked of the value without the members that are dropped, and of the normalized value."""
+        """Returns the requests for the value without the members that are dropped, and for the normalized value."""
         value = without(self.value, dropped)
         asked = [(f"dropped {self.kind}", value), (f"clean {self.kind}", value)]
         normalized = json.loads(clean[0].removeprefix("= ")) if self.kind == "OpenAPI" else None
@@ -150,7 +150,7 @@ class Round:
 
 
 def large():
-    """Yields what is asked of large values, each with the lines that are wanted."""
+    """Yields requests for large values, each with the lines that are wanted."""
     deep = 7
     for _ in range(120):
         deep = {"not": deep}
@@ -185,7 +185,7 @@ def main():
         removed += len(dropped) * (dropped != ["= none"])
         found = {
             "a value that conforms has no fault": none == ["= none"],
-            f"these faults are found: {wanted}, and not {faults}": sorted(faults) == wanted,
+            f"these faults are found: {wanted}, not {faults}": sorted(faults) == wanted,
             f"without what is dropped, nothing is: {last[4 * at]}": last[4 * at] == ["= none"],
             "and the value is normalized to the same": last[4 * at + 1] == clean and clean[0].startswith("= "),
             "and all of it is visited": round.is_visited(clean, last[4 * at + 2], last[4 * at + 3]),
@@ -199,7 +199,7 @@ def main():
     for (words, _), answer, lines in zip(requests, ask(program, requests), wanted):
         passed, failed = passed + (answer == lines), failed + (answer != lines)
         if answer != lines:
-            print(f"FAILED: {words} of a large value: {len(answer)} lines came, as {answer[0][:200]}, and {len(lines)} were wanted")
+            print(f"FAILED: {words} of a large value: {len(answer)} lines came, such as {answer[0][:200]}, and {len(lines)} were wanted")
     told = f"{planted} faults were planted, {removed} members removed, and {visited} objects and references visited"
     if not planted or not removed or not visited:
         print(f"FAILED: {told}")

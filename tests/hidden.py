@@ -1,6 +1,6 @@
 #!/usr/bin/env python3
-"""Checks that no crate above openapi_node names the module that says what equality of nodes answers, or a module of openapi_node
-that rests on it: what a node holds is learnt by an access that counts, and by nothing else.
+"""Checks that no crate above openapi_node names the module that states what equality of nodes returns, or a module of openapi_node
+that rests on it. So a crate learns what a node holds by an access that counts, and by nothing else.
 
 Which modules rest on it is read from their own text: those that name it, those that name these, and so on. A name is a path such
 as `Rattle.openapi_node.specs.Equal`, anywhere in a file or made of a `use` with braces. A folder above such a module must not be

@@ -3,10 +3,10 @@
 
 Users call what the root of openapiv3 exports: its functions, and those of its types. A body that always returns an
 allocation failure meets its contract too. So each of them is called once with enough memory, and its result is compared.
-Whether that is so is read from the text of the tests and of the program of the cases: a function counts as named if they call
+Whether that is so is read from the text of the tests and of the program of the cases. A function counts as named if they call
 it, a method if they call one of its name on something, and a function of a type (`Type::new`) if they call that of the type.
-Left out are the functions with an empty body, which are laws and compute nothing, and the methods of traits, which are called
-by the functions that need the trait.
+Left out are the functions with an empty body, which are laws and compute nothing. So are the methods of traits, which are
+called by the functions that need the trait.
 
 The last line is `N passed, M failed`.
 """
@@ -73,7 +73,7 @@ def home_of(crate, item, texts):
 
 
 def is_empty(text, indent, start):
-    """Whether the function whose head starts there has an empty body: its braces stand by themselves in one line."""
+    """Whether the function whose head starts there has an empty body: its braces are alone in one line."""
     ends = re.compile(rf"^{indent}(?:\{{\}}|\}})$", re.M).search(text, start)
     return ends is not None and ends[0].strip() == "{}"
 

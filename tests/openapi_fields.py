@@ -1,5 +1,5 @@
 """The fields of the objects of OpenAPI 3.0.3, for `tests/random_documents.py`: a copy of this project's tables that was written
-from OpenAPI's text, and not from the definitions in `crates/`. Extensions stand in every object of a table.
+from OpenAPI's text, and not from the definitions in `crates/`. Every object of a table may have extensions.
 """
 
 # A row is `name mode kind`. The modes: R required; O may be missing or null; N the same, and written as null then; E a
@@ -60,7 +60,7 @@ TAGGED = {
         "openIdConnect": "openIdConnectUrl R text, description O text",
     }),
 }
-# The names that tell the sorts of schemas apart, and those that each type may have.
+# The names that distinguish the sorts of schemas, and those that each type may have.
 KEYWORDS = {
     "type": "text", "pattern": "text", "multipleOf": "whole", "exclusiveMinimum": "flag", "exclusiveMaximum": "flag",
     "minimum": "whole", "maximum": "whole", "properties": "{&Schema}", "required": "[text]",

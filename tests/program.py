@@ -3,9 +3,9 @@
 
 usage: tests/program.py [PROGRAM]      (by default `openapi_clean` as `bin/prove.py` built it)
 
-The contracts say what is written for which bytes, which words are a command, and which status each end of a run has.
-What they can't say stands here: that `main` hands the real arguments and streams on and ends with that status, what is
-said on standard error, and what comes of streams that fail. The last line is `N passed, M failed`.
+The contracts state what is written for which bytes, which words are a command, and which status each end of a run has.
+What they can't state is tested here: that `main` passes on the real arguments and streams and ends with that status, what is
+printed to standard error, and what comes of streams that fail. The last line is `N passed, M failed`.
 """
 import json
 import os
@@ -25,7 +25,7 @@ def example(name):
 
 
 def cleaned_petstore():
-    """The example of a whole document, cleaned: no name that OpenAPI does not know, each style, members by their names."""
+    """Returns the example of a whole document, normalized: no name that OpenAPI does not know, each style, members by their names."""
     tree = json.loads(example("petstore"))
     pets, parts = tree["paths"]["/pets"]["get"], tree["components"]
     del pets["paging"]
@@ -39,7 +39,7 @@ def cleaned_petstore():
 
 
 def long_document(size):
-    """A document of about that many bytes that is cleaned to itself: no name is unknown, and members stand by their names."""
+    """Returns a document of about that many bytes that is written as it is: no name is unknown, and members are by their names."""
     paths, count = {}, size // 80
     for number in range(count):
         paths[f"/items/{number:07}"] = {"get": {"responses": {"200": {"description": "An item"}}}}
@@ -47,9 +47,9 @@ def long_document(size):
     return json.dumps(tree, separators=(",", ":")).encode()
 
 
-# What is asked, the arguments, the input; the status, the output, and what is said on standard error.
+# What is tested, the arguments, the input; the status, the output, and what is printed to standard error.
 ROWS = [
-    ("a tag is cleaned", ["tag"], TAG, 0, CLEAN_TAG, b""),
+    ("a tag is normalized", ["tag"], TAG, 0, CLEAN_TAG, b""),
     (
         "the example of a tag",
         ["tag"],
@@ -149,17 +149,17 @@ def main():
             passed += 1
         else:
             failed += 1
-            print(f"FAILED: {what}: status, output and error are {came}, and not {wanted}")
+            print(f"FAILED: {what}: status, output and error are {came}, not {wanted}")
 
     for what, arguments, given, *wanted in ROWS:
         compare(what, outcome(program, arguments, input=given, stdout=subprocess.PIPE), tuple(wanted))
-    # a folder can be opened and not read, and a full disk takes no byte
+    # a folder can be opened and not read, and no byte can be written to a full disk
     folder = os.open(TOP, os.O_RDONLY)
     compare("an input that fails", outcome(program, ["tag"], stdin=folder, stdout=subprocess.PIPE), (3, b"", b"read failed\n"))
     os.close(folder)
     with open("/dev/full", "wb") as full, open(f"{TOP}/examples/tag.json", "rb") as given:
         compare("an output that fails", outcome(program, ["tag"], stdin=given, stdout=full), (3, None, b"write failed\n"))
-    # where standard error is closed, nothing can be told, and the status is as ever
+    # if standard error is closed, nothing can be printed, and the status is the same
     for what, arguments, given, status in (
         ("no JSON", ["tag"], b"{", 2),
         ("wrong arguments", [], b"", 2),
@@ -175,9 +175,9 @@ def main():
     given = long_document(4_000_000)
     came = outcome(program, ["document"], input=given, stdout=subprocess.PIPE)
     compare("a document of 4 MB", (came[0], came[1] == given + b"\n", came[2]), (0, True, b""))
-    # the arguments are looked at before anything is read
+    # the arguments are checked before anything is read
     reads, writes = os.pipe()
-    compare("wrong arguments are told at once", outcome(program, ["wat"], stdin=reads, stdout=subprocess.PIPE), (2, b"", USAGE))
+    compare("wrong arguments are reported before anything is read", outcome(program, ["wat"], stdin=reads, stdout=subprocess.PIPE), (2, b"", USAGE))
     os.close(reads)
     os.close(writes)
     print(f"{passed} passed, {failed} failed")

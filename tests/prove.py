@@ -1,9 +1,8 @@
 #!/usr/bin/env python3
 """Checks `bin/prove.py`, and which build `bin/run.sh` runs, in a copy of the repository with an `rt` that proves nothing.
 
-That `rt` is of a kit whose `rt ci` takes no names, or says that it does: with more words it prints its usage and fails.
-Without, it notes the crates that it finds, and writes a script in the place of each program. The last line is
-`N passed, M failed`.
+That `rt` is of a kit whose `rt ci` takes no names, or whose usage lists them: with more arguments it prints its usage and fails.
+Without, it notes the crates that it finds, and writes a script instead of each program. The last line is `N passed, M failed`.
 """
 import os
 import shutil
@@ -85,7 +84,7 @@ def main():
             shutil.copytree(f"{TOP}/{name}", f"{copy}/{name}", ignore=shutil.ignore_patterns("out"))
         for name in ("crates.txt", "HANDLES", "openapi_clean"):
             shutil.copy(f"{TOP}/{name}", copy)
-        # (in the place of a build that takes a minute)
+        # (instead of a build that takes a minute)
         with open(f"{copy}/bin/unproved.py", "w") as it:
             it.write("#!/bin/sh\necho an unproved build\nexit 70\n")
         os.mkdir(f"{room}/tools")
@@ -146,10 +145,10 @@ def main():
         # (as `rt run` builds one; the clock of a file system may tick as slowly)
         time.sleep(0.1)
         change(program, "echo another\n")
-        answers("another", "a program that is newer than its sources is of them")
+        answers("another", "a program that is newer than its sources counts as built from them")
         time.sleep(0.1)
         shutil.copy(f"{TOP}/{source}", f"{copy}/{source}")
-        answers("an unproved build", "the hash of one program says nothing about another")
+        answers("an unproved build", "the hash of one program does not count for another")
 
         alone, names = ["openapi_map", "openapi_map openapi_node"], "names of crates"
         os.remove(f"{room}/runs")

@@ -6,14 +6,15 @@ usage: tests/random_documents.py [--seed N] [--count N] [PROGRAM [TOOL]]
 
 Each round makes a document that conforms, with members that OpenAPI does not know, nulls where a member may be missing,
 empty lists and maps, flags that are false, names and texts of all sorts, and numbers up to the limits. The maker knows the
-normalized document, the one in stable form and the operations, and compares each with the program's output; what is in stable
-form has to stay as it is. Then it plants one fault, of which it knows the cause and the location, and compares the message. The
-same is done with `openapi normalize`: its output has to be the same but for the order of members, with the entries of each map, the
-extensions and what is in these in the order of the text; and a fault has to be reported at the line and the column of its value.
-The tables are in `tests/openapi_fields.py`.
+normalized document, the one in stable form and the operations, and compares each with the program's output. What is in stable
+form has to stay as it is. Then it plants one fault, of which it knows the cause and the location, and compares the message.
+
+The same is done with `openapi normalize`. Its output has to be the same but for the order of members. The entries of each map,
+the extensions and what is in these have to be in the order of the text. A fault has to be reported at the line and the column of
+its value. The tables are in `tests/openapi_fields.py`.
 
 The first line is the seed. Of all documents that fail the smallest is shown, without the members and items that it fails
-without: the maker makes it again without each in turn, so that it knows what is wanted of the rest. The last line is
+without. The maker makes it again without each, one after another, so that it knows what is wanted of the rest. The last line is
 `N passed, M failed`.
 """
 import argparse
@@ -38,11 +39,11 @@ LEAST, MOST = -(2**63), 2**64 - 1
 LEFT_OUT = re.compile(r"(warning: <stdin>: [1-9]\d* members? without effect (was|were) left out\n)?")
 REFUSAL = re.compile(r"error\[[a-z-]+\]: (.*)\n +--> <stdin>:(\d+:\d+)\n(?: .*\n){3} += pointer: (.*)\n")
 
-# A tree as it is given, as it is cleaned, and as it is settled.
+# A JSON value as it is given, normalized, and in stable form.
 Made = collections.namedtuple("Made", "given cleaned settled")
 # What a round compares: the program, its command and its input, how its output is compared, and what the maker had made.
 Check = collections.namedtuple("Check", "what program command given compare made")
-# A fault: how it is planted in the object that was given, and what is said of it.
+# A fault: how it is planted in the object that was given, and the message that reports it.
 Planted = collections.namedtuple("Planted", "place value said")
 ABSENT = object()
 
@@ -56,7 +57,7 @@ def is_whole(value):
 
 
 def sort_of(members):
-    """The sort of a schema whose members these are: one of SORTS."""
+    """Returns the sort of a schema whose members these are: one of SORTS."""
     present = [name for name in KEYWORDS if members.get(name) is not None]
     if len(present) == 1 and present[0] in SORTS:
         return present[0]
@@ -84,8 +85,8 @@ def kept(name, value, sort):
 
 
 class Maker:
-    """Makes trees, and keeps the faults that could be planted in what it made. What it makes at a dropped place it leaves out,
-    where that may be missing; of a list it leaves out the items behind it too."""
+    """Makes JSON values, and keeps the faults that could be planted in them. It leaves out what it makes at a dropped location, if
+    that may be missing. Of a list it leaves out the items behind it too."""
 
     def __init__(self, dice, dropped=()):
         self.dice = dice
@@ -94,7 +95,7 @@ class Maker:
         self.room = dice.choice([40, 150, 400])
 
     def likes(self, chance):
-        """Whether a member that need not be there is to be there; the fuller the document, the less."""
+        """Whether a member that may be missing is to be there; the fuller the document, the less likely."""
         self.room -= 1
         return self.dice.random() < (chance if self.room > 0 else 0.02)
 
@@ -106,7 +107,7 @@ class Maker:
         return max(least, min(most, self.dice.choice([near, near, near, least, most, self.dice.randint(least, most)])))
 
     def tree(self, place, depth=2):
-        """Any tree. Each number in it has to be whole."""
+        """Returns any JSON value. Each number in it has to be whole."""
         self.fault(place, 0.5, "number not whole")
         pick = self.dice.randrange(8 if depth and self.room > 0 else 5)
         if pick < 5:
@@ -117,7 +118,7 @@ class Maker:
         return [*kept.values()] if pick == 5 else kept
 
     def drops(self, place):
-        """Whether a place is dropped. If so, no fault can be planted there."""
+        """Whether a location is dropped. If so, no fault can be planted there."""
         if place in self.dropped:
             self.faults = [it for it in self.faults if it.place[:len(place)] != place]
         return place in self.dropped
@@ -141,7 +142,7 @@ class Maker:
         self.fault(place, value, f"invalid type, expected {word}")
 
     def make(self, kind, place):
-        """A value of the kind; what could go wrong with it by itself is kept."""
+        """Returns a value of the kind, and keeps the faults that could be planted in it."""
         if kind[0] == "[":
             self.wrong(place, "list", {})
             return self.several(kind[1:-1], place, range(self.dice.choice([0, 1, 1, 2, 3]) if self.room > 0 else 0))
@@ -189,7 +190,7 @@ class Maker:
         return self.object(kind, place)
 
     def several(self, kind, place, steps):
-        """A list or a map of a kind."""
+        """Returns a list or a map of a kind."""
         made = self.kept({step: self.make(kind, (*place, step)) for step in steps}, place, isinstance(steps, range))
         if isinstance(steps, range):
             return Made(*([it[way] for it in made.values()] for way in range(3)))
@@ -247,7 +248,7 @@ class Maker:
                 self.put(made, name, value)
 
     def codes(self, made, place):
-        """Members by status codes: `2xx` is the code `2XX`, and the later one of the two in name order counts."""
+        """Puts members by status codes: `2xx` is the code `2XX`, and the later one of the two in name order counts."""
         names = self.dice.sample(["100", "200", "404", "999", "2XX", "2xX", "2xx", "5Xx", "0XX"], self.dice.randrange(4))
         for name in sorted(names):
             value = self.make("&Response", (*place, name))
@@ -301,7 +302,7 @@ class Maker:
             made.cleaned[name] = made.settled[name] = None if mode == "N" else kind.split("|")[0]
 
     def either(self, names, kinds, made, place):
-        """One of two members. Members come in name order; the later one is not looked at."""
+        """Puts one of two members. Members come in name order, and the later one is not read."""
         i = self.dice.randrange(2)
         other = names[1 - i]
         self.put(made, names[i], self.make(kinds[i], (*place, names[i])))
@@ -325,7 +326,7 @@ class Maker:
         return made
 
     def keywords(self, sort, place):
-        """Members that tell what sort a schema is, most often of this one."""
+        """Returns members that decide what sort a schema is, most often this one."""
         if sort in OF_TYPE:
             names = [it for it in OF_TYPE[sort] if self.likes(0.4)]
         else:
@@ -361,7 +362,7 @@ class Maker:
 
 
 def with_fault(tree, planted):
-    """The tree with a fault planted in it."""
+    """Returns the value with a fault planted in it."""
     if not planted.place:
         return planted.value
     tree = copy.deepcopy(tree)
@@ -385,7 +386,7 @@ def operations(tree):
 
 
 def text_of(tree, dice=None):
-    """The tree as JSON: as the program prints it, or with the members of each object in any order."""
+    """Returns the value as JSON: as the program prints it, or with the members of each object in any order."""
     if dice is None:
         return json.dumps(tree, sort_keys=True, ensure_ascii=False, separators=(",", ":")).encode() + b"\n"
 
@@ -397,7 +398,7 @@ def text_of(tree, dice=None):
 
 
 def kinds_of(kind, members):
-    """The kind of each member of an object of that kind that is read, but for extensions."""
+    """Returns the kind of each member that is read of an object of that kind, but for extensions."""
     rows = TABLES.get(kind, "")
     if kind in ("Paths", "Callback"):
         return {name: "&PathItem" for name in members if name[:1] == "/" or kind == "Callback" and name[:2] != "x-"}
@@ -415,8 +416,8 @@ def kinds_of(kind, members):
 
 
 def disorder(kind, wanted, came):
-    """The first object whose members do not stand in the order of the text, where that order is kept; or None. Both are the
-    same but for order."""
+    """Returns the first object whose members are not in the order of the text, although that order is kept; or None. Both are
+    the same but for order."""
     if not isinstance(wanted, (dict, list)):
         return None
     if kind[0] == "&" or kind == "flag-or-schema":
@@ -442,8 +443,8 @@ def disorder(kind, wanted, came):
 
 
 def point_of(text, planted):
-    """The line and the column, as `LINE:COLUMN`, at which the value stands of which a fault speaks. The text has a line for
-    each value, as `json.dumps` makes it with an indent of 1, so a value is found by the lines before it."""
+    """Returns the line and the column, as `LINE:COLUMN`, of the value at the location of a fault. The text has a line for each
+    value, as `json.dumps` makes it with an indent of 1. So a value is found by the lines before it."""
     at, line, value = [], 0, json.loads(text)
     steps = [it.replace("~1", "/").replace("~0", "~") for it in planted.said.split(" at #", 1)[1].split("/")[1:]]
     for step in steps:
@@ -517,8 +518,8 @@ def difference(check):
 
 
 def places_of(tree):
-    """Returns the places of all members and items of a tree, those that hold most first, and the last items of a list before the
-    others."""
+    """Returns the locations of all members and items of a value, those that hold most first, and the last items of a list before
+    the others."""
     found, left = [], [((), tree)]
     while left:
         place, it = left.pop(0)
@@ -529,8 +530,8 @@ def places_of(tree):
 
 
 def smallest(check, seed, programs):
-    """Returns the check of the smallest document that fails as this one did: without each member or item in turn, if it still
-    fails without it."""
+    """Returns the check of the smallest document that fails as this one did. It leaves out each member or item, one after another,
+    if the document still fails without it."""
     dropped, left = set(), places_of(check.made)
     while left:
         place = left.pop(0)

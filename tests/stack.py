@@ -1,11 +1,11 @@
 #!/usr/bin/env python3
-"""Asks that the built programs need less than a megabyte of stack for the deepest JSON, which has 127 levels, in each command.
+"""Checks that the built programs need less than a megabyte of stack for the deepest JSON, which has 127 levels, in each command.
 
 usage: tests/stack.py [PROGRAM [MOST]]      (by default both programs, as `bin/prove.py` built them)
 
 MOST is the most that it may need, in kB, 1000 by default: a build without proof is compiled otherwise, and needs more. For each
 shape it finds the least stack, in steps of 16 kB, with which the program ends with status 0. The last line is
-`N passed, M failed`, in which each command on a shape counts once; the line before it is the most that any of them needs.
+`N passed, M failed`, in which each command on a shape counts once. The line before it has the most that any of them needs.
 """
 import json
 import os
@@ -25,7 +25,7 @@ def depth(tree):
 
 
 def nested(wrap, inner, levels):
-    """As many wraps around the innermost tree as the levels allow."""
+    """Returns as many wraps around the innermost value as the levels allow."""
     tree = inner
     while depth(wrap(tree)) <= levels:
         tree = wrap(tree)
@@ -51,7 +51,7 @@ def document(**more):
 
 
 def shapes():
-    """The command, the shape's name and the tree."""
+    """Yields the command, the shape's name and the JSON value."""
     for name, (wrap, inner) in SCHEMAS.items():
         yield "schema", name, nested(wrap, inner, LEVELS)
     yield "tag", "extension", {"name": "t", "x-a": nested(lambda it: [it], [], LEVELS - 1)}
@@ -62,7 +62,7 @@ def shapes():
         yield command, "callbacks", document(paths={"/p": nested(CALLBACKS, {}, LEVELS - 2)})
 
 
-# What `openapi` is asked on the same shapes.
+# The commands of `openapi` on the same shapes.
 TOOL_WORDS = {
     "tag": ["normalize --as tag"],
     "schema": ["normalize --as schema --settle"],
@@ -73,7 +73,7 @@ TOOL_WORDS = {
 
 
 def asked(name):
-    """The words for a program, the shape's name and the tree."""
+    """Yields the arguments of a program, the shape's name and the JSON value."""
     for command, shape, tree in shapes():
         for words in [command] if name.startswith("openapi_clean") else TOOL_WORDS[command]:
             yield words, shape, tree
@@ -86,7 +86,7 @@ def runs(program, words, given, stack):
 
 
 def least(program, words, given):
-    """The least stack in kB; None where the program does not end well with 64 MB either."""
+    """Returns the least stack in kB, or None if the program does not end well with 64 MB either."""
     low, high = 0, 65536 // STEP
     if not runs(program, words, given, high * STEP):
         return None

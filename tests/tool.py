@@ -4,7 +4,7 @@
 usage: tests/tool.py [PROGRAM]      (by default crates/openapi/out/openapi, as `bin/prove.py openapi` built it)
 
 The files are made in a temporary folder, in which the program runs. What is expected is written here from what OpenAPI 3.0.3 and
-RFC 8259 say, and not taken from the program. The last line is `N passed, M failed`.
+RFC 8259 state, and not taken from the program. The last line is `N passed, M failed`.
 """
 import json
 import os
@@ -60,7 +60,7 @@ def summary_of(findings):
 FRACTION_HELP = "`openapi normalize` can't write it; `check` and `clean` can"
 
 # Each row: what is tested, the text of the file, and its findings: severity, code, message, line, column, pointer, help.
-# Unless a row says otherwise the source line is that line of the file.
+# Unless a row has another one, the source line is that line of the file.
 FINDINGS = [
     ("a document without findings", GOOD, []),
     (
@@ -93,7 +93,7 @@ FINDINGS = [
         ],
     ),
     (
-        "each type of value in place of another",
+        "each type of value instead of another",
         document(
             '"tags": [',
             '{ "name": null },',
@@ -449,7 +449,7 @@ FINDINGS = [
         ],
     ),
     (
-        "a number that is not whole in place of a length",
+        "a number that is not whole instead of a length",
         document('"components": { "schemas": { "S": { "type": "string", "minLength": 0.5 } } }'),
         [
             (
@@ -488,12 +488,12 @@ FINDINGS = [
         ],
     ),
     (
-        "a number that is not whole in place of a text",
+        "a number that is not whole instead of a text",
         document('"tags": [{ "name": 0.5 }]'),
         [("error", "wrong-type", "invalid type, expected text", 5, 22, "/tags/0/name", "found the number 0.5")],
     ),
     (
-        "a number that is not whole in place of an object",
+        "a number that is not whole instead of an object",
         document('"externalDocs": -1.5e-7'),
         [("error", "wrong-type", "invalid type, expected object", 5, 19, "/externalDocs", "found the number -1.5e-7")],
     ),
@@ -732,7 +732,7 @@ class Runner:
         print(f"FAILED: {what}")
         for name, left, right in zip(("status", "standard output", "standard error"), came, wanted):
             if left != right:
-                print(f"  {name} is\n{left!r}\n  and not\n{right!r}")
+                print(f"  {name} is\n{left!r}\n  not\n{right!r}")
 
     def check(self, what, words, status, output, error, **streams):
         self.compare(what, self.run(*words, **streams), (status, output, error))
@@ -783,7 +783,7 @@ def warning(file, source='  "wat": 1', line=5, column=3, mark=None):
 
 
 def test_lines(runner):
-    """How the line of a finding is shown."""
+    """Checks how the line of a finding is shown."""
     wat = document('"wat": 1')
     file = runner.write("crlf.json", wat.replace("\n", "\r\n"))
     runner.check("CR LF", ["check", file], 0, warning(file), summary(0, 1))
@@ -918,7 +918,7 @@ def refuse_each(runner, words):
     wanted, strange, refused = runner.run(*words), [], 0
     for number in range(1, 10_000):
         reads, writes = os.pipe()
-        # (the library says on descriptor 9 that it refused the request of this number)
+        # (the library writes to descriptor 9 that it refused the request of this number)
         status, output, error = runner.run(*words, env={**os.environ, "REFUSE": str(number), "LD_PRELOAD": library},
                                            preexec_fn=lambda: os.dup2(writes, 9), pass_fds=(9, writes))
         os.close(writes)

@@ -4,7 +4,7 @@
 usage: tests/tool_documents.py [--seed N] [--count N] [PROGRAM]      (by default the program as `bin/prove.py openapi` built it)
 
 The maker is that of `tests/random_documents.py`, which makes documents from OpenAPI's own tables. In each round a document has no
-fault, since it conforms; then several faults are planted, of which none hides another, and exactly these are found, each with its
+fault, since it conforms. Then several faults are planted, of which none hides another. Exactly these are found, each with its
 message, pointer, line and column, in the order of the text. Without the members that are reported as having no effect none is
 reported any more. The last line is `N passed, M failed`.
 """
@@ -104,7 +104,7 @@ def main():
         left = [said(it) for it in rest if it["code"] in FAULTS | LOSSES]
         for what, holds in {
             "a document that conforms has no fault": not any(it["code"] in FAULTS for it in sound),
-            f"these faults are found: {wanted}, and not {came}": came == wanted,
+            f"these faults are found: {wanted}, not {came}": came == wanted,
             "the findings are in the order of the text": is_sorted(sound) and is_sorted(faulty),
             f"without what has no effect there is nothing to report: {left}": not left,
         }.items():

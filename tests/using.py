@@ -1,7 +1,9 @@
 #!/usr/bin/env python3
-"""Checks that another repository can use the libraries of this one as `docs/USING.md` says: makes one in a temporary folder, with this
-repository as it is in `vendor/`, and runs `bin/add_to.py` and the program of that page there, by `rt try` and as `bin/unproved.py` builds it.
-Of each row of the page's table of refused code it checks that `rt check` refuses such code, and takes what is written instead.
+"""Checks that another repository can use the libraries of this one as `docs/USING.md` states.
+
+It makes one in a temporary folder, with this repository as it is in `vendor/`. There it runs `bin/add_to.py` and the program of
+that page, by `rt try` and as `bin/unproved.py` builds it. Of each row of the page's table of refused code it checks that
+`rt check` refuses such code, and accepts what is written instead.
 
 The last line is `N passed, M failed`.
 """
@@ -93,7 +95,7 @@ def refused_code(check):
         check(f"rt try runs it: {row}", run("try", program)[0] == 0)
         status, said = run("check", program)
         check(f"rt check refuses it: {row}: {said}", status and f"error[{word}]" in said)
-        check(f"rt check takes what is written instead: {row}", run("check", program.replace(*instead))[0] == 0)
+        check(f"rt check accepts what is written instead: {row}", run("check", program.replace(*instead))[0] == 0)
 
 
 def state_of(top):
@@ -153,7 +155,7 @@ def main():
         said = blocks("console")[1].partition("petstore.json\n")[2]
         with open(f"{TOP}/examples/petstore.json", "rb") as given:
             ran = subprocess.run(["rt", "try"], cwd=f"{top}/crates/undescribed", stdin=given, capture_output=True, text=True)
-        check(f"the program of the page prints what it says: {ran.stdout}{ran.stderr}", said and ran.returncode == 0 and ran.stdout.startswith(said))
+        check(f"the program of the page prints what the page shows: {ran.stdout}{ran.stderr}", said and ran.returncode == 0 and ran.stdout.startswith(said))
         built = subprocess.run(["vendor/openapiv3/bin/unproved.py", "--in", ".", "undescribed", "0"], cwd=top, capture_output=True, text=True)
         with open(f"{TOP}/examples/petstore.json", "rb") as given:
             ran = subprocess.run("crates/undescribed/out/undescribed.unproved", cwd=top, stdin=given, capture_output=True, text=True)

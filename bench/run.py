@@ -31,12 +31,12 @@ MEGABYTE = 1_000_000
 
 
 def tag(value):
-    """A tag with the value under an extension."""
+    """Returns a tag with the value under an extension."""
     return '{"name":"t","x-v":' + value + "}"
 
 
 def many(size, piece):
-    """Pieces, numbered, until they are that long together."""
+    """Returns numbered pieces, as many as have that length together."""
     pieces, length, number = [], 0, 0
     while length < size:
         text = piece(number)
@@ -47,51 +47,51 @@ def many(size, piece):
 
 
 def wide(size):
-    """One object with many members."""
+    """Returns one object with many members."""
     return tag("{" + many(size, lambda i: f'"member-{i:07}":{i}') + "}")
 
 
 def deep(size):
-    """Objects in objects, 120 levels, over and over."""
+    """Returns objects in objects, 120 levels, over and over."""
     level = '{"name":"level","marks":[12,345,6789],"next":'
     return tag("[" + many(size, lambda i: level * 120 + str(i) + "}" * 120) + "]")
 
 
 def texts(size):
-    """Long texts, with what has to be escaped."""
+    """Returns long texts, with what has to be escaped."""
     return tag("[" + many(size, lambda i: '"' + f"line {i} \\u00e9 \\n " * 400 + '"') + "]")
 
 
 def objects(size):
-    """Many small objects."""
+    """Returns many small objects."""
     small = '"known":true,"text":"a few words","none":null'
     return tag("[" + many(size, lambda i: f'{{"id":{i},"name":"object {i}",{small}}}') + "]")
 
 
 def numbers(size):
-    """Long lists of numbers."""
+    """Returns long lists of numbers."""
     return tag("[" + many(size, lambda i: "[" + ",".join(str(i * 37 + j) for j in range(1000)) + "]") + "]")
 
 
 def properties(size):
-    """A schema of an object with many members."""
+    """Returns a schema of an object with many members."""
     return '{"type":"object","properties":{' + many(
         size, lambda i: f'"member-{i:07}":{{"type":"integer","minimum":{i}}}') + "}}"
 
 
 def nested(size):
-    """Schemas that combine schemas, 60 levels, over and over."""
+    """Returns schemas that combine schemas, 60 levels, over and over."""
     level = '{"title":"level","allOf":['
     return '{"allOf":[' + many(size, lambda i: level * 60 + '{"type":"string"}' + "]}" * 60) + "]}"
 
 
 def enumerations(size):
-    """A schema with a long enumeration."""
+    """Returns a schema with a long enumeration."""
     return '{"type":"string","enum":[' + many(size, lambda i: f'"value {i}",null') + "]}"
 
 
 def schemas(size):
-    """Many small schemas of every sort, and references."""
+    """Returns many small schemas of every sort, and references."""
     small = [
         '{"type":"string","format":"date","description":"a day"}',
         '{"type":"number","maximum":10,"x-unit":"m"}',
@@ -104,7 +104,7 @@ def schemas(size):
 
 
 def answers(number):
-    """The responses of an operation, in its list of members."""
+    """Returns the responses of an operation, as one of its members."""
     return (
         '"responses":{"200":{"description":"The item","headers":{"X-Rate":{"schema":{"type":"integer"}}},"content":'
         f'{{"application/json":{{"schema":{{"$ref":"#/components/schemas/Item{number}"}}}}}}}},'
@@ -113,7 +113,7 @@ def answers(number):
 
 
 def path(number):
-    """A path with three operations; every fourth has a callback."""
+    """Returns a path with three operations; every fourth has a callback."""
     heard = '"callbacks":{"changed":{"{$request.body#/hook}":{"post":{"responses":{"204":{"description":"Heard"}}}}}},'
     body = f'{{"required":true,"content":{{"application/json":{{"schema":{{"$ref":"#/components/schemas/Item{number}"}}}}}}}}'
     return (
@@ -130,7 +130,7 @@ def path(number):
 
 
 def item(number):
-    """A schema of the components, as those of real descriptions are: an object of some ten members."""
+    """Returns a schema of the components, as those of real descriptions are: an object of some ten members."""
     texts = ",".join(
         f'"{name}":{{"type":"string","description":"The {name} of the item, as people read it"}}'
         for name in ["name", "title", "colour", "origin"])
@@ -145,7 +145,7 @@ def item(number):
 
 
 def documents(size):
-    """A whole document: three fifths of it paths, two fifths schemas."""
+    """Returns a whole document: three fifths of it paths, two fifths schemas."""
     return (
         '{"openapi":"3.0.3","info":{"title":"Shops","version":"1"},"servers":[{"url":"https://shops.example"}],"paths":{'
         + many(size * 3 // 5, path) + '},"components":{"schemas":{' + many(size * 2 // 5, item) + '},'
@@ -167,7 +167,7 @@ SHAPES = {
 
 
 def made(shape, megabytes, folder):
-    """The file of an input, and its size in bytes."""
+    """Returns the file of an input, and its size in bytes."""
     path = os.path.join(folder, f"{shape.__name__}-{megabytes}.json")
     if not os.path.exists(path):
         with open(path, "w") as file:
@@ -183,7 +183,7 @@ def launcher(folder):
 
 
 def measured(launch, words, command, path):
-    """Seconds by the clock and peak bytes of one run of the program with its words."""
+    """Returns the seconds by the clock and the peak bytes of one run of the program with its arguments."""
     run = subprocess.run([launch, path, *words, command], capture_output=True, text=True)
     if run.returncode != 0:
         sys.exit(f"{' '.join(words)} {command} failed on {path}: {run.stderr.strip()}")
@@ -192,7 +192,7 @@ def measured(launch, words, command, path):
 
 
 def instructions(words, command, path):
-    """Instructions of one run of the program with its words, as valgrind counts them."""
+    """Returns the instructions of one run of the program with its arguments, as valgrind counts them."""
     with open(path, "rb") as source, tempfile.NamedTemporaryFile() as out:
         run = subprocess.run(
             ["valgrind", "--tool=callgrind", f"--callgrind-out-file={out.name}", *words, command],

@@ -37,7 +37,7 @@ OF_TESTS = re.compile(r"openapi_(cases|vectors|test_support|tools)|example_\w+")
 # What is not written here, and what is written instead.
 WORDS = {
     "let(s|ting)? go of": "drop",
-    "(give|gives|given|giving|gave) up": "pass by value",
+    "(give|gives|given|giving|gave) up": "pass by value, stop",
     "want of memory|(ran|runs?) out of memory|memory (ran|runs?) out": "allocation failure, out of memory",
     "stands?|stood|standing": "be, exist, replace, mean",
     "tells?|told|telling|says?|said|saying|asks?|asked|asking": "print, report, return, state, check",
@@ -49,7 +49,7 @@ WORDS = {
     "as soon as": "when",
     "in turn": "one after another",
     "of a hundred": "%",
-    "edits?": "mutation",
+    "edits?": "mutation, change",
 }
 # (no part of another word, of a path or of a name of a file)
 REFUSED = {re.compile(r"(?<![\w/])(" + it.replace(" ", r"\s+") + r")(?!\w|/|\.\w)", re.I): instead for it, instead in WORDS.items()}
@@ -60,7 +60,7 @@ def refused_words(text):
     """Yields where a text has a word of WORDS, and what is wrong."""
     for pattern, instead in REFUSED.items():
         for it in pattern.finditer(text):
-            yield it.start(), f"the word `{' '.join(it[0].split())}`; write as it is meant: {instead}"
+            yield it.start(), f"the word `{' '.join(it[0].split())}`; write one of these instead: {instead}"
 
 
 def long_sentences(text):

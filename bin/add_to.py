@@ -32,7 +32,7 @@ class Addition:
         return os.path.relpath(f"{sources.TOP}/crates/{name}", f"{self.top}/crates")
 
     def is_ours(self, name):
-        """Whether there is a link of this name that leads to this repository."""
+        """Returns whether there is a link of this name that leads to this repository."""
         link = f"{self.top}/crates/{name}"
         return os.path.islink(link) and os.readlink(link) == self.target_of(name)
 

@@ -15,7 +15,7 @@ DONE = re.compile(r"rt: (\w+) (proved|NOT PROVED|is kept: .*)$")
 TESTS = re.compile(r"rt: (\w+): its tests are (proved|NOT PROVED)$")
 # Lines on a crate that report no failure.
 IS_WELL = re.compile(r": proved$|^statements ")
-# The lines after the proofs, on must-fail mutations, tests, programs and the whole run; and those of them that report no failure.
+# The lines after the proofs, on `must-fail edits`, tests, programs and the whole run; and those of them that report no failure.
 IS_SAID = re.compile(r"rt: |test .* \.\.\. FAILED|\d+ passed")
 VERDICT = re.compile(r"\d+ passed, \d+ failed")
 PASSED = re.compile(r"refused, as it must be|trying its must-fail edits|must-fail edits were tried by|waiting for it$|ran.*, and wrote what")

@@ -91,7 +91,7 @@ def write_sum(program, sum, began):
 
 
 def is_current(program, top=TOP):
-    """Whether a program was built from the sources as they are, by its hash. If so, renews the time of its PROGRAM.sum."""
+    """Returns whether a program was built from the sources as they are, by its hash. If so, renews the time of its PROGRAM.sum."""
     name, began, file = os.path.basename(program), now(), f"{program}.sum"
     try:
         with open(file) as it:

@@ -293,7 +293,7 @@ def test_in_place(runner):
 
 
 def test_read_only(runner):
-    """A folder in which nothing can be made: the file stays."""
+    """Checks that a file stays as it is if nothing can be made in its folder."""
     os.mkdir(f"{runner.folder}/closed")
     file = runner.write("closed/in.json", document('"wat": 1'))
     os.chmod(f"{runner.folder}/{file}", 0o644)
@@ -309,7 +309,8 @@ def test_read_only(runner):
 
 
 def test_full_disk(runner):
-    """No room for the whole text: the file stays. (A limit on the size of files, as a full disk would need a file system of its own.)"""
+    """Checks that a file stays as it is without room for the whole text. A limit on the size of files replaces a full disk, which
+    would need a file system of its own."""
     def limit():
         signal.signal(signal.SIGXFSZ, signal.SIG_IGN)
         resource.setrlimit(resource.RLIMIT_FSIZE, (50, 50))

@@ -258,7 +258,7 @@ class Item:
 
 
 class Sources:
-    """The text of a crate, and what of it the verdict on each of its mutations rests on."""
+    """The text of a crate, and the parts of it that the verdict on each of its mutations rests on."""
 
     def __init__(self, crate):
         self.crate, self.files, self.rests = crate, {}, {}

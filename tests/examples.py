@@ -91,7 +91,7 @@ class Tests:
         print(f"FAILED: {why}")
 
     def blocks(self):
-        """Returns the runs of each block of the pages. What should be run and is not found fails."""
+        """Returns the runs of each block of the pages. A run that is expected and not found is a failure."""
         blocks = []
         for page in PAGES:
             with open(f"{TOP}/{page}") as it:

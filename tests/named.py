@@ -73,7 +73,7 @@ def home_of(crate, item, texts):
 
 
 def is_empty(text, indent, start):
-    """Whether the function whose head starts there has an empty body: its braces are alone in one line."""
+    """Returns whether the function whose head starts there has an empty body: its braces are alone in one line."""
     ends = re.compile(rf"^{indent}(?:\{{\}}|\}})$", re.M).search(text, start)
     return ends is not None and ends[0].strip() == "{}"
 
@@ -92,7 +92,7 @@ def functions(text):
 
 
 def is_named(tests, owner, name, is_method):
-    """Whether the tests name the function."""
+    """Returns whether the tests name the function."""
     if owner is None:
         return re.search(rf"(?<![.:\w]){name}(?:::<|\()", tests) is not None
     if is_method:

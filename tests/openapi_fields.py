@@ -3,7 +3,7 @@ from OpenAPI's text, and not from the definitions in `crates/`. Every object of 
 """
 
 # A row is `name mode kind`. The modes: R required; O may be missing or null; N the same, and written as null then; E a
-# list or map that is empty where it is missing; F a flag that is false where it is missing; S a style, of which the first
+# list or map that is empty if it is missing; F a flag that is false if it is missing; S a style, of which the first
 # is the default; C two names of which one is required, and the first in the object decides. The kinds: [K] a list, {K} a
 # map, &K a reference or a K, a|b one of these words, or the name of a table.
 TABLES = {

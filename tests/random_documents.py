@@ -76,7 +76,7 @@ def sort_of(members):
 
 
 def kept(name, value, sort):
-    """Whether a present member of a schema is written."""
+    """Returns whether a present member of a schema is written."""
     if name in ("oneOf", "allOf", "anyOf") and sort == name:
         return True
     if value == [] or value == {} and name == "properties":
@@ -95,7 +95,7 @@ class Maker:
         self.room = dice.choice([40, 150, 400])
 
     def likes(self, chance):
-        """Whether a member that may be missing is to be there; the fuller the document, the less likely."""
+        """Returns whether a member that may be missing is to be there; the fuller the document, the less likely."""
         self.room -= 1
         return self.dice.random() < (chance if self.room > 0 else 0.02)
 
@@ -118,7 +118,7 @@ class Maker:
         return [*kept.values()] if pick == 5 else kept
 
     def drops(self, place):
-        """Whether a location is dropped. If so, no fault can be planted there."""
+        """Returns whether a location is dropped. If so, no fault can be planted there."""
         if place in self.dropped:
             self.faults = [it for it in self.faults if it.place[:len(place)] != place]
         return place in self.dropped
@@ -472,7 +472,7 @@ def is_in_order(kind, wanted):
 
 
 def is_refused_at(point, said):
-    """Whether a refusal is reported with its message, its position and its JSON Pointer."""
+    """Returns whether a refusal is reported with its message, its position and its JSON Pointer."""
     message, pointer = said.split(" at #", 1)
     shown = "".join("\ufffd" if ord(it) < 32 or ord(it) == 127 else it for it in pointer.replace("\t", "    ")) or "(root)"
 
@@ -511,7 +511,7 @@ def checks(seed, programs, dropped=()):
 
 
 def difference(check):
-    """Returns what came and what was wanted, if these differ."""
+    """Returns the result and the expected one, if they differ."""
     ran = subprocess.run([check.program, *check.command.split()], input=check.given, capture_output=True, timeout=60)
     came, wanted = check.compare(ran)
     return None if came == wanted else (came, wanted)

@@ -35,7 +35,8 @@ fi
 
 cc -shared -fPIC -O1 -o "$work/refuse.so" "$top/tests/refuse.c" -ldl
 
-# Prints for a command on one input what came of refusing each request, one after another; ends with 1 at the first that is not reported.
+# Refuses each request of a command on one input, one after another, and prints the result; ends with 1 at the first that is not
+# reported.
 refuse_each() {
   local word=$1 input=$2 want met=0 n status said name
   name="$word on $(basename "$input")"

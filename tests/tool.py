@@ -706,7 +706,7 @@ SYNTAX = [
 
 
 class Runner:
-    """Runs the program in a folder, and counts what came out as it should."""
+    """Runs the program in a folder, and counts the results that are as expected."""
 
     def __init__(self, program, folder):
         self.program, self.folder, self.passed, self.failed = program, folder, 0, 0

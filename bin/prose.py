@@ -1,5 +1,5 @@
 #!/usr/bin/env python3
-"""Checks what is written here: doc comments, comments, pages and the subjects of commits.
+"""Checks the texts of a repository: doc comments, comments, pages and the subjects of commits.
 
 usage: bin/prose.py [REPOSITORY]      (this one by default)
 

@@ -6,7 +6,7 @@ use crate::to_node::ToNode;
 use openapi_node::{Node, Result, Steps, View};
 use std::alloc::Global;
 
-/// A value in a box is read as the value is; or memory runs out for the box.
+/// A value in a box is read as the value is. If the allocation of the box fails, the fault is that of out of memory.
 impl<T: FromNode + Drop> FromNode for Box<T> {
     ghost kind = { T.kind };
 

@@ -17,6 +17,11 @@ use openapi_node::{Members, Node, OrderedMap, Result, Steps};
 use std::alloc::Global;
 
 /// Reads the members whose names are of a class, in order.
+///
+/// # Errors
+///
+/// Returns a fault with a rule that such a member breaks and the location in the object where it does. An allocation
+/// failure has `Cause::Memory` and the empty location.
 pub fn class_entries<R: HasSlots, N: ClassNames, T: FromNode + Drop>(
     alloc: Global,
     members: &Members,
@@ -32,6 +37,10 @@ pub fn class_entries<R: HasSlots, N: ClassNames, T: FromNode + Drop>(
 }
 
 /// Reads the extensions, in order.
+///
+/// # Errors
+///
+/// Returns `Cause::Memory` with the empty location if an allocation fails. Any value is allowed in an extension.
 pub fn extensions<R: HasSlots>(
     alloc: Global,
     members: &Members,
@@ -48,7 +57,12 @@ pub fn extensions<R: HasSlots>(
     class_entries::<R, Extensions, Node>(alloc, members, steps)
 }
 
-/// Writes entries whose names are to be of a class.
+/// Writes entries whose names have to be of a class.
+///
+/// # Errors
+///
+/// Returns `Cause::NameNotWritable` at the location of a name or a status code that would not be read again, such as a
+/// name that is not of the class. An allocation failure has `Cause::Memory` and the empty location.
 pub fn put_class<R: HasSlots, N: ClassNames, T: ToNode>(
     alloc: Global,
     owner: &R,
@@ -65,6 +79,11 @@ pub fn put_class<R: HasSlots, N: ClassNames, T: ToNode>(
 }
 
 /// Writes the extensions.
+///
+/// # Errors
+///
+/// Returns `Cause::NameNotWritable` at the location of a name that does not begin with `x-`. An allocation failure has
+/// `Cause::Memory` and the empty location.
 pub fn put_extensions<R: HasSlots>(
     alloc: Global,
     owner: &R,

@@ -1,4 +1,4 @@
-//! Rows of two names, of which the one decides that stands first among the members of an object.
+//! Fields of two names, of which the name decides that comes first among the members of an object.
 ghost use Rattle.std.specs.Prelude.{◌≡◌, ◌+◌, ◌≤◌, ◌*◌, false, OnOk, IfErr, Some};
 ghost use Rattle.std.specs.Option.{option_map};
 ghost use Rattle.std.specs.List.{slice_get};
@@ -23,12 +23,12 @@ use crate::to_node::ToNode;
 use openapi_node::{Cause, Fault, Members, Node, Result, Steps};
 use std::alloc::Global;
 
-/// What stands under the one of two names that decides.
+/// The value of the name that decides.
 #[derive(Drop)]
 pub enum Either<A, B> {
-    /// What stands under the first name of the row.
+    /// The value of the first name of the field.
     First(A),
-    /// What stands under the second name of the row.
+    /// The value of the second name of the field.
     Second(B),
 }
 
@@ -59,8 +59,11 @@ fn first_of_two<'a>(members: &'a Members, first: &str, second: &str) -> Option<(
     None
 }
 
-/// What stands under the one of two names that decides: the first of the members that have one of them. Err where there
-/// is none.
+/// Returns the value of the name that decides: the first of the members that have one of the two names.
+///
+/// # Errors
+///
+/// Returns `Cause::MissingEither` with the empty location if no member has one of the names.
 pub fn decider<'a>(
     alloc: Global,
     members: &'a Members,
@@ -79,8 +82,14 @@ pub fn decider<'a>(
     }
 }
 
-/// A member that has one of two names, of which one has to be there. Where both are there, the one that stands first
-/// decides, and the other one is not looked at.
+/// Reads a member that has one of two names, of which one has to exist. If both exist, the first one decides, and the
+/// other one is not accessed.
+///
+/// # Errors
+///
+/// Returns `Cause::MissingEither` with the empty location if both names are missing. Otherwise it returns a fault with
+/// a rule that the member breaks and the location in the object where it does. An allocation failure has
+/// `Cause::Memory` and the empty location.
 pub fn decided<R: Object, A: FromNode, B: FromNode>(
     alloc: Global,
     members: &Members,
@@ -109,7 +118,12 @@ pub fn decided<R: Object, A: FromNode, B: FromNode>(
     }
 }
 
-/// Writes the member of the first of two names, where that one decides.
+/// Writes the member of the first of two names, which decides.
+///
+/// # Errors
+///
+/// Returns `Cause::NameNotWritable` at the location of a name or a status code in the value that would not be read
+/// again. An allocation failure has `Cause::Memory` and the empty location.
 pub fn put_first<R: HasSlots, A: ToNode, B: FromNode>(
     alloc: Global,
     owner: &R,
@@ -128,7 +142,12 @@ pub fn put_first<R: HasSlots, A: ToNode, B: FromNode>(
     put_value(alloc, out, first, value)
 }
 
-/// Writes the member of the second of two names, where that one decides.
+/// Writes the member of the second of two names, which decides.
+///
+/// # Errors
+///
+/// Returns `Cause::NameNotWritable` at the location of a name or a status code in the value that would not be read
+/// again. An allocation failure has `Cause::Memory` and the empty location.
 pub fn put_second<R: HasSlots, A: FromNode, B: ToNode>(
     alloc: Global,
     owner: &R,

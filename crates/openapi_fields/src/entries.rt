@@ -15,6 +15,11 @@ use openapi_node::{Cause, Fault, Members, OrderedMap, Result, Steps};
 use std::alloc::Global;
 
 /// Reads the members whose names are in a set, in order.
+///
+/// # Errors
+///
+/// Returns the fault of a value that `T` can't be read from, with its location in the object. An allocation failure has
+/// `Cause::Memory` and the empty location.
 pub fn read_entries<N: Names, T: FromNode + Drop>(
     alloc: Global,
     members: &Members,
@@ -37,7 +42,12 @@ pub fn read_entries<N: Names, T: FromNode + Drop>(
     Ok(values)
 }
 
-/// Writes entries whose names are all to be in a set, in order, behind the members that are there.
+/// Writes entries whose names all have to be in a set, in order, behind the existing members.
+///
+/// # Errors
+///
+/// Returns `Cause::NameNotWritable` at a name that is not in the set, or at the location of a name or a status code
+/// inside a value that would not be read again. An allocation failure has `Cause::Memory` and the empty location.
 pub fn put_entries<N: Names, T: ToNode>(
     alloc: Global,
     out: &mut Members,

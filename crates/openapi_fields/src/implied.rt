@@ -1,4 +1,4 @@
-//! Rows whose member, where it is missing, stands for a value: no entries, false, no format, the default style.
+//! Fields with a default, which a missing member is read as: no entries, false, no format, the default style.
 ghost use Rattle.std.proofs.Common.{refl};
 ghost use Rattle.std.specs.Prelude.{◌≡◌, ◌+◌, ◌≤◌, ◌*◌, OnOk, IfErr, Some, codes};
 ghost use Rattle.openapi_node.specs.Tree.{members_of};
@@ -19,7 +19,7 @@ use openapi_values::{
 };
 use std::alloc::Global;
 
-/// A type with a value that a missing member stands for. Null does not stand for a missing member.
+/// A type with a default, which a missing member is read as. Null is not read as a missing member.
 pub trait Implied: FromNode {
     ghost use Rattle.std.specs.Prelude.{◌≡◌, true, false};
     ghost use Rattle.openapi_tables.specs.Conforms.{may_miss, skips_null};
@@ -30,7 +30,7 @@ pub trait Implied: FromNode {
     /// The mode of the rows that hold the type so.
     ghost mode: { Mode };
 
-    /// The value that a missing member stands for.
+    /// Returns the value that a missing member is read as.
     fn implied(alloc: Global) -> Self
         ensures { Self.form_of result ≡ default_of mode Self.kind };
 
@@ -181,7 +181,12 @@ impl Implied for HeaderStyle {
     ghost keeps_null = { refl };
 }
 
-/// A member that stands for a value where it is missing.
+/// Reads a member, or returns its default if it is missing.
+///
+/// # Errors
+///
+/// Returns a fault with a rule that the member breaks and the location in the object where it does. An allocation
+/// failure has `Cause::Memory` and the empty location.
 pub fn or_implied<R: HasSlots, T: Implied>(
     alloc: Global,
     members: &Members,
@@ -205,7 +210,12 @@ pub fn or_implied<R: HasSlots, T: Implied>(
     }
 }
 
-/// A member that is left out where its value is the one that this stands for, unless it is always written.
+/// Writes a member, unless its value is left out because a missing member is read as it.
+///
+/// # Errors
+///
+/// Returns `Cause::NameNotWritable` at the location of a name or a status code in the value that would not be read
+/// again. An allocation failure has `Cause::Memory` and the empty location.
 pub fn put_implied<R: HasSlots, T: Implied + ToNode>(
     alloc: Global,
     owner: &R,

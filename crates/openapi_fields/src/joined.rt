@@ -2,8 +2,14 @@
 ghost use Rattle.std.specs.Prelude.{◌≡◌};
 ghost use Rattle.openapi_fields.specs.Joined.{joined};
 
-/// Both values, or the first error. A value that is held at a `?` has to be let go of there: what is made of many values is
-/// made of their results, joined, and so at one `?`.
+/// Returns both values, or the first error.
+///
+/// Joining results before a single `?` keeps proofs cheap: every `?` adds an obligation to drop each value alive at
+/// that point.
+///
+/// # Errors
+///
+/// Returns the error of `first` if it has one, and else that of `second`.
 pub fn join<A: Drop, B: Drop, E: Drop>(
     first: Result<A, E>,
     second: Result<B, E>,

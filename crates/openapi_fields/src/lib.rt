@@ -1,6 +1,6 @@
 #![tactic(auto)]
-//! Reading and writing by tables: what a type that is read from trees and written as trees offers, and the rows of
-//! an object by their modes, the same for every type.
+//! Reading and writing by field tables: the traits of types that are read from nodes and written as nodes, and the
+//! fields of an object by their modes, the same for every type.
 mod boxes;
 mod classes;
 mod either;

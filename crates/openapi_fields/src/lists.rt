@@ -14,6 +14,11 @@ use openapi_node::{Cause, Expected, Fault, Node, Result, Steps, View};
 use std::alloc::Global;
 
 /// Reads the elements of a list, in order.
+///
+/// # Errors
+///
+/// Returns the fault of an element that `T` can't be read from, with its location in the list. An allocation failure
+/// has `Cause::Memory` and the empty location.
 pub fn items<T: FromNode + Drop>(alloc: Global, nodes: &[Node], steps: &mut Steps) -> Result<Vec<T>>
     ensures reads { ReadAs (list_form T.form_of) result (list_of T.kind) (list (items_of nodes.now)) }
     ensures count { RisesBy steps.old steps.new (3 * items_size (items_of nodes.now)) }
@@ -31,6 +36,11 @@ pub fn items<T: FromNode + Drop>(alloc: Global, nodes: &[Node], steps: &mut Step
 }
 
 /// Writes the elements of a list, in order.
+///
+/// # Errors
+///
+/// Returns `Cause::NameNotWritable` at the location of a name or a status code in an element that would not be read
+/// again. An allocation failure has `Cause::Memory` and the empty location.
 pub fn write_items<T: ToNode>(alloc: Global, values: &Vec<T>) -> Result<Node>
     ensures { WrittenAs (list_of T.kind) (list_form T.form_of values.now) result }
 {

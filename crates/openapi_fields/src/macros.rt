@@ -1,8 +1,8 @@
 //! The rows of an object, one to a line: the field, the call that reads or writes its row, and the name of the row.
 
-/// A value whose fields are read by the rows of a table, each by the call that its line names:
+/// Reads a value whose fields are those of a table, each by the call that its line names:
 /// [`required`](crate::required), [`optional`](crate::optional), [`nullable`](crate::nullable) or
-/// [`or_implied`](crate::or_implied). Behind `..` stands the field of the extensions.
+/// [`or_implied`](crate::or_implied). The field of the extensions comes behind `..`.
 #[macro_export]
 macro_rules! read_rows {
     ($alloc:ident, $members:ident, $steps:ident, $table:ty => $($value:ident)::+ {
@@ -21,10 +21,10 @@ macro_rules! read_rows {
     }};
 }
 
-/// Puts the fields of an object last by the rows of its table, each by the call that its line names:
-/// [`put_required`](crate::put_required), [`put_optional`](crate::put_optional), [`put_nullable`](crate::put_nullable) or
-/// [`put_implied`](crate::put_implied). Behind `..` stands the field of the extensions, which end the object: with them this
-/// is its answer. Behind `bound`, the fields are names that a pattern binds.
+/// Appends the fields of an object by its table, each by the call that its line names:
+/// [`put_required`](crate::put_required), [`put_optional`](crate::put_optional), [`put_nullable`](crate::put_nullable)
+/// or [`put_implied`](crate::put_implied). The field of the extensions comes last, behind `..`: with it, the macro
+/// evaluates to the result of writing them. Behind `bound`, the fields are names that a pattern binds.
 #[macro_export]
 macro_rules! write_rows {
     ($alloc:ident, $object:ident, $out:expr => { $($field:ident: $put:ident($name:literal),)* ..$extensions:ident }) => {{

@@ -13,6 +13,11 @@ use openapi_node::{Cause, Expected, Fault, Node, OrderedMap, Result, Steps, View
 use std::alloc::Global;
 
 /// Writes the entries of a map, in order.
+///
+/// # Errors
+///
+/// Returns `Cause::NameNotWritable` at the location of a name or a status code in a value that would not be read again.
+/// An allocation failure has `Cause::Memory` and the empty location.
 pub fn write_map<T: ToNode>(alloc: Global, values: &OrderedMap<T>) -> Result<Node>
     ensures { WrittenAs (map_of T.kind) (map_form T.form_of values.now) result }
 {

@@ -1,4 +1,4 @@
-//! Values in whose place null may stand.
+//! Values that may also be null.
 ghost use Rattle.std.proofs.Common.{refl};
 ghost use Rattle.std.proofs.lemmas.Bool.{and_from};
 ghost use Rattle.std.specs.Prelude.{◌≡◌, ◌+◌, ◌≤◌, ◌*◌, Some, None, false};
@@ -10,17 +10,17 @@ use crate::to_node::ToNode;
 use openapi_node::{Cause, Expected, Fault, Node, Result, Steps, View, Whole};
 use std::alloc::Global;
 
-/// A type of which null can stand in the place of a value: a text, a flag or a whole number.
+/// A type whose value may also be null: a string, a flag or a whole number.
 pub trait Nullable: FromNode {
     ghost use Rattle.std.specs.Prelude.{◌≡◌, true};
     ghost use Rattle.openapi_tables.specs.Faults.{word_or_null};
     ghost use Rattle.openapi_tables.specs.Sound as kinds;
 
-    /// What is expected where null may stand too.
+    /// Returns what is expected if null is allowed too.
     fn expected() -> Expected
         ensures { result ≡ word_or_null Self.kind };
 
-    /// Null may stand in the place of the kind.
+    /// Null is allowed in place of the kind.
     ghost may_be_null: { kinds.may_be_null Self.kind ≡ true };
 }
 
@@ -64,7 +64,7 @@ impl Nullable for i64 {
     ghost may_be_null = { refl };
 }
 
-/// None stands for null.
+/// `None` is null.
 impl<T: Nullable> FromNode for Option<T> {
     ghost kind = { null_or T.kind };
 

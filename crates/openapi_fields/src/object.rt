@@ -10,7 +10,8 @@ use crate::to_node::ToNode;
 use openapi_node::{Cause, Expected, Fault, Members, Node, OrderedMap, Result, Steps, View};
 use std::alloc::Global;
 
-/// What the helpers of rows ask of a type that is an object. It has no function, so that they can be called in a cycle.
+/// What the helpers of fields require of a type that is an object. It has no function, so that they can be called in a
+/// cycle.
 pub trait HasSlots {
     ghost use Rattle.std.specs.Prelude.{◌≡◌, true, List};
     ghost use Rattle.openapi_tables.specs.Kind.{Kind};
@@ -26,7 +27,7 @@ pub trait HasSlots {
     ghost apart: { (x : Self) → slots_apart (slots_of x) ≡ true };
 }
 
-/// An object by a table. It has no function either: what reads and writes it may stand in a cycle.
+/// An object by a table. It has no function either: what reads and writes it may be part of a cycle.
 pub trait Object {
     ghost use Rattle.std.specs.Prelude.{List};
     ghost use Rattle.openapi_tables.specs.Form.{Form};
@@ -58,13 +59,23 @@ pub trait Record: Object + Sized {
     ghost use Rattle.openapi_fields.specs.Forms.{record_slots};
     ghost use Rattle.openapi_fields.specs.Returned.{RowsReadAs, NotWritable};
 
-    /// Reads the rows among the members of an object.
+    /// Reads the fields from the members of an object.
+    ///
+    /// # Errors
+    ///
+    /// Returns a fault with a rule that the object breaks and the location in it where it does. An allocation failure
+    /// has `Cause::Memory` and the empty location.
     fn from_members(alloc: Global, members: &Members, steps: &mut Steps) -> Result<Self>
         ensures reads { RowsReadAs Self.rows_of result (by Self.table) (members_of members.now) }
         ensures rises { steps.old ≤ steps.new }
         ensures count { steps.new ≤ steps.old + 3 * rows_weight (final_tables Self.table) (members_of members.now) };
 
-    /// Writes the rows into an object that has no members yet.
+    /// Writes the fields into an object that has no members yet.
+    ///
+    /// # Errors
+    ///
+    /// Returns `Cause::NameNotWritable` at the location of a name or a status code that would not be read again. An
+    /// allocation failure has `Cause::Memory` and the empty location.
     fn put_rows(&self, alloc: Global, out: &mut Members) -> Result<()>
         requires { IsWritten final_tables [] out.old }
         ensures ok { OnOk result (IsWritten final_tables (record_slots Self.table Self.rows_of self.now) out.new) }

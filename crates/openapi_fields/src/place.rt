@@ -5,7 +5,12 @@ ghost use Rattle.openapi_fields.specs.Returned.{AtStep};
 use openapi_node::Result;
 use std::alloc::Global;
 
-/// What was read at the member of a name, seen from the object.
+/// Returns what was read at the member of a name, with a location from the object.
+///
+/// # Errors
+///
+/// Returns the fault of `read`, with the name before its location. An allocation failure has `Cause::Memory` and the
+/// empty location.
 pub fn at_name<T>(alloc: Global, name: &str, read: Result<T>) -> Result<T>
     ensures { AtStep (named name.now) read result }
 {

@@ -6,7 +6,7 @@ use crate::place::at_name;
 use openapi_node::{Members, Node, Result, Steps, View, find_member};
 use std::alloc::Global;
 
-/// A look at the member of a name, where it is there and not null.
+/// Returns a view of the member of a name, or `None` if it is missing or null. It accesses the member once.
 pub fn present_view<'a>(members: &'a Members, name: &str, steps: &mut Steps) -> Option<View<'a>>
     ensures { ViewFound result name.now (members_of members.now) steps.old steps.new }
 {
@@ -20,7 +20,12 @@ pub fn present_view<'a>(members: &'a Members, name: &str, steps: &mut Steps) -> 
     }
 }
 
-/// What was read of the member of a name, seen from the object.
+/// Returns what was read of the member of a name, with a location from the object.
+///
+/// # Errors
+///
+/// Returns the fault of `read`, with the name before its location. An allocation failure has `Cause::Memory` and the
+/// empty location.
 pub fn as_member<T>(alloc: Global, name: &str, read: Result<T>) -> Result<Option<T>>
     ensures { AtMember name.now read result }
 {

@@ -17,7 +17,11 @@ use crate::to_node::ToNode;
 use openapi_node::{Fault, Members, Node, OrderedMap, Result};
 use std::alloc::Global;
 
-/// Puts a value last, under a name that is not there yet.
+/// Appends a value at a name that is not in the map.
+///
+/// # Errors
+///
+/// Returns `Cause::Memory` with the empty location if an allocation fails.
 pub fn put<V: Drop>(alloc: Global, out: &mut OrderedMap<V>, name: &str, value: V) -> Result<()>
     requires { get name.now out.old ≡ None }
     ensures ok { OnOk result (out.new ≡ out.old ++ (name.now, value) ∷ []) }
@@ -32,7 +36,12 @@ pub fn put<V: Drop>(alloc: Global, out: &mut OrderedMap<V>, name: &str, value: V
     }
 }
 
-/// Puts what a value is written as last, under a name that is not there yet.
+/// Appends the node that a value is written as, at a name that is not in the map.
+///
+/// # Errors
+///
+/// Returns `Cause::NameNotWritable` at the location of a name or a status code in the value that would not be read
+/// again. An allocation failure has `Cause::Memory` and the empty location.
 pub fn put_value<T: ToNode>(alloc: Global, out: &mut Members, name: &str, value: &T) -> Result<()>
     requires { get name.now out.old ≡ None }
     ensures ok { OnOk result (out.new ≡ out.old ++ (name.now, print final_tables T.kind (T.form_of value.now)) ∷ []) }
@@ -46,7 +55,12 @@ pub fn put_value<T: ToNode>(alloc: Global, out: &mut Members, name: &str, value:
     }
 }
 
-/// A member that is always there.
+/// Writes a member that always exists.
+///
+/// # Errors
+///
+/// Returns `Cause::NameNotWritable` at the location of a name or a status code in the value that would not be read
+/// again. An allocation failure has `Cause::Memory` and the empty location.
 pub fn put_required<R: HasSlots, T: ToNode>(
     alloc: Global,
     owner: &R,
@@ -64,7 +78,12 @@ pub fn put_required<R: HasSlots, T: ToNode>(
     put_value(alloc, out, name, value)
 }
 
-/// A member that is left out where there is no value.
+/// Writes a member that is left out if there is no value.
+///
+/// # Errors
+///
+/// Returns `Cause::NameNotWritable` at the location of a name or a status code in the value that would not be read
+/// again. An allocation failure has `Cause::Memory` and the empty location.
 pub fn put_optional<R: HasSlots, T: ToNode>(
     alloc: Global,
     owner: &R,
@@ -85,7 +104,12 @@ pub fn put_optional<R: HasSlots, T: ToNode>(
     }
 }
 
-/// A member that is null where there is no value.
+/// Writes a member that is null if there is no value.
+///
+/// # Errors
+///
+/// Returns `Cause::NameNotWritable` at the location of a name or a status code in the value that would not be read
+/// again. An allocation failure has `Cause::Memory` and the empty location.
 pub fn put_nullable<R: HasSlots, T: ToNode>(
     alloc: Global,
     owner: &R,

@@ -14,7 +14,11 @@ use openapi_node::{
 };
 use std::alloc::Global;
 
-/// The members of a value that is to be an object, of which a look was taken already.
+/// Returns the members of a value that has to be an object and was accessed already.
+///
+/// # Errors
+///
+/// Returns `Cause::WrongKind` with the empty location if the value is no object.
 pub fn members_shown<'a>(alloc: Global, view: &View<'a>) -> Result<&'a Members>
     ensures { MembersShown result (shown view.now) }
 {
@@ -24,7 +28,12 @@ pub fn members_shown<'a>(alloc: Global, view: &View<'a>) -> Result<&'a Members>
     }
 }
 
-/// The members of the object under a name, if the name is there, by a look at it.
+/// Returns the members of the object at a name, or `None` if the name is missing. It accesses the value once.
+///
+/// # Errors
+///
+/// Returns `Cause::WrongKind` with the name as location if the value is no object. An allocation failure has
+/// `Cause::Memory` and the empty location.
 pub fn members_at<'a>(
     alloc: Global,
     members: &'a Members,
@@ -43,8 +52,13 @@ pub fn members_at<'a>(
     }
 }
 
-/// Puts what was read of an entry last, under a name that is not there yet; or leads its refusal on. It stands by itself on
-/// the stack, so that mutually recursive functions make no room for the copies that are made of a large value here.
+/// Appends what was read of an entry, at a name that is not in the map. It has a stack frame of its own, so that
+/// mutually recursive functions have no space for the copies that are made of a large value here.
+///
+/// # Errors
+///
+/// Returns the fault of `read`, with the name before its location. An allocation failure has `Cause::Memory` and the
+/// empty location.
 #[inline(never)]
 pub fn put_read<T: Drop>(
     alloc: Global,

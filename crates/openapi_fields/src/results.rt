@@ -12,8 +12,12 @@ use openapi_node::Result;
 use openapi_values::ReferenceOr;
 use std::alloc::Global;
 
-/// What was read of a tree that is no reference, where one might stand. It stands in a function of its own, as the boxes
-/// below do, so that no mutually recursive function makes room for a second copy of what may be large.
+/// Returns what was read of a value that is no reference but could be one. Like the boxes below, it has a function of
+/// its own: no mutually recursive function then has space for a second copy of a large value.
+///
+/// # Errors
+///
+/// Returns the fault of `read`.
 #[inline(never)]
 pub fn as_item<T: Drop>(read: Result<T>) -> Result<ReferenceOr<T>>
     ensures { (view : T → Form) (k : Kind) (t : Tree) → reference_in t ≡ None → ReadAs view read k t
@@ -25,7 +29,11 @@ pub fn as_item<T: Drop>(read: Result<T>) -> Result<ReferenceOr<T>>
     }
 }
 
-/// What was read, with an item in a box; or want of memory.
+/// Returns what was read, with an item in a box.
+///
+/// # Errors
+///
+/// Returns the fault of `read`, or `Cause::Memory` with the empty location if the allocation of the box fails.
 #[inline(never)]
 pub fn in_inner_box<T: Drop>(
     alloc: Global,
@@ -46,7 +54,11 @@ pub fn in_inner_box<T: Drop>(
     }
 }
 
-/// What was read, in a box; or want of memory.
+/// Returns what was read, in a box.
+///
+/// # Errors
+///
+/// Returns the fault of `read`, or `Cause::Memory` with the empty location if the allocation of the box fails.
 #[inline(never)]
 pub fn in_outer_box<T: Drop>(
     alloc: Global,

@@ -48,7 +48,13 @@ fn present<T: FromNode>(
     }
 }
 
-/// A member that has to be there.
+/// Reads a member that has to exist.
+///
+/// # Errors
+///
+/// Returns `Cause::Missing` with the empty location if the name is missing. Otherwise it returns a fault with a rule
+/// that the member breaks and the location in the object where it does. An allocation failure has `Cause::Memory` and
+/// the empty location.
 pub fn required<R: HasSlots, T: FromNode>(
     alloc: Global,
     members: &Members,
@@ -72,7 +78,12 @@ pub fn required<R: HasSlots, T: FromNode>(
     }
 }
 
-/// A member that may be missing or null.
+/// Reads a member that may be missing or null.
+///
+/// # Errors
+///
+/// Returns a fault with a rule that the member breaks and the location in the object where it does. An allocation
+/// failure has `Cause::Memory` and the empty location.
 pub fn optional<R: HasSlots, T: FromNode>(
     alloc: Global,
     members: &Members,
@@ -90,7 +101,12 @@ pub fn optional<R: HasSlots, T: FromNode>(
     present(alloc, members, name, steps)
 }
 
-/// A member that may be missing or null, and is written as null where it is.
+/// Reads a member that may be missing or null, and that is written as null in both cases.
+///
+/// # Errors
+///
+/// Returns a fault with a rule that the member breaks and the location in the object where it does. An allocation
+/// failure has `Cause::Memory` and the empty location.
 pub fn nullable<R: HasSlots, T: FromNode>(
     alloc: Global,
     members: &Members,

@@ -1,4 +1,4 @@
-//! Texts, flags and trees.
+//! Strings, flags and nodes.
 ghost use Rattle.std.proofs.Common.{refl};
 ghost use Rattle.std.specs.Prelude.{◌≡◌, ◌+◌, ◌≤◌, ◌*◌, true, false};
 ghost use Rattle.openapi_tables.specs.Kind.{any_flag, any_text, any_tree};

@@ -1,4 +1,4 @@
-//! Status codes, as they stand by themselves.
+//! Status codes that are a value of their own.
 ghost use Rattle.std.proofs.Common.{refl};
 ghost use Rattle.std.specs.Prelude.{◌≡◌, ◌+◌, ◌≤◌, ◌*◌, true, false};
 ghost use Rattle.openapi_tables.specs.Kind.{status_code};

@@ -1,4 +1,4 @@
-//! Tags: texts that say by which table an object is read.
+//! Tags: strings that decide by which table an object is read.
 ghost use Rattle.std.specs.Prelude.{◌≡◌, ◌+◌, ◌≤◌, ◌*◌, OnOk, IfErr, Some};
 ghost use Rattle.openapi_node.specs.Tree.{members_of};
 ghost use Rattle.openapi_tables.specs.ByRow.{is_named, row_weight};
@@ -16,7 +16,13 @@ use openapi_node::{Cause, Fault, Members, Node, Result, Steps, find_member};
 use openapi_values::Word;
 use std::alloc::Global;
 
-/// Reads the tag of an object: a text that has to be there and is a word of a set.
+/// Reads the tag of an object: a string that has to exist and has to be a word of a set.
+///
+/// # Errors
+///
+/// Returns `Cause::Missing` with the empty location if the name is missing. With the name as location, it returns
+/// `Cause::WrongKind` if the value is no string, and `Cause::UnknownVariant` if it is no word of the set. An allocation
+/// failure has `Cause::Memory` and the empty location.
 pub fn tag<T: Word>(
     alloc: Global,
     members: &Members,
@@ -38,6 +44,10 @@ pub fn tag<T: Word>(
 }
 
 /// Writes the tag of an object.
+///
+/// # Errors
+///
+/// Returns `Cause::Memory` with the empty location if an allocation fails.
 pub fn put_tag<R: HasSlots>(
     alloc: Global,
     owner: &R,

@@ -23,7 +23,12 @@ use openapi_values::{
 };
 use std::alloc::Global;
 
-/// Reads a text that is to be a word of a set.
+/// Reads a string that has to be a word of a set.
+///
+/// # Errors
+///
+/// Returns `Cause::WrongKind` if the value is no string, and `Cause::UnknownVariant` if it is no word of the set, both
+/// with the empty location.
 pub fn read_word<T: Word>(alloc: Global, view: &View<'_>) -> Result<T>
     ensures { ReadAs (word_form T.word_of) result (one_of T.words) (shown view.now) }
 {
@@ -48,6 +53,10 @@ pub(crate) fn write_text(alloc: Global, text: &str) -> Result<Node>
 }
 
 /// Writes a word of a set.
+///
+/// # Errors
+///
+/// Returns `Cause::Memory` with the empty location if an allocation fails.
 pub fn write_word<T: Word>(alloc: Global, word: &T) -> Result<Node>
     ensures { WrittenAs (one_of T.words) (word_form T.word_of word.now) result }
 {

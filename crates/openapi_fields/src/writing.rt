@@ -18,7 +18,12 @@ use crate::{HasSlots, Record, put};
 use openapi_node::{Fault, Members, Node, OrderedMap, Result};
 use std::alloc::Global;
 
-/// Puts what was written of a value last, under a name that is not there yet; or leads its refusal on.
+/// Appends the node that a value was written as, at a name that is not in the map.
+///
+/// # Errors
+///
+/// Returns the fault of `written`, with the name before its location. An allocation failure has `Cause::Memory` and the
+/// empty location.
 pub fn put_written(
     alloc: Global,
     out: &mut Members,
@@ -34,7 +39,11 @@ pub fn put_written(
     }
 }
 
-/// What was written of a value that is there.
+/// Returns the node that an existing value was written as.
+///
+/// # Errors
+///
+/// Returns the fault of `written`.
 pub fn as_some(written: Result<Node>) -> Result<Option<Node>>
     ensures { (m : Mode) (k : Kind) (f : Form) → is_silent m f ≡ false → WrittenAs k f written
         → MemberWrittenAs m k f result }
@@ -45,7 +54,12 @@ pub fn as_some(written: Result<Node>) -> Result<Option<Node>>
     }
 }
 
-/// Puts the member of a row, if one was written; or leads its refusal on.
+/// Appends the member of a field, if one was written.
+///
+/// # Errors
+///
+/// Returns the fault of `written`, with the name before its location. An allocation failure has `Cause::Memory` and the
+/// empty location.
 pub fn put_row<R: HasSlots>(
     alloc: Global,
     owner: &R,
@@ -68,7 +82,12 @@ pub fn put_row<R: HasSlots>(
     }
 }
 
-/// Puts the member of the one of two names that decides, by what was written of its value; or leads its refusal on.
+/// Appends the member of the one of two names that decides, with the node that its value was written as.
+///
+/// # Errors
+///
+/// Returns the fault of `written`, with the name before its location. An allocation failure has `Cause::Memory` and the
+/// empty location.
 pub fn put_decided<R: HasSlots>(
     alloc: Global,
     owner: &R,
@@ -86,7 +105,11 @@ pub fn put_decided<R: HasSlots>(
     put_written(alloc, out, name, written)
 }
 
-/// The object that the members of the rows of a table make, by what was written of them.
+/// Returns the object of the members that the fields of a table were written as.
+///
+/// # Errors
+///
+/// Returns the fault of `written`.
 pub fn whole_object(written: Result<Members>) -> Result<Node>
     ensures { (i : TableName) (fs : List Form) → RowsWritten (slots (final_tables i) fs) written
         → WrittenAs (kinds.by i) (fields plain (forms_of fs)) result }
@@ -97,7 +120,12 @@ pub fn whole_object(written: Result<Members>) -> Result<Node>
     }
 }
 
-/// The only member of an object, by what was written of its value.
+/// Returns the only member of an object, with the node that its value was written as.
+///
+/// # Errors
+///
+/// Returns the fault of `written`, with the name before its location. An allocation failure has `Cause::Memory` and the
+/// empty location.
 pub fn only_row(alloc: Global, name: &str, written: Result<Node>) -> Result<Members>
     ensures { (k : Kind) (f : Form) → WrittenAs k f written
         → RowsWritten ((kinds.row name.now kinds.required k, f) ∷ []) result }
@@ -111,7 +139,12 @@ pub fn only_row(alloc: Global, name: &str, written: Result<Node>) -> Result<Memb
     }
 }
 
-/// The members that an object by a table is written as.
+/// Returns the members that an object by a table is written as.
+///
+/// # Errors
+///
+/// Returns `Cause::NameNotWritable` at the location of a name or a status code that would not be read again. An
+/// allocation failure has `Cause::Memory` and the empty location.
 pub fn record_rows<T: Record>(alloc: Global, value: &T) -> Result<Members>
     ensures { RowsWritten (record_slots T.table T.rows_of value.now) result }
 {
@@ -122,7 +155,11 @@ pub fn record_rows<T: Record>(alloc: Global, value: &T) -> Result<Members>
     }
 }
 
-/// Puts members behind those that are there, none of which has a name of theirs. Err only for want of memory.
+/// Appends members, none of which has the name of an existing one.
+///
+/// # Errors
+///
+/// Returns `Cause::Memory` with the empty location if an allocation fails.
 pub fn append(alloc: Global, out: &mut Members, more: Members) -> Result<()>
     requires { AreNew more out.old }
     ensures ok { OnOk result (out.new ≡ out.old ++ more) }

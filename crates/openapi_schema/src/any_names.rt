@@ -1,4 +1,4 @@
-//! A schema of no sort in particular, made of what stands under the kind names.
+//! A schema of no sort in particular, made from the values of the kind names.
 ghost use Rattle.std.specs.Prelude.{◌≡◌, ◌+◌, ◌*◌, ◌≤◌};
 ghost use Rattle.openapi_node.specs.Tree.{members_of};
 ghost use Rattle.openapi_tables.specs.ByRow.{rows_weight};
@@ -72,8 +72,8 @@ pub(crate) fn read_any_rest(
     })
 }
 
-/// The schema of no sort in particular with what stands under the names, and these entries of its enumeration. A list
-/// or a map that is missing is an empty one.
+/// Returns the schema of no sort in particular with the values of the names and these entries of its enumeration. A
+/// missing list or map is an empty one.
 pub(crate) fn any_of_names(
     alloc: Global,
     first: FirstNames,

@@ -84,7 +84,7 @@ impl Clone for AnySchema {
     }
 }
 
-/// A schema with what every schema can say, and with its kind.
+/// Clones a schema: the fields that every schema has, and its kind.
 #[cycle(clone)]
 fn clone_schema(schema: &Schema) -> Result<Schema, AllocError>
     ensures { IfOk result (λ s. schema_form s ≡ schema_form schema.now) }
@@ -314,7 +314,7 @@ fn clone_not(
     }
 }
 
-/// What other members may be, where it is said.
+/// Clones what other members may be, if that is set.
 #[cycle(clone)]
 fn clone_if_additional(
     value: &Option<AdditionalProperties>,

@@ -1,6 +1,8 @@
-//! Schemas and their kinds, made of what was read of their parts. What needs room for a whole schema stands here and not
-//! among the mutually recursive readers: these call it when all that lies below was read, so no level of a nested schema
-//! keeps that room while it waits for the next one.
+//! Schemas and their kinds, made from what was read of their parts.
+//!
+//! Functions with a stack frame for a whole schema are here and not among the mutually recursive readers. The readers
+//! call them after all values below were read, so no level of a nested schema keeps that frame while it waits for the
+//! next one.
 ghost use Rattle.std.specs.Prelude.{◌≡◌, ◌+◌, ◌*◌, ◌≤◌, None, Ok};
 ghost use Rattle.openapi_node.specs.Tree.{Members, members_of, object};
 ghost use Rattle.openapi_tables.specs.ByRow.{rows_asked, rows_weight};
@@ -66,7 +68,7 @@ pub(crate) fn schema_with(
     }
 }
 
-/// The schema among the members of an object whose kind was read, where a reference might stand and does not.
+/// Reads the schema from the members of an object whose kind was read, and which is no reference but could be one.
 #[inline(never)]
 pub(crate) fn item_with(
     alloc: Global,

@@ -1,4 +1,4 @@
-//! What stands under the names that tell the kinds of schemas apart.
+//! The values of the names by which the kinds of schemas are distinguished.
 ghost use Rattle.std.proofs.Common.{refl};
 ghost use Rattle.std.specs.Prelude.{◌≡◌, [], string_bytes};
 ghost use Rattle.std.specs.Option.{option_copied, option_map};
@@ -18,7 +18,7 @@ use openapi_node::{Node, OrderedMap};
 use openapi_schema_types::{Mask, Sort};
 use openapi_values::ReferenceOr;
 
-/// The names themselves, so that a helper of rows can be told that a row is one of theirs.
+/// The names themselves, by which a helper of fields gets the fact that a field is one of theirs.
 pub(crate) struct KindNames;
 
 impl HasSlots for KindNames {
@@ -29,7 +29,7 @@ impl HasSlots for KindNames {
     ghost apart = { λ names. refl };
 }
 
-/// What stands under the first twelve of these names, where it is not null.
+/// The values of the first twelve of these names that are not null.
 #[derive(Drop)]
 pub(crate) struct FirstNames {
     pub plain: PlainFirst,
@@ -38,8 +38,7 @@ pub(crate) struct FirstNames {
     pub additional_properties: Option<AdditionalProperties>,
 }
 
-/// What stands under the last twelve of these names, where it is not null. The entries of the enumeration are not read
-/// yet.
+/// The values of the last twelve of these names that are not null. The entries of the enumeration are not read yet.
 #[derive(Drop)]
 pub(crate) struct LastNames<'a> {
     pub plain: PlainLast,
@@ -51,7 +50,7 @@ pub(crate) struct LastNames<'a> {
     pub not: Option<Box<ReferenceOr<Schema>>>,
 }
 
-/// The names under which something stands.
+/// Returns the names that have a value.
 fn present_names(first: &FirstNames, last: &LastNames<'_>) -> Mask
     ensures { result.bits ≡ mask_of (flags_in first.now last.now) }
 {
@@ -93,7 +92,7 @@ fn lent(text: &Option<String>) -> Option<&str>
     }
 }
 
-/// The sort that the names and the `type` allow, with no look at what stands under the other names.
+/// Returns the sort that the names and the `type` allow, without access to the values of the other names.
 pub(crate) fn named_sort(first: &FirstNames, last: &LastNames<'_>) -> Sort
     ensures { (ms : Members) → AreRows final_tables optional_rows (kind_name_rows first.now last.now) ms
         → sort_in result ≡ sort_by_names (members_list ms) }

@@ -1,4 +1,4 @@
-//! The kind of a schema, made of what stands under the kind names.
+//! The kind of a schema, made from the values of the kind names.
 ghost use Rattle.std.proofs.Common.{refl};
 ghost use Rattle.std.specs.Prelude.{◌≡◌, ◌+◌, ◌*◌, ◌≤◌, IfOk, IfErr};
 ghost use Rattle.openapi_node.specs.Fault.{IsMemory};
@@ -18,8 +18,8 @@ use openapi_schema_types::{
 };
 use std::alloc::Global;
 
-/// The entries of an enumeration as values of one type; no entries where there is no enumeration. None where an entry
-/// is of another type. Err only for want of memory.
+/// Reads the entries of an enumeration as values of one type; without an enumeration there are none. Returns `None` if
+/// an entry is of another type. The only error is an allocation failure.
 fn enumeration<T: Entry + Drop>(
     alloc: Global,
     nodes: Option<&[Node]>,
@@ -35,7 +35,8 @@ fn enumeration<T: Entry + Drop>(
     }
 }
 
-/// The entries of an enumeration as they are; no entries where there is no enumeration. Err only for want of memory.
+/// Copies the entries of an enumeration; without an enumeration there are none. The only error is an allocation
+/// failure.
 fn kept(alloc: Global, nodes: Option<&[Node]>, steps: &mut Steps) -> Result<Vec<Node>>
     ensures ok { IfOk result (λ v. v.items ≡ trees_or_none (trees_in nodes.entry)) }
     ensures err { IfErr result IsMemory }
@@ -63,7 +64,7 @@ pub(crate) trait TypedEntry: Entry + Drop {
         requires { IsEnumeration Self.tree_in enumeration last }
         ensures { IsKindOf sort result first last.entry };
 
-    // What the sort asks further is that the entries are such values.
+    // What the sort requires further is that the entries are such values.
     ghost asks: { (ms : Members) → further sort (members_list ms) ≡ entries_pass Self.test
         (held (codes "enum") (members_list ms)) };
 }
@@ -128,8 +129,8 @@ impl TypedEntry for bool {
     ghost asks = { λ ms. refl };
 }
 
-/// The kind of a schema of one `type`, or of no sort in particular where an entry of the enumeration is something else.
-/// Err only for want of memory.
+/// Returns the kind of a schema of one `type`, or of no sort in particular if an entry of the enumeration is something
+/// else. The only error is an allocation failure.
 pub(crate) fn typed_or_any<T: TypedEntry>(
     alloc: Global,
     first: FirstNames,
@@ -213,8 +214,8 @@ fn integer_kind(
     }))
 }
 
-/// The kind of a schema of whole numbers, or of no sort in particular where a limit or an entry of the enumeration
-/// does not fit 64 bits with sign. Err only for want of memory.
+/// Returns the kind of a schema of whole numbers, or of no sort in particular if a limit or an entry of the enumeration
+/// does not fit 64 bits with sign. The only error is an allocation failure.
 pub(crate) fn integer_or_any(
     alloc: Global,
     first: FirstNames,
@@ -261,7 +262,7 @@ pub(crate) fn array_kind(first: FirstNames, last: LastNames<'_>) -> SchemaKind
     }))
 }
 
-/// A schema of no sort in particular. Err only for want of memory.
+/// Returns a schema of no sort in particular. The only error is an allocation failure.
 pub(crate) fn any_kind(
     alloc: Global,
     first: FirstNames,

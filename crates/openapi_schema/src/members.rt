@@ -57,7 +57,8 @@ fn kind_word(kind: &SchemaKind) -> Option<&'static str>
     }
 }
 
-/// Puts a `type`, where there is one, and the other members of its kind behind it. Err only for want of memory.
+/// Appends a `type`, if there is one, and the other members of its kind behind it. The only error is an allocation
+/// failure.
 pub(crate) fn put_tagged(
     alloc: Global,
     out: &mut Members,
@@ -81,7 +82,8 @@ pub(crate) fn put_tagged(
     }
 }
 
-/// A schema as it is written, of the members of what every kind of schema can say and those of its kind.
+/// Returns the node that a schema is written as, made from the members that every kind of schema can have and those of
+/// its kind.
 pub(crate) fn whole_schema(
     alloc: Global,
     schema: &Schema,

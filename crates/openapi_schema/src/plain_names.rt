@@ -1,4 +1,4 @@
-//! What stands under the names that tell the kinds of schemas apart, where it is one text, number or flag.
+//! The values of the names by which the kinds of schemas are distinguished, if the value is one string, number or flag.
 ghost use Rattle.std.specs.Prelude.{◌+◌, ◌*◌, ◌≤◌};
 ghost use Rattle.openapi_node.specs.Tree.{members_of};
 ghost use Rattle.openapi_tables.specs.ByRow.{rows_weight};

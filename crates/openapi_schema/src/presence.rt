@@ -13,7 +13,7 @@ use openapi_fields::{as_member, present_view};
 use openapi_node::{Cause, Expected, Fault, Members, Node, Result, Steps, View};
 use std::alloc::Global;
 
-/// The elements of a list, which are not looked into.
+/// Returns the elements of a list, without access to them.
 fn elements<'a>(alloc: Global, view: &View<'a>) -> Result<&'a [Node]>
     ensures reads { ReadAs (λ nodes. trees_form nodes.now) result (kinds.list_of kinds.any_tree) (shown view.now) }
     ensures within { IfOk result (λ nodes. items_size (items_of nodes.now) < size_of (shown view.now)) }
@@ -24,7 +24,7 @@ fn elements<'a>(alloc: Global, view: &View<'a>) -> Result<&'a [Node]>
     }
 }
 
-/// The entries under `enum`, where it is there and not null. They are not looked into.
+/// Returns the entries of `enum`, or `None` if it is missing or null. The entries are not accessed.
 pub(crate) fn lent_entries<'a>(
     alloc: Global,
     members: &'a Members,

@@ -51,7 +51,7 @@ pub fn schema_ref_from_node(
     read_schema_ref(alloc, &view, steps)
 }
 
-/// Reads a schema or a reference to one, of which a look was taken already.
+/// Reads a schema or a reference to one, from a value that was accessed already.
 #[cycle(read)]
 pub(crate) fn read_schema_ref(
     alloc: Global,
@@ -70,8 +70,8 @@ pub(crate) fn read_schema_ref(
     item_with(alloc, members, read_kind(alloc, members, steps), steps)
 }
 
-/// Reads a schema in a box or a reference to one, of which a look was taken already. Its callers leave it to this
-/// function, and so make no room for a whole schema where none is to be read.
+/// Reads a schema in a box or a reference to one, from a value that was accessed already. It is a function of its own,
+/// so that its callers have no stack space for a whole schema where none is read.
 #[cycle(read)]
 fn read_boxed_schema_ref(
     alloc: Global,
@@ -84,8 +84,8 @@ fn read_boxed_schema_ref(
     in_inner_box(alloc, read_schema_ref(alloc, view, steps))
 }
 
-/// Reads a schema or a reference to one, of which a look was taken already, into a box. Its callers leave it to this
-/// function as they leave schemas in boxes to [`read_boxed_schema_ref`].
+/// Reads a schema or a reference to one into a box, from a value that was accessed already. It is a function of its own
+/// for the same reason as [`read_boxed_schema_ref`].
 #[cycle(read)]
 fn read_boxed_ref(
     alloc: Global,
@@ -108,7 +108,7 @@ pub(crate) fn read_kind(alloc: Global, members: &Members, steps: &mut Steps) -> 
     kind_with(alloc, first, read_last_names(alloc, members, steps), steps)
 }
 
-/// Reads what stands under the first twelve names that tell the kinds of schemas apart.
+/// Reads the values of the first twelve names by which the kinds of schemas are distinguished.
 #[cycle(read)]
 #[tactic(auto, using(crate::proofs::PartRows::first_weight), unfolding(openapi_tables::specs::Members::checked_rows, openapi_tables::specs::Tables::any_rows))]
 #[inline(never)]
@@ -128,7 +128,7 @@ fn read_first_names(alloc: Global, members: &Members, steps: &mut Steps) -> Resu
     })
 }
 
-/// Reads what stands under the last twelve names. What is left to look at pays for the entries of the enumeration.
+/// Reads the values of the last twelve names. The accesses that are left suffice for the entries of the enumeration.
 #[cycle(read)]
 #[tactic(auto, using(crate::proofs::PartRows::last_weight), unfolding(openapi_tables::specs::Members::checked_rows, openapi_tables::specs::Tables::any_rows))]
 #[inline(never)]
@@ -325,7 +325,7 @@ fn read_named(
     Ok(values)
 }
 
-/// What stands under `additionalProperties`, where it is there and not null.
+/// Reads the value of `additionalProperties`, or returns `None` if it is missing or null.
 #[cycle(read)]
 fn read_additional(
     alloc: Global,

@@ -24,7 +24,7 @@ fn not_kind(alloc: Global, not: Option<Box<ReferenceOr<Schema>>>) -> SchemaKind
     }
 }
 
-/// The kind of a schema, by what stands under the names that tell the kinds apart. Err only for want of memory.
+/// Returns the kind of a schema by the values of the kind names. The only error is an allocation failure.
 pub(crate) fn schema_kind(
     alloc: Global,
     first: FirstNames,

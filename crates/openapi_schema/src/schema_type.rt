@@ -1,4 +1,4 @@
-//! The type of a schema by itself, told by its `type`.
+//! The type of a schema by itself, distinguished by its `type`.
 ghost use Rattle.std.proofs.Common.{refl};
 ghost use Rattle.std.specs.Prelude.{◌+◌, ◌≤◌, ◌*◌};
 ghost use Rattle.openapi_node.specs.Tree.{members_of};

@@ -315,7 +315,7 @@ fn write_not(alloc: Global, value: &Option<Box<ReferenceOr<Schema>>>) -> Result<
     }
 }
 
-/// Writes what other members may be, where it is said.
+/// Writes what other members may be, if that is set.
 #[cycle(write)]
 fn write_additional(alloc: Global, value: &Option<AdditionalProperties>) -> Result<Option<Node>>
     ensures { MemberWrittenAs kinds.optional kinds.flag_or_schema (optional_form additional_form value.now) result }

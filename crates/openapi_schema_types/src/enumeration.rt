@@ -19,14 +19,17 @@ pub trait Entry: Sized {
     ghost use Rattle.openapi_node.specs.View.{shown};
     ghost use Rattle.openapi_schema_types.specs.Enumerations.{GivesEntry};
 
-    /// Whether a tree is null or such a value.
+    /// Whether a node is null or such a value.
     ghost test: { Tree → Bool };
 
-    /// The tree of a value.
+    /// The node of a value.
     ghost tree_in: { Self → Tree };
 
-    /// The value that a look shows: None for null. None of all where another value is shown. Err only for want of
-    /// memory.
+    /// Reads an entry from a view. The inner `None` is null; the outer one is a value that is no such entry.
+    ///
+    /// # Errors
+    ///
+    /// Returns `Cause::Memory` with the empty location if an allocation fails.
     fn from_shown(alloc: Global, view: &View<'_>) -> Result<Option<Option<Self>>>
         ensures reads { GivesEntry test tree_in result (shown view.now) }
         ensures err { IfErr result IsMemory };
@@ -94,8 +97,12 @@ impl Entry for bool {
     }
 }
 
-/// The entries of an enumeration as values of one type, null among them. None where one of them is something else. Err
-/// only for want of memory. Each entry is looked at once at most.
+/// Reads the entries of an enumeration as values of one type, null among them. Returns `None` if one of them is
+/// something else. Each entry is accessed at most once.
+///
+/// # Errors
+///
+/// Returns `Cause::Memory` with the empty location if an allocation fails.
 pub fn entries<T: Entry + Drop>(
     alloc: Global,
     nodes: &[Node],
@@ -122,7 +129,11 @@ pub fn entries<T: Entry + Drop>(
     Ok(Some(values))
 }
 
-/// The entries of an enumeration as they are. Err only for want of memory.
+/// Copies the entries of an enumeration.
+///
+/// # Errors
+///
+/// Returns `Cause::Memory` with the empty location if an allocation fails.
 #[tactic(auto, using(crate::proofs::ItemSizes::items_size_drop))]
 pub fn copies(alloc: Global, nodes: &[Node], steps: &mut Steps) -> Result<Vec<Node>>
     ensures ok { IfOk result (λ v. v.items ≡ nodes.now) }

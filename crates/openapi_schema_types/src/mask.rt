@@ -1,8 +1,8 @@
-//! Which of the names that tell the kinds of schemas apart an object has.
+//! The set of those names by which the kinds of schemas are distinguished that an object has.
 ghost use Rattle.std.specs.Prelude.{◌≡◌, ◌==◌, bit_and};
 ghost use Rattle.openapi_schema_types.specs.Masks.{mask_of};
 
-/// How many names tell the kinds of schemas apart.
+/// The number of names by which the kinds of schemas are distinguished.
 pub const NAMES: usize = 24;
 
 // The bit of each of these names: its place in the order in which they are written, counted from 0.

@@ -4,7 +4,7 @@ ghost use Rattle.openapi_schema_types.specs.TypeNames.{type_words, type_name_wor
 
 use openapi_values::Word;
 
-/// The name of a type of schemas, as it stands under `type`.
+/// The name of a type of schemas, which is the value of `type`.
 #[derive(Clone, Copy, Debug, PartialEq)]
 pub enum TypeName {
     /// `string`

@@ -1,9 +1,9 @@
-//! What stands under the eight methods of a path item.
+//! The values of the eight methods of a path item.
 ghost use Rattle.std.specs.Map.Iter.{TakesFirst};
 ghost use Rattle.openapi_tables.specs.Operations.{methods};
 ghost use Rattle.openapi_documents.specs.Present.{NoneStands, owned_method, those_held, under_methods};
 
-/// What stands under each method, where it is there.
+/// The value of each method, if it has one.
 #[derive(Drop)]
 pub(crate) struct Methods<T> {
     pub get: Option<T>,
@@ -16,7 +16,7 @@ pub(crate) struct Methods<T> {
     pub trace: Option<T>,
 }
 
-/// Returns the first value that is there, with its method, taken from where it stands.
+/// Removes the first value that exists, and returns it with its method.
 macro_rules! take_each {
     ($methods:ident: $($method:ident)*) => {
         $(if let Some(value) = $methods.$method.take() {

@@ -52,7 +52,7 @@ impl<'a> Iterator for Operations<'a> {
     }
 }
 
-/// The operations of what stands at a path: none of a reference.
+/// Returns the operations of the item at a path; a reference has none.
 fn under_item<'a>(item: &'a ReferenceOr<PathItem>) -> Option<PathItemIter<'a>>
     ensures { (path : List ℕ) → left_under path result ≡ operations_at path item.now }
 {
@@ -62,7 +62,7 @@ fn under_item<'a>(item: &'a ReferenceOr<PathItem>) -> Option<PathItemIter<'a>>
     }
 }
 
-/// The next operation under the path that an iterator stands at.
+/// Returns the next operation of the path at which an iterator is.
 fn next_under<'a>(
     path: &'a str,
     under: &mut Option<PathItemIter<'a>>,
@@ -73,7 +73,7 @@ fn next_under<'a>(
     Some((path, method, operation))
 }
 
-/// The next operation under the path that an iterator stands at, or else the first one under the paths behind it.
+/// Returns the next operation of the path at which an iterator is, or else the first one of the paths behind it.
 fn next_of<'a>(
     paths: &mut Iter<'a, ReferenceOr<PathItem>>,
     path: &mut &'a str,

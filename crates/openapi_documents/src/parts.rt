@@ -27,7 +27,7 @@ use openapi_security::SecurityRequirement;
 use openapi_values::ReferenceOr;
 use std::alloc::Global;
 
-/// What an operation says in texts, and its flag.
+/// The fields of an operation that are texts, and its flag.
 #[derive(Drop)]
 pub(crate) struct OperationTexts {
     pub tags: Vec<String>,
@@ -200,7 +200,7 @@ pub(crate) fn joined_path_item(beside: PathItemValues, methods: Methods<Operatio
     }
 }
 
-/// Writes what stands before the callbacks of an operation, into an object that has no members yet.
+/// Writes the fields before the callbacks of an operation, into an object that has no members yet.
 pub(crate) fn put_before_callbacks(
     alloc: Global,
     operation: &Operation,
@@ -223,7 +223,7 @@ pub(crate) fn put_before_callbacks(
     put_required(alloc, operation, out, "responses", &operation.responses)
 }
 
-/// Writes what stands behind the callbacks of an operation.
+/// Writes the fields behind the callbacks of an operation.
 pub(crate) fn put_behind_callbacks(
     alloc: Global,
     operation: &Operation,

@@ -1,7 +1,8 @@
 #![tactic(auto, unfolding(openapi_tables::specs::Tables::final_tables, openapi_tables::specs::Tables::tables_with))]
-//! How operations, path items and callbacks are read. The functions are mutually recursive: a path item has
-//! operations, an operation may have callbacks, and these have path items. Each gets a smaller part of the tree in the
-//! end. A value is looked at once, and handed down as the view of that look.
+//! How operations, path items and callbacks are read.
+//!
+//! The functions are mutually recursive: a path item has operations, an operation may have callbacks, and these have
+//! path items. The node gets smaller with each round. A value that was accessed is passed on as its view.
 ghost use Rattle.std.specs.Prelude.{◌≡◌, ◌+◌, ◌*◌, ◌≤◌, None, Some, codes};
 ghost use Rattle.openapi_node.specs.Tree.{members_of, members_size, object, size_of};
 ghost use Rattle.openapi_node.specs.View.{shown};

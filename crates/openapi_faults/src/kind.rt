@@ -115,7 +115,7 @@ pub enum Kind {
     StatusCode,
 }
 
-/// What is asked of the values inside one of a kind.
+/// What is required of the values inside one of a kind.
 #[derive(Clone, Copy)]
 pub(crate) enum Inside {
     /// Nothing.
@@ -124,22 +124,22 @@ pub(crate) enum Inside {
     Items(Kind),
     /// This kind of each member of an object.
     Members(Kind),
-    /// What the rows of this table ask.
+    /// What the rows of this table require.
     Rows(TableName),
-    /// What the rows of the table ask that the tag of the object names.
+    /// What the rows of the table require that the tag of the object names.
     Tagged(Tag),
     /// This kind of the value itself, unless it is a reference.
     Item(Kind),
     /// A schema or a reference of the value itself, where it is an object.
     Schema,
-    /// What all schemas may have, and the names that tell their types apart.
+    /// What all schemas may have, and the names by which their types are distinguished.
     SchemaRows,
-    /// The names alone that tell the types of schemas apart.
+    /// Only the names by which the types of schemas are distinguished.
     TypeRows,
 }
 
 impl Kind {
-    /// Returns what is asked inside a value of the kind.
+    /// Returns what is required inside a value of the kind.
     pub(crate) fn inside(self) -> Inside
         ensures { inside_of (kind_of self) result }
     {

@@ -73,7 +73,7 @@ impl Visitor for LimitedFinder {
     }
 }
 
-/// Returns the limits of the numbers that a kind asks, if it asks numbers within limits.
+/// Returns the limits of the numbers that a kind requires, if it requires numbers within limits.
 fn limits_in(kind: Kind) -> Option<Limits>
     ensures { is_some result ≡ is_limited (kind_of kind) }
 {

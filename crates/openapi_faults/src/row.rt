@@ -42,7 +42,8 @@ pub enum Row {
 }
 
 impl Row {
-    /// Returns the row as one whose member may be missing or `null`: so a schema is asked as long as its type is not known.
+    /// Returns the row as one whose member may be missing or `null`. A schema is checked by such rows while its type is
+    /// not known.
     pub(crate) fn made_optional(self) -> Row
         ensures { row_of result ≡ made_optional (row_of self) }
     {

@@ -20,7 +20,7 @@ impl Step<'_> {
     ///
     /// # Errors
     ///
-    /// `AllocError` when memory runs out.
+    /// Returns [`AllocError`] if an allocation fails.
     pub(crate) fn owned(self, alloc: Global) -> Result<PlaceStep, AllocError>
         ensures { IfOk result (λ step. fault.step_of step ≡ step_of self.entry) }
     {
@@ -38,7 +38,7 @@ impl Step<'_> {
 ///
 /// # Errors
 ///
-/// `AllocError` when memory runs out.
+/// Returns [`AllocError`] if an allocation fails.
 pub(crate) fn owned_place(alloc: Global, place: &[Step<'_>]) -> Result<Vec<PlaceStep>, AllocError>
     ensures { IfOk result (λ steps. map fault.step_of steps.items ≡ map step_of place.now) }
 {

@@ -1,4 +1,4 @@
-//! The tags of objects, which say by which table an object is read.
+//! The tags of objects, which decide by which table an object is read.
 ghost use Rattle.std.specs.Prelude.{◌≡◌, map, is_some, IfSome};
 ghost use Rattle.openapi_tables.specs.Faults.{tag_table, words};
 ghost use Rattle.openapi_tables.specs.Kind as kinds;
@@ -9,11 +9,11 @@ use crate::kind::Kind;
 use crate::members::is_same;
 use crate::table::TableName;
 
-/// A text of a tag, and the table that it stands for.
+/// A text of a tag, and the table that it selects.
 #[derive(Clone, Copy)]
 pub(crate) struct Case(&'static str, TableName);
 
-/// A tag: a member of an object whose text says by which table the object is read.
+/// A tag: a member of an object whose text decides by which table the object is read.
 #[derive(Clone, Copy)]
 pub(crate) enum Tag {
     /// `in` of a Parameter Object.
@@ -46,7 +46,7 @@ impl Tag {
         }
     }
 
-    /// Returns the texts of the tag, each with the table that it stands for.
+    /// Returns the texts of the tag, each with the table that it selects.
     fn cases(self) -> &'static [Case]
         ensures { map case_of result.now ≡ cases_of self }
     {
@@ -74,7 +74,7 @@ impl Tag {
         }
     }
 
-    /// Returns the table that a text stands for.
+    /// Returns the table that a text selects.
     pub(crate) fn table(self, text: &str) -> Option<TableName>
         ensures some { IfSome result (λ i. table_of i ≡ tag_table (cases_of self) text.now) }
         ensures known { is_some result ≡ is_case (cases_of self) text.now }
@@ -83,7 +83,7 @@ impl Tag {
     }
 }
 
-/// Returns the table that a text stands for among these cases.
+/// Returns the table that a text selects among these cases.
 fn table_among(cases: &[Case], text: &str) -> Option<TableName>
     ensures some { IfSome result (λ i. table_of i ≡ tag_table (map case_of cases.now) text.now) }
     ensures known { is_some result ≡ is_case (map case_of cases.now) text.now }

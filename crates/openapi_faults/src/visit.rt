@@ -1,4 +1,4 @@
-//! One visit of all that is asked in a value.
+//! One visit of all that is required in a value.
 ghost use Rattle.std.specs.Prelude.{◌+◌, ◌*◌, ◌≤◌, IfOk};
 ghost use Rattle.openapi_node.specs.Tree.{size_of};
 ghost use Rattle.openapi_tables.specs.Faults.{asked};
@@ -11,11 +11,11 @@ use crate::walk::{Visitor, Walk};
 use openapi_node::{Node, Steps};
 use std::alloc::{AllocError, Global};
 
-/// Visits all that is asked in a value, and returns the visitor.
+/// Visits all that is required in a value, and returns the visitor.
 ///
 /// # Errors
 ///
-/// `AllocError` when memory runs out.
+/// Returns [`AllocError`] if an allocation fails.
 pub(crate) fn visited<V: Visitor + Drop>(
     alloc: Global,
     visitor: V,

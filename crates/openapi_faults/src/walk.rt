@@ -1,4 +1,4 @@
-//! A walk over all that is asked in a JSON value.
+//! A walk over all that is required in a JSON value.
 ghost use Rattle.std.specs.Prelude.{◌≡◌, ◌+◌, ◌*◌, ◌≤◌, [], ◌∷◌, None, Some, OnOk, map};
 ghost use Rattle.openapi_node.specs.Place.{named};
 ghost use Rattle.std.specs.Option.{option_copied};
@@ -23,19 +23,20 @@ use crate::tag::Tag;
 use openapi_node::{Members, Node, Steps, View, find_member};
 use std::alloc::AllocError;
 
-/// What a walk calls for each kind that is asked of a value.
+/// What a walk calls for each kind that is required of a value.
 pub trait Visitor {
     ghost use Rattle.openapi_tables.specs.Faults.{Asking};
 
-    // What comes of a visit: the visitor before, what is asked of which value at which location, the visitor after.
+    // The effect of a visit: the visitor before, which kind is required of which value at which location, and the
+    // visitor after.
     ghost Takes: { Self → Asking → Self → Type 0 };
 
-    /// Visits a value at a location, of which a kind is asked. Where a reference may replace the value and does, its
-    /// text is given.
+    /// Visits a value at a location, of which a kind is required. `reference` is the text of the reference that
+    /// replaces the value, if the kind allows one.
     ///
     /// # Errors
     ///
-    /// `AllocError` when memory runs out.
+    /// Returns [`AllocError`] if an allocation fails.
     fn visit(
         &mut self,
         place: &[Step<'_>],
@@ -87,7 +88,7 @@ impl<'a, V: Visitor> Walk<'a, V> {
         }
     }
 
-    /// Visits what is asked inside a value that is no reference.
+    /// Visits what is required inside a value that is no reference.
     #[cycle(walk)]
     fn inside(&mut self, kind: Kind, view: &View<'a>, steps: &mut Steps) -> Result<(), AllocError>
         requires { reference_text (kind_of kind) (shown view.now) ≡ None }
@@ -208,7 +209,7 @@ impl<'a, V: Visitor> Walk<'a, V> {
         Ok(())
     }
 
-    /// Visits what the rows of a table ask; where they are open, each member may be missing or `null`.
+    /// Visits what the rows of a table require. If they are open, each member may be missing or `null`.
     #[cycle(walk)]
     fn rows(
         &mut self,
@@ -228,7 +229,7 @@ impl<'a, V: Visitor> Walk<'a, V> {
         Ok(())
     }
 
-    /// Visits what a row asks.
+    /// Visits what a row requires.
     #[cycle(walk)]
     #[tactic(auto, using(crate::proofs::Rows::optional_asks, crate::proofs::Rows::member_asks, crate::proofs::Rows::member_weight, crate::proofs::Rows::class_asks, crate::proofs::Rows::class_weight, crate::proofs::Rows::either_asks, crate::proofs::Rows::either_none, crate::proofs::Rows::either_weight))]
     fn row(&mut self, row: Row, members: &'a Members, steps: &mut Steps) -> Result<(), AllocError>
@@ -301,7 +302,7 @@ impl<'a, V: Visitor> Walk<'a, V> {
         }
     }
 
-    /// Visits the tag of an object, and what the rows of the table ask that it stands for.
+    /// Visits the tag of an object, and what the rows of the table require that it selects.
     #[cycle(walk)]
     fn tagged(
         &mut self,
@@ -319,7 +320,7 @@ impl<'a, V: Visitor> Walk<'a, V> {
         }
     }
 
-    /// Visits the tag of an object, which it has, and what the rows of the table ask that it stands for.
+    /// Visits the tag of an object, which it has, and what the rows of the table require that it selects.
     #[cycle(walk)]
     fn by_tag(
         &mut self,

@@ -97,7 +97,7 @@ pub(crate) fn fields_of(kind: Kind, members: &Members, steps: &mut Steps) -> Fie
     }
 }
 
-/// Returns the kind that is asked where no reference replaces the value.
+/// Returns the kind that is required if no reference replaces the value.
 pub(crate) fn without_reference(kind: Kind) -> Kind {
     match kind {
         Kind::ObjectOrRef(table) => Kind::Object(table),
@@ -137,7 +137,7 @@ fn scheme_table(name: &str) -> Option<TableName> {
     }
 }
 
-/// Returns the kind that the first of some rows asks that takes the member of a name.
+/// Returns the kind that the first of some rows requires that takes the member of a name.
 fn kind_among(rows: &[Row], name: &str) -> Option<Kind> {
     for row in rows {
         if let Some(kind) = kind_by(*row, name) {
@@ -147,7 +147,7 @@ fn kind_among(rows: &[Row], name: &str) -> Option<Kind> {
     None
 }
 
-/// Returns the kind that a row asks of the member of a name, if the row takes it.
+/// Returns the kind that a row requires of the member of a name, if the row takes it.
 fn kind_by(row: Row, name: &str) -> Option<Kind> {
     match row {
         Row::Required(own, kind)

@@ -54,7 +54,7 @@ impl fmt::Display for NumberText<'_> {
     }
 }
 
-/// What may be in the place of a value of a kind. It prints as nothing where no words or limits say it.
+/// What may be in the place of a value of a kind. It prints nothing if no words or limits describe the kind.
 #[derive(Clone, Copy)]
 pub(crate) struct Allowed(pub Kind);
 

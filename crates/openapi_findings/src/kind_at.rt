@@ -1,4 +1,4 @@
-//! Which kind a document asks of the value at a location.
+//! The kind that a document requires of the value at a location.
 use crate::fields::{fields_of, without_reference};
 use openapi_faults::{Kind, TableName};
 use openapi_node::{Members, Node, PlaceStep, Steps, View, find_member};
@@ -6,14 +6,14 @@ use openapi_node::{Members, Node, PlaceStep, Steps, View, find_member};
 /// The kind of a whole document.
 pub(crate) const DOCUMENT: Kind = Kind::Object(TableName::OpenAPI);
 
-/// A value, and the kind that is asked of it.
+/// A value, and the kind that is required of it.
 #[derive(Clone, Copy)]
 pub(crate) struct Asked<'a> {
     pub kind: Kind,
     pub node: &'a Node,
 }
 
-/// Returns the value at a location of a document with the kind that is asked of it, if there is one.
+/// Returns the value at a location of a document with the kind that is required of it, if there is one.
 pub(crate) fn asked_at<'a>(
     document: &'a Node,
     place: &[PlaceStep],

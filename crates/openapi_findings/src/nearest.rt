@@ -9,7 +9,8 @@ use strsim::osa_distance;
 struct Search<'a> {
     unknown: &'a str,
     name: Option<&'static str>,
-    /// More edits than this lead to no name. It falls to one less than the edits that lead to the nearest name.
+    /// The greatest distance at which a name is taken. It falls to one less than the distance of the nearest name so
+    /// far.
     limit: usize,
 }
 
@@ -18,7 +19,7 @@ struct Search<'a> {
 ///
 /// # Errors
 ///
-/// `AllocError` when memory runs out.
+/// Returns [`AllocError`] if an allocation fails.
 pub(crate) fn nearest_name(
     alloc: Global,
     fields: &Fields,

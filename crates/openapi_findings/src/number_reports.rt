@@ -39,7 +39,7 @@ pub(crate) fn report_numbers(
     Ok(())
 }
 
-/// Returns the reports of numbers, by where numbers within limits are asked and by the errors.
+/// Returns the reports of numbers, by where numbers within limits are required and by the errors.
 fn reports_of(
     alloc: Global,
     numbers: &[ReplacedNumber],
@@ -64,7 +64,7 @@ fn reports_of(
     reports_by(alloc, numbers, limited, &limits, &wrong)
 }
 
-/// Returns the locations at which numbers within limits are asked.
+/// Returns the locations at which numbers within limits are required.
 fn limited_places<'a>(
     alloc: Global,
     limited: &'a [LimitedNumber],
@@ -129,7 +129,8 @@ fn report_at(
     report_by(alloc, number, limited, limit, error.is_some())
 }
 
-/// Returns the report of a number, by where a number within limits is asked at its location and by whether an error is there.
+/// Returns the report of a number, by where a number within limits is required at its location and by whether an error
+/// is there.
 fn report_by(
     alloc: Global,
     number: &ReplacedNumber,
@@ -151,7 +152,7 @@ fn report_by(
     Ok(Some(report))
 }
 
-/// Returns the report of a number where a whole number within limits is asked.
+/// Returns the report of a number where a whole number within limits is required.
 fn not_whole(
     alloc: Global,
     number: &ReplacedNumber,

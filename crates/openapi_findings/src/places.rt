@@ -1,4 +1,4 @@
-//! Locations that are looked for among many others.
+//! Searches of locations among many others.
 ghost use Rattle.std.specs.Prelude.{◌≡◌, ◌++◌, IfOk, OnOk, is_some, map, string_bytes};
 ghost use Rattle.openapi_node.specs.Fault.{step_of};
 ghost use Rattle.openapi_findings.specs.Numbers.{HasKeys, IsIndexed, is_among, key_text, places_in, step_key};
@@ -30,7 +30,7 @@ pub(crate) fn find_place(
     }
 }
 
-/// Returns the index of a location among others. It is looked for at one of them first.
+/// Returns the index of a location among others. The one at `hint` is compared first.
 fn find_from(places: &[&[PlaceStep]], hint: usize, place: &[PlaceStep]) -> Option<usize>
     ensures { is_some result ≡ is_among (map step_of place.now) (map (λ p. map step_of p.now) places.now) }
 {
@@ -43,7 +43,7 @@ fn find_from(places: &[&[PlaceStep]], hint: usize, place: &[PlaceStep]) -> Optio
     find_among(places, place)
 }
 
-/// Returns the index of a location among others, by a look at each.
+/// Returns the index of a location among others, by comparing it with each.
 fn find_among(places: &[&[PlaceStep]], place: &[PlaceStep]) -> Option<usize>
     ensures { is_some result ≡ is_among (map step_of place.now) (map (λ p. map step_of p.now) places.now) }
 {

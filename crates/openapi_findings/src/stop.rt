@@ -38,7 +38,7 @@ pub(crate) struct Stopped {
 ///
 /// # Errors
 ///
-/// `AllocError` when memory runs out.
+/// Returns [`AllocError`] if an allocation fails.
 pub(crate) fn stop_of(alloc: Global, text: &str) -> Result<Option<Stopped>, AllocError> {
     let mut scratch = Scratch::new(alloc);
     let mut reader = Reader::new(text, &mut scratch)?;

@@ -28,7 +28,7 @@ struct SyntaxError {
 ///
 /// # Errors
 ///
-/// `AllocError` when memory runs out.
+/// Returns [`AllocError`] if an allocation fails.
 pub(crate) fn syntax_finding(alloc: Global, bytes: &[u8]) -> Result<Finding, AllocError>
     ensures { IfOk result (λ f. finds f ≡ (None, Code.NotJson)) }
 {

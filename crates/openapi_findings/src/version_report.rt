@@ -12,7 +12,7 @@ use crate::report::Report;
 use openapi_node::{Node, PlaceStep, Steps, View};
 use std::alloc::{AllocError, Global};
 
-/// A member that says a version which is not supported.
+/// A member with a version that is not supported.
 #[derive(Clone, Copy)]
 struct OtherVersion<'a> {
     name: &'static str,
@@ -45,7 +45,7 @@ pub(crate) fn report_version(
     Ok(())
 }
 
-/// Returns the member that says a version which is not supported: `openapi` where it does not begin with `3.0.`, or `swagger`.
+/// Returns the member with a version that is not supported: `openapi` if it does not begin with `3.0.`, or `swagger`.
 fn other_version<'a>(document: &'a Node, steps: &mut Steps) -> Option<OtherVersion<'a>>
     ensures { MatchOption result (version_in document.now ≡ []) (λ o. version_in document.now ≡ version_at o.name.now) }
 {

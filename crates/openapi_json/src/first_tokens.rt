@@ -35,7 +35,7 @@ struct Numbered<'v, 'a> {
 ///
 /// # Errors
 ///
-/// Returns [`AllocError`] if memory runs out.
+/// Returns [`AllocError`] if an allocation fails.
 #[cycle(tokens)]
 pub(crate) fn first_tokens(
     alloc: Global,

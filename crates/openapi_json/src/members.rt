@@ -25,7 +25,7 @@ pub(crate) enum Members {
     Few(Vec<(String, Node)>),
     /// Many members, of which some name did not come in order.
     ByName(BTreeMap<String, Node>),
-    /// Many members, and each name since the first few was above all before it. They stand in order as they are.
+    /// Many members, and each name since the first few was above all before it. They are in order already.
     InOrder(OrderedMap<Node>),
 }
 
@@ -96,7 +96,7 @@ fn goes_last(members: &OrderedMap<Node>, name: &str) -> bool
     }
 }
 
-/// Members that stand in the order of their names, in a map by those names.
+/// Returns members that are in the order of their names, in a map by those names.
 fn by_name(alloc: Global, members: OrderedMap<Node>) -> Result<BTreeMap<String, Node>, AllocError>
     requires { Ascends members }
     ensures { IfOk result (λ m. map owned_entry m.entries ≡ members) }
@@ -120,7 +120,8 @@ fn in_order(alloc: Global, members: BTreeMap<String, Node>) -> Result<OrderedMap
     Ok(out)
 }
 
-/// Where members that stand in the order of their names have a name, or as an `Err` where it would go.
+/// Returns the index of a name among members that are in the order of their names, or as an `Err` the index at which it
+/// would be inserted.
 fn place_among(members: &Vec<(String, Node)>, name: &str) -> Result<usize, usize>
     requires { Ascends (map owned_entry members.now.items) }
     ensures found { IfOk result (λ i. (i < vec_len members.now) × ((t : Tree) →
@@ -142,7 +143,7 @@ fn place_among(members: &Vec<(String, Node)>, name: &str) -> Result<usize, usize
     Err(0)
 }
 
-/// Puts a member among few that stand in the order of their names, in place of one of its name.
+/// Inserts a member among few that are in the order of their names. It replaces the member of its name.
 fn put_among(members: &mut Vec<(String, Node)>, name: String, node: Node) -> Result<(), AllocError>
     requires { Ascends (map owned_entry members.old.items) }
     ensures entries { OnOk result (map owned_entry members.new.items
@@ -156,7 +157,7 @@ fn put_among(members: &mut Vec<(String, Node)>, name: String, node: Node) -> Res
     Ok(())
 }
 
-/// Few members that stand in the order of their names, in a map that keeps it.
+/// Returns few members that are in the order of their names, in a map that keeps it.
 fn few_in_order(alloc: Global, members: Vec<(String, Node)>) -> Result<OrderedMap<Node>, AllocError>
     requires { Ascends (map owned_entry members.items) }
     ensures { IfOk result (λ m. m ≡ map owned_entry members.items) }

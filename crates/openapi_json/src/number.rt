@@ -26,7 +26,7 @@ fn natural(numeral: &Numeral<'_>) -> Option<Whole>
     }
 }
 
-/// A number below 0, whose digits stand behind a minus.
+/// Returns a number below 0, whose digits follow a minus.
 fn below_zero(numeral: &Numeral<'_>) -> Option<Whole>
     ensures some { IfSome result (λ w. number_from true numeral.now ≡ Some (of_integer w)) }
     ensures none { result ≡ None → holds_whole (number_from true numeral.now) ≡ false }

@@ -1,4 +1,4 @@
-//! How many tokens of a JSON value stand before the one at a place in it.
+//! How many tokens of a JSON value come before the one at a place in it.
 ghost use Rattle.std.specs.Prelude.{◌≡◌, ◌<◌, ◌+◌, ◌^◌, length, map, None, IfSome};
 ghost use Rattle.json.specs.Find.{get_member};
 ghost use Rattle.json.specs.Json.{array, object};
@@ -16,7 +16,7 @@ use openapi_node::PlaceStep;
 struct Inside<'v, 'a> {
     /// The value.
     value: &'v Value<'a>,
-    /// How many tokens of the other one stand before it.
+    /// How many tokens of the other one come before it.
     number: usize,
 }
 

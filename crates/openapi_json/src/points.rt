@@ -10,7 +10,7 @@ use std::alloc::{AllocError, Global};
 ///
 /// # Errors
 ///
-/// Returns [`AllocError`] if memory runs out.
+/// Returns [`AllocError`] if an allocation fails.
 pub(crate) fn token_points(alloc: Global, text: &[u8]) -> Result<Vec<Point>, AllocError>
     ensures { IfOk result (λ v. v.items ≡ points text.now) }
 {

@@ -3,7 +3,7 @@ ghost use Rattle.std.specs.Prelude.{◌≡◌, slice_get};
 ghost use Rattle.json.specs.Lex.{class};
 ghost use Rattle.openapi_json.specs.Scanned.{begins, mode_of, next_mode, starts};
 
-/// What stands around a byte of JSON text.
+/// What surrounds a byte of JSON text.
 #[derive(Clone, Copy, Drop)]
 pub(crate) enum Mode {
     /// No token, or the end of one.

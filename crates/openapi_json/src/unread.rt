@@ -4,9 +4,9 @@ use std::alloc::{AllocError, AllocFailed};
 /// Why one pass over the tokens gave no node.
 #[derive(Clone, Copy, Drop)]
 pub(crate) enum Unread {
-    /// Memory ran out.
+    /// An allocation failed.
     Memory,
-    /// Something else, which the pass does not look into.
+    /// Something else, which the pass does not distinguish.
     Other,
 }
 

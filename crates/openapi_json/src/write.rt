@@ -25,7 +25,7 @@ use std::cmp::Ordering;
 pub(crate) enum Order {
     /// By their names.
     ByName,
-    /// In the order in which they stand.
+    /// In their order in the node.
     AsTheyStand,
 }
 
@@ -96,7 +96,7 @@ fn write_whole(value: Whole, out: &mut Writer) -> Result<(), AllocError>
     }
 }
 
-/// Whether each name is below the next one. (Members that were read stand so.)
+/// Returns whether each name is below the next one, as the names of members are that were read by name.
 fn are_in_order(members: &OrderedMap<Node>) -> bool
     ensures { IsTrue result → Ascends members.now }
 {
@@ -111,7 +111,7 @@ fn are_in_order(members: &OrderedMap<Node>) -> bool
     true
 }
 
-/// Whether members are in an order as they stand.
+/// Returns whether members are in an order already, without sorting.
 fn may_stand(members: &OrderedMap<Node>, order: Order) -> bool
     ensures yes { IsTrue result → arranged order (standing order members.now) ≡ standing order members.now }
     ensures no { IsFalse result → order ≡ Order.ByName }
@@ -213,7 +213,7 @@ fn write_members(
     out.end_object()
 }
 
-/// Writes the members of an object as they stand, and its end.
+/// Writes the members of an object in their own order, and its end.
 #[cycle(write)]
 fn write_standing(
     alloc: Global,

@@ -5,8 +5,8 @@ ghost use Rattle.openapi_map.specs.Entries.{insert_all, owned_entry};
 use crate::OrderedMap;
 use std::alloc::{AllocError, Global};
 
-// Each entry in turn is put as by `insert`: a name that is there keeps its place and takes the later value. An `Err` says
-// that there was no memory; the entries that came before are put then.
+// The entries are inserted one after another, as by `insert`: an existing name keeps its place and gets the later
+// value. An `Err` is an allocation failure; the entries before it are in the map then.
 impl<V: Drop> Extend<(String, V)> for OrderedMap<V> {
     ghost extend_gives = { λ m es n. n ≡ insert_all m (map owned_entry es) };
 

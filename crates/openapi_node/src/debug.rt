@@ -3,7 +3,7 @@ use crate::node::{Node, Shape};
 use std::fmt;
 use std::fmt::Write;
 
-// The shape and the content, in the words of `serde_json::Value`. The members of an object stand in their order.
+// The shape and the content, in the words of `serde_json::Value`. The members of an object keep their order.
 impl fmt::Debug for Node {
     fn fmt<W: fmt::Write>(&self, f: &mut fmt::Formatter<W>) -> fmt::Result {
         match &self.shape {

@@ -119,7 +119,7 @@ impl Node {
     pub fn list(items: Vec<Node>) -> Node
         ensures { result ≡ list (items_of items.items) }
     {
-        // it does nothing: each value tells the proof that its names differ
+        // No effect at run time: gives the proof that the names in each value differ.
         for item in &items {
             item.names_differ();
         }

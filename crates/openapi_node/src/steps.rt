@@ -4,12 +4,14 @@ ghost use Rattle.std.specs.Coded.{coded_ℕ};
 
 use std::marker::Model;
 
-// A number that stands in proofs alone. Code can't say which value a ghost field takes, so `zero` and `next` are the
-// two functions here that are proved by hand, on the logic's own level (`proofs/steps/Count`): each of them picks the
-// number that it ensures. A struct with a ghost field is made where its fields can be named, and `Count` and the field
-// of `Steps` are private: so no other crate makes a `Count` or puts one into a `Steps`. There a `Steps` comes from
-// `Steps::new` alone, and its number changes by `Node::open` alone. Only another proof by hand (a file `Proof.antt`)
-// could say otherwise, and there are these two.
+// A number that only proofs use. Code can't state which value a ghost field has. So `zero` and `next` are the two
+// functions here that are proved by hand, on the logic's own level (`proofs/steps/Count`): each of them picks the
+// number that it ensures.
+//
+// A struct with a ghost field is made where its fields can be named, and `Count` and the field of `Steps` are private.
+// So no other crate makes a `Count` or puts one into a `Steps`. There a `Steps` comes only from `Steps::new`, and only
+// `Node::open` changes its number. Only another proof by hand (a file `Proof.antt`) could prove something else, and
+// there are only these two.
 #[derive(Drop)]
 struct Count {
     ghost number: { ℕ } by { coded_ℕ },

@@ -49,7 +49,7 @@ fn write_whole(whole: Whole) -> Value
     }
 }
 
-/// The map of all pairs at once.
+/// Returns the map of all pairs.
 fn map_of(alloc: Global, pairs: Vec<(String, Value)>) -> Result<Map<String, Value>, AllocError>
     ensures { IfOk result (λ m. members_view m.entries ≡ put_all no_members (map pair_view pairs.items)) }
 {

@@ -14,7 +14,7 @@ use std::alloc::{AllocError, Global};
 ///
 /// # Errors
 ///
-/// Returns [`AllocError`] if memory runs out.
+/// Returns [`AllocError`] if an allocation fails.
 #[cycle(compare)]
 pub(crate) fn is_without(
     alloc: Global,

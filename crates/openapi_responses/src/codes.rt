@@ -39,7 +39,7 @@ fn put_at<V: Drop>(
 }
 
 /// Reads the members whose names are status codes, in order. Of two values of one code both are read, and the later one
-/// stands in the place of the earlier.
+/// replaces the earlier one in its place.
 pub(crate) fn coded_entries<R: HasSlots, T: FromNode + Drop>(
     alloc: Global,
     members: &Members,

@@ -1,16 +1,17 @@
 //! Laws of reading and writing by tables: each function does nothing, and its contract is the law.
 //!
-//! A *kind* says what a value may be; a *table* has a row for each member of an object. A tree *conforms* to a
-//! kind, and a *form* is read of it; a form is *printed* as a tree. A tree is *cleaned* by reading and printing it.
-//! The laws that speak of a list of tables hold of every list that is well made, and of every kind that is well
-//! made over it.
+//! A *kind* defines what a value may be. A *table* has a row for each member of an object. A node *conforms* to a kind,
+//! and a *form* is read from it; a form is *printed* as a node. A node is *cleaned* by reading and printing it. The
+//! laws about a list of tables hold for every list that is well made, and for every kind that is well made over it.
 ghost use Rattle.openapi_tables.specs.Laws.{WellMade, Codes, FirstValue, References, Ignored, Order, Faults};
 ghost use Rattle.openapi_tables.specs.Laws.{ReadsItsWriting, Settles, Canonical, CallbacksKept, XmlKept};
 ghost use Rattle.openapi_tables.specs.Laws.{DistinctNames, OrderKept, Writable};
 
-/// The final tables, and the two earlier lists of tables, are well made: in each table no name is taken by two
-/// rows, each row's mode fits its kind, a default style is one of its styles, nothing under a reference may be
-/// written as a reference that it was not, and no table has two rows that are written where nothing was read.
+/// States that the final tables and the two earlier lists of tables are well made.
+///
+/// In each table no name is taken by two rows, the mode of each row fits its kind, and a default style is one of its
+/// styles. A value that is no reference is not written as one, where a reference is allowed. No table has two rows that
+/// are written if nothing was read for them.
 pub fn well_made()
     ensures { WellMade }
 {}
@@ -21,22 +22,26 @@ pub fn codes()
     ensures { Codes }
 {}
 
-/// Where a reference may stand, an object with a text under `$ref` conforms, and is a reference with that text,
-/// whatever else it holds.
+/// States that an object with a text at `$ref` is a reference with that text and conforms, whatever else it holds, if a
+/// reference is allowed.
 pub fn references()
     ensures { References }
 {}
 
-/// A member that no row takes, and that has no say in which rows an object is read by, may be added or taken away:
-/// the object conforms if it did, and the same is read of it. The tag of an object has such a say, and of a schema
-/// each of the names by which the sorts of schemas are told apart. The law also speaks of objects in whose place a
-/// reference may stand; there `$ref` has a say, too.
+/// States that a member without effect may be added or removed: the object conforms if it did, and the same is read
+/// from it.
+///
+/// Such a member is taken by no row, and has no influence on the rows by which an object is read. The tag of an object
+/// has such an influence, and in a schema each of the names by which the sorts of schemas are distinguished. The law
+/// also covers objects that a reference may replace: there `$ref` has an influence, too.
 pub fn ignored()
     ensures { Ignored }
 {}
 
-/// Two members side by side that no row takes both may change places: the object conforms if it did, and the same is
-/// read of it, also where a reference may stand in its place. So the order of members counts only among extensions,
+/// States that two neighbors among the members may be swapped if no row takes both: the object conforms if it did, and
+/// the same is read from it.
+///
+/// The law also covers objects that a reference may replace. So the order of members counts only among extensions,
 /// among paths, among status codes, and between two names of which the first decides.
 pub fn order()
     ensures { Order }
@@ -45,23 +50,24 @@ pub fn order()
 /// States that cleaning keeps order, step by step from a document to any value in it.
 ///
 /// A map and a list are cleaned value by value, in their order. An object that is no reference is cleaned as its kind
-/// without references. In an object the extensions, the paths and the names of a callback are those that it had, each
-/// cleaned, in their order; a member under a name is cleaned under that name, where its row writes it; and so is the
-/// one of two names that decides. Status codes are left out: of a code that comes again the later value takes the
-/// earlier place.
+/// without references. In an object the extensions, the paths and the names of a callback keep their names and their
+/// order, and each value is cleaned. A member of a name is cleaned at that name if its row writes it, and so is the one
+/// of two names that decides. Status codes are left out: the later value of a repeated code takes the place of the
+/// earlier one.
 pub fn order_kept()
     ensures { OrderKept }
 {}
 
-/// Where something that is asked of a value inside a tree is broken there, the tree does not conform; and where a
-/// tree does not conform, something that is asked is broken at some place.
+/// States that a node conforms if and only if no requirement is broken, at any location in it.
 pub fn faults()
     ensures { Faults }
 {}
 
-/// A value that can be written is printed as a tree that conforms, of which a value that can be written is read; of
-/// every tree that conforms a value is read that can be written; and a tree is cleaned to one of at most twice as
-/// many values.
+/// States that reading and printing fit together.
+///
+/// A value that can be written is printed as a node that conforms, and the value read from that node can be written.
+/// Every value that is read from a node that conforms can be written. A node that conforms is cleaned to one of at most
+/// twice as many values.
 pub fn reads_its_writing()
     ensures { ReadsItsWriting }
 {}
@@ -71,39 +77,45 @@ pub fn settles()
     ensures { Settles }
 {}
 
-/// What was read of a tree is what is read of its print exactly where no schema that is held as one of any members
-/// is printed as one of a type or of one of `oneOf`, `allOf`, `anyOf` and `not`.
+/// States when the value read from a node is also read from its print. It is if and only if no schema held as
+/// `AnySchema` is printed as one of a type or of `oneOf`, `allOf`, `anyOf` or `not`.
 pub fn first_value()
     ensures { FirstValue }
 {}
 
-/// A tree that was cleaned twice is not changed by cleaning it once more; and two trees are the same cleaned twice
-/// exactly where, of the two cleaned once, the same is read.
+/// States that cleaning a node that conforms a third time changes nothing.
+///
+/// Two nodes that conform are the same after cleaning twice if and only if the same value is read from both after
+/// cleaning once.
 pub fn canonical()
     ensures { Canonical }
 {}
 
-/// A form can be printed, so that it is read as one of its kind again, exactly where it is one of a value of its
-/// kind and no name or code in it is one that a reader would drop: extensions begin with `x-`, paths with `/`,
-/// names of a callback do not begin with `x-`, and codes are 100 to 999 or a range of one digit.
+/// States which forms can be printed, so that they are read as one of their kind again.
+///
+/// Such a form is one of a value of its kind, and no name or code in it is one that a reader would drop. Extensions
+/// begin with `x-`, paths with `/`, and names of a callback do not begin with `x-`. Codes are 100 to 999 or a range of
+/// one digit.
 pub fn writable()
     ensures { Writable }
 {}
 
-/// Of a tree whose objects hold no name twice, a form is read whose maps hold no name and no code twice; and such a
-/// form is printed as such a tree.
+/// States that names stay distinct.
+///
+/// If no object of a node holds a name twice, no map of the form that is read holds a name or a code twice. Such a form
+/// that can be written is printed as such a node.
 pub fn distinct_names()
     ensures { DistinctNames }
 {}
 
-/// Every tree that conforms where a callback is a plain map of path items conforms where it may be a reference and
-/// may have extensions.
+/// States that a node conforms where a callback may be a reference and may have extensions, if it conforms where a
+/// callback is a plain map of path items.
 pub fn callbacks_kept()
     ensures { CallbacksKept }
 {}
 
-/// A tree conforms exactly where it conforms when schemas have no `xml`, and each value under an `xml` of a schema
-/// in it conforms to the XML Object.
+/// States when a node conforms with the `xml` of schemas: if and only if it conforms when schemas have no `xml`, and
+/// each value of an `xml` of a schema in it conforms to the XML Object.
 pub fn xml_kept()
     ensures { XmlKept }
 {}

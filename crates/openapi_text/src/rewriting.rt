@@ -141,7 +141,7 @@ pub fn read_object<T: FromNode + Drop>(
     }
 }
 
-/// A refusal of a tree, with want of memory apart.
+/// Returns the error of a fault. An allocation failure has a variant of its own.
 fn refusal(fault: Fault) -> RunFault
     ensures memory { fault.cause ≡ Cause.Memory → result ≡ RunFault.Memory }
     ensures other { fault.cause ≢ Cause.Memory → result ≡ RunFault.Refused fault }
@@ -152,7 +152,7 @@ fn refusal(fault: Fault) -> RunFault
     }
 }
 
-/// The tree that an object is written as.
+/// Returns the node that an object is written as.
 fn tree_of_object<T: ToNode>(alloc: Global, object: &T) -> Result<Node, RunFault>
     ensures ok { IfOk result (λ n. n ≡ print final_tables T.FromNode.kind (T.FromNode.form_of object.now)) }
     ensures err { IfErr result (λ e. e ≡ RunFault.Memory) }

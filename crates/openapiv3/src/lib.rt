@@ -49,7 +49,7 @@ pub use openapi_documents::{OpenAPI, Operations};
 // 4.7.2 Info Object: what the API is called, and in which version.
 pub use openapi_metadata::Info;
 
-// 4.7.3 Contact Object: whom to ask about the API.
+// 4.7.3 Contact Object: who is responsible for the API.
 pub use openapi_metadata::Contact;
 
 // 4.7.4 License Object: the license of the API.

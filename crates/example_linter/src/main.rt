@@ -1,8 +1,8 @@
-//! A linter: asks three things of each operation of an OpenAPI document, which OpenAPI does not ask.
+//! A linter: checks three rules for each operation of an OpenAPI document, which OpenAPI does not require.
 //!
-//! It has an `operationId` that no other operation has; it has a tag, and the document declares each of its tags; and it
-//! says what is answered when a request fails. The document is read from standard input. Each finding is a line: the place
-//! as a JSON Pointer, and what is missing there. The exit status is 0 where nothing was found, and 1 otherwise.
+//! It has an `operationId` that no other operation has. It has a tag, and the document declares each of its tags. It
+//! has a response for a request that fails. The document is read from standard input. Each finding is a line: the
+//! location as a JSON Pointer, and what is missing there. The exit status is 0 if nothing was found, and 1 otherwise.
 #![tactic(auto)]
 
 use anyhow::Result;
@@ -10,7 +10,8 @@ use openapiv3::{OpenAPI, Operation, OrderedMap, ReferenceToken, StatusCode, Step
 use std::io::Read;
 use std::process::ExitCode;
 
-/// Whether an operation has an identifier that none of those before it has. `places` holds where these stand.
+/// Returns whether an operation has an identifier that none of those before it has. `places` holds the locations of
+/// these.
 fn check_id(
     rt: &HostRuntime,
     place: &str,
@@ -53,7 +54,7 @@ fn check_tags(
     Ok(well)
 }
 
-/// Whether an operation says what is answered when a request fails.
+/// Returns whether an operation has a response for a request that fails.
 fn check_failures(rt: &HostRuntime, place: &str, operation: &Operation) -> Result<bool> {
     let responses = &operation.responses;
     let is_failure = |code: &StatusCode| match code {

@@ -1,6 +1,8 @@
-//! Prints all references of an OpenAPI document: a line each, with its location as a JSON Pointer and what it refers to.
+//! Prints all references of an OpenAPI document: a line each, with its location as a JSON Pointer and what it refers
+//! to.
 //!
-//! The document is read from standard input. Objects that only look like references, in examples or extensions, are none.
+//! The document is read from standard input. Objects in examples or extensions are no references, even if they have a
+//! `$ref`.
 #![tactic(auto)]
 
 use anyhow::Result;

@@ -1,8 +1,9 @@
 //! A router: prints which operation of an OpenAPI document a request is for.
 //!
 //! The document is read from standard input. Without arguments, each operation is a line: its method, its path and its
-//! `operationId` if it has one. With a method and a path as arguments, the output is the `operationId` of the operation that such a
-//! request is for, or its method and its path if it has none, and a line for each parameter of its path.
+//! `operationId` if it has one. With a method and a path as arguments, the output describes the operation that such a
+//! request is for. It is the `operationId` of the operation, or its method and its path if it has none, and a line for
+//! each parameter of its path.
 #![tactic(auto)]
 
 use anyhow::{Result, bail};

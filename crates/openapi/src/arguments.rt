@@ -153,7 +153,7 @@ fn normalize_command<'a>(alloc: Global) -> Result<Command<'a>, AllocError> {
     command.arg(files_argument(alloc))
 }
 
-/// Adds the arguments that say what is read, and how it is printed.
+/// Adds the arguments that define what is read, and how it is printed.
 fn layout_arguments<'a>(alloc: Global, command: Command<'a>) -> Result<Command<'a>, AllocError> {
     let objects: &'a [&'a str] = &["document", "schema", "tag"];
     command
@@ -186,7 +186,7 @@ fn layout_arguments<'a>(alloc: Global, command: Command<'a>) -> Result<Command<'
         )
 }
 
-/// Adds the arguments that say where the text goes.
+/// Adds the arguments that define where the text goes.
 fn target_arguments<'a>(alloc: Global, command: Command<'a>) -> Result<Command<'a>, AllocError> {
     command
         .arg(

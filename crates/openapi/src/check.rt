@@ -30,7 +30,7 @@ pub fn check_files(rt: &HostRuntime, options: CheckOptions, files: &[&str]) -> u
             break;
         }
     }
-    // If standard error is closed, the exit status still says how the run ended.
+    // If standard error is closed, the exit status still shows how the run ended.
     let _printed = eprintln!(rt; "{tally}");
     tally.status()
 }

@@ -55,7 +55,7 @@ fn run_command(rt: &HostRuntime, matches: &ArgMatches<'_>) -> u8 {
     }
 }
 
-/// Does what the words ask for, and returns the exit status.
+/// Runs the command that the words name, and returns the exit status.
 fn status_of(rt: &HostRuntime, words: &[String]) -> u8 {
     let Ok(line) = command_line(rt.alloc()) else {
         let _printed = eprintln!(rt; "error: out of memory");

@@ -10,7 +10,7 @@ use std::io;
 /// The name of standard output in what is printed.
 pub const OUTPUT_SHOWN: &str = "<stdout>";
 
-/// Prints that reading or writing failed. If standard error is closed, the exit status still says how the run ended.
+/// Prints that reading or writing failed. If standard error is closed, the exit status still shows how the run ended.
 pub fn report_failure(rt: &HostRuntime, name: &str, error: &io::Error) {
     let _printed = eprintln!(rt; "error: {name}: {error}");
 }

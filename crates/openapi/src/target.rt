@@ -14,7 +14,7 @@ pub enum Target<'a> {
     File(&'a str),
     /// To the file that was read.
     InPlace,
-    /// Nowhere: the status says whether the file would change.
+    /// Nowhere: the exit status shows whether the file would change.
     Check,
 }
 

@@ -38,7 +38,7 @@ pub fn answer(
     answer_tree(alloc, command, node, steps)
 }
 
-/// The text that answers the tree.
+/// Returns the text that answers a command on a node.
 fn answer_tree(
     alloc: Global,
     command: Command,
@@ -58,7 +58,7 @@ fn answer_tree(
     }
 }
 
-/// The line of what is made of the tree.
+/// Returns the line of what a node is rewritten to.
 fn line(
     alloc: Global,
     rewriting: Rewriting,
@@ -71,7 +71,7 @@ fn line(
 {
     let node = rewrite(alloc, rewriting, node, steps)?;
     let text = text_of(alloc, &node, Layout::ByName, steps);
-    // The program ends with this line, so nothing needs the room of the tree again.
+    // The program ends with this line, so dropping the node would only cost time.
     mem::forget(node);
     text
 }
@@ -92,7 +92,7 @@ fn lines_of_object<T: Lines + Drop>(
     lines
 }
 
-/// What is told in lines of text.
+/// What is printed as lines of text.
 trait Lines: FromNode {
     ghost use Rattle.std.specs.Prelude.{◌≡◌, ℕ, List, string_bytes, IfOk, IfErr};
     ghost use Rattle.openapi_tables.specs.Form.{Form};

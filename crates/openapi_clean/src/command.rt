@@ -4,7 +4,7 @@ ghost use Rattle.openapi_clean.specs.Commands.{usage_line, AreWordsOf};
 
 use std::str::FromStr;
 
-/// What the program is told to do, by its one argument.
+/// The command of the program, which is its one argument.
 #[derive(Clone, Copy, Debug, PartialEq, Eq)]
 pub enum Command {
     /// `tag`: reads a Tag Object (OpenAPI 3.0.3, section 4.7.22) and writes it cleaned.

@@ -21,7 +21,7 @@ fn beginnings_are_not_json(rt: HostRuntime) -> Result<(), Fail> {
     Ok(())
 }
 
-// What stands outside the one value, bytes that are no UTF-8, and halves of a surrogate pair.
+// Bytes outside the one value, bytes that are no UTF-8, and halves of a surrogate pair.
 #[test]
 fn other_bytes_are_not_json(rt: HostRuntime) -> Result<(), Fail> {
     let rows: [&[u8]; 6] = [

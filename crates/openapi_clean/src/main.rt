@@ -58,7 +58,7 @@ fn outcome_of(rt: &HostRuntime) -> Outcome {
     }
 }
 
-/// Says on standard error how a run ended, where it has something to say.
+/// Prints why a run failed to standard error. It prints nothing if the output was written.
 fn tell(rt: &HostRuntime, outcome: &Outcome) -> io::Result<()> {
     match outcome {
         Outcome::Written => Ok(()),
@@ -69,7 +69,7 @@ fn tell(rt: &HostRuntime, outcome: &Outcome) -> io::Result<()> {
 
 fn main(rt: HostRuntime) -> ExitCode {
     let outcome = outcome_of(&rt);
-    // Where standard error takes nothing, the exit status still tells how the run ended.
+    // If standard error is closed, the exit status still shows how the run ended.
     let _told = tell(&rt, &outcome);
     outcome.exit_code()
 }

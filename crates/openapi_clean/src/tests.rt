@@ -1,4 +1,4 @@
-//! The commands: what is written, and what is told, of worked inputs.
+//! The commands: what is written, and what is reported, for worked inputs.
 use crate::command::Command;
 use crate::run::run;
 use openapi_node::Steps;
@@ -32,7 +32,7 @@ pub(crate) fn ran_on(rt: &HostRuntime, command: Command, input: &[u8]) -> Result
 fn tags_are_cleaned(rt: HostRuntime) -> Result<(), Fail> {
     let rows: [(&[u8], &[u8]); 3] = [
         (TAG, CLEAN_TAG),
-        // Of a name that stands twice the last one counts, and members come in the order of their names.
+        // If a name is repeated, the last member counts. Members are in the order of their names.
         (
             b"{\"x-b\":1,\"name\":\"t\",\"name\":\"u\",\"x-a\":2}",
             b"{\"name\":\"u\",\"x-a\":2,\"x-b\":1}\n",
@@ -50,7 +50,7 @@ fn tags_are_cleaned(rt: HostRuntime) -> Result<(), Fail> {
     Ok(())
 }
 
-// What a run comes to, as one text: the exit status, what was written, and what is told of a failure.
+// Returns the result of a run as one text: the exit status, what was written, and the report of a failure.
 pub(crate) fn report_of(rt: &HostRuntime, command: Command, input: &[u8]) -> Result<String, Fail> {
     let alloc = rt.alloc();
     let mut reader = input;
@@ -72,7 +72,7 @@ fn inputs_are_refused(rt: HostRuntime) -> Result<(), Fail> {
     let rows: [(&[u8], &str); 6] = [
         (b"{\"description\":\"d\"}", "1: missing field `name` at #"),
         (b"[]", "1: invalid type, expected object at #"),
-        // The whole value becomes a tree first, and a tree holds whole numbers alone.
+        // The whole text is read as a node first, and a node holds only whole numbers.
         (
             b"{\"name\":\"t\",\"x-a~/b\":[0.5]}",
             "1: number not whole at #/x-a~0~1b/0",
@@ -108,7 +108,7 @@ fn schemas_are_cleaned(rt: HostRuntime) -> Result<(), Fail> {
     Ok(())
 }
 
-// Members come in the order of their names, since JSON is read as `serde_json` reads it; so `content` stands before
+// Members come in the order of their names, since JSON is read as `serde_json` reads it. So `content` is before
 // `schema`, and decides.
 #[test]
 fn documents_are_cleaned(rt: HostRuntime) -> Result<(), Fail> {

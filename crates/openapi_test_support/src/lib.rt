@@ -1,5 +1,5 @@
-//! What tests and cases share: trees from JSON text, with their members in order. Beside it stand tests of maps, nodes,
-//! values and masks of schemas: printed texts, worked examples, and each call once with ample memory.
+//! What tests and cases share: nodes from JSON text, with their members in order. It also has tests of maps, nodes,
+//! values and masks of schemas: printed texts, worked examples, and each call once without allocation failures.
 #![tactic(auto)]
 
 #[cfg(test)]

@@ -1,4 +1,4 @@
-//! Looks at nodes, and what their views show.
+//! Accesses of nodes, and what their views show.
 use crate::nodes::{object, read};
 use openapi_node::{Node, Steps, View, find_member};
 use std::alloc::Global;
@@ -40,7 +40,7 @@ fn looks_at_a_list(rt: HostRuntime) -> Result<(), Fail> {
     Ok(())
 }
 
-/// The words of the kinds of value that a view says it shows, with what is shown.
+/// Returns the words of the kinds of value that a view claims to show, with what is shown.
 fn shown_as(alloc: Global, view: &View<'_>) -> Result<String, Fail> {
     let mut text = String::new(alloc);
     if view.is_null() {

@@ -16,7 +16,7 @@ fn numbered(alloc: Global, count: usize) -> Result<OrderedMap<usize>, AllocError
     Ok(numbers)
 }
 
-/// A map of the names to the values, in the order in which they stand.
+/// Returns a map of the names to the values, in this order.
 fn map_of(alloc: Global, entries: &[(&str, u8)]) -> Result<OrderedMap<u8>, AllocError> {
     let mut map = OrderedMap::with_capacity(alloc, entries.len())?;
     for (name, value) in entries {
@@ -25,7 +25,7 @@ fn map_of(alloc: Global, entries: &[(&str, u8)]) -> Result<OrderedMap<u8>, Alloc
     Ok(map)
 }
 
-/// Owned names with the values, in the order in which they stand.
+/// Returns owned names with the values, in this order.
 fn pairs_of(alloc: Global, entries: &[(&str, u8)]) -> Result<Vec<(String, u8)>, AllocError> {
     let mut pairs = Vec::with_capacity(alloc, entries.len())?;
     for (name, value) in entries {

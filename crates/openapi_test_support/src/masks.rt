@@ -1,9 +1,9 @@
-//! Masks of the names that tell the kinds of schemas apart, and the sorts of schemas by them.
+//! Masks of the names by which the kinds of schemas are distinguished, and the sorts of schemas by them.
 use openapi_schema_types::{Mask, NAMES, Sort};
 use std::test::Fail;
 
-/// The names that tell the kinds of schemas apart, the one with the lowest bit first. They are the fields of `AnySchema`, in
-/// the order in which the Rust crate writes them.
+/// The names by which the kinds of schemas are distinguished, the one with the lowest bit first. They are the fields of
+/// `AnySchema`, in the order in which the Rust crate writes them.
 const KIND_NAMES: [&str; NAMES] = [
     "type",
     "pattern",
@@ -52,7 +52,7 @@ fn check_mask(typ: Option<&str>, present: &[&str], bits: u32, sort: Sort) -> Res
     Ok(())
 }
 
-// Null says as much as no member, so that `{"oneOf":[],"not":null}` has the name `oneOf` alone.
+// Null counts as a missing member, so `{"oneOf":[],"not":null}` only has the name `oneOf`.
 #[test]
 fn sorts_are_found_by_masks() -> Result<(), Fail> {
     check_mask(

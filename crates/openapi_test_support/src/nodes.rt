@@ -14,7 +14,7 @@ use std::hash::{DefaultHasher, Hash, Hasher};
 use std::process::Abort;
 use std::test::Fail;
 
-/// The node of a JSON text. Its contract shows how a caller proves that no name stands twice in it.
+/// Returns the node of a JSON text. Its contract shows how a caller proves that no object in it has a name twice.
 pub(crate) fn read(alloc: Global, text: &str) -> Result<Node, Fail>
     ensures { IfOk result (λ node. well_named node ≡ true) }
 {
@@ -41,7 +41,7 @@ fn debug(alloc: Global, node: &Node) -> Result<String, AllocError> {
     format!(in alloc; "{node:?}")
 }
 
-/// An object of whole numbers, in the order in which they stand.
+/// Returns an object of whole numbers, in this order.
 pub(crate) fn object(alloc: Global, numbers: &[(&str, u64)]) -> Result<Node, AllocError> {
     let mut members = OrderedMap::new(alloc);
     for (name, number) in numbers {

@@ -1,5 +1,5 @@
-//! JSON text that is read as nodes and written of them, where a case can't say it: bytes that are no text, nodes that are
-//! built, and what is printed.
+//! JSON text that is read as nodes and written from them, where a case can't express it: bytes that are no text, nodes
+//! that are built, and what is printed.
 use crate::nodes::object;
 use openapi_json::{
     JsonFault, json_from_node, json_from_node_in_order, node_from_json, node_from_json_in_order,

@@ -1,13 +1,13 @@
-//! Trees from JSON text, and trees as text, with their members in order.
+//! Nodes from JSON text, and nodes as text, with their members in order.
 
 use openapiv3::{Fault, Node, OrderedMap, ToNode, node_from_json_in_order};
 use std::test::Fail;
 
-/// The tree of a JSON text, whose members stand in the order of the text.
+/// Returns the node of a JSON text, whose members are in the order of the text.
 ///
 /// # Errors
 ///
-/// `Fail` when memory runs out, or when the text is no JSON whose numbers are whole.
+/// Returns [`Fail`] if an allocation fails, or if the text is no JSON whose numbers are whole.
 pub fn tree(rt: &HostRuntime, text: &str) -> Result<Node, Fail> {
     Ok(node_from_json_in_order(rt.alloc(), text.as_bytes())?)
 }
@@ -16,7 +16,7 @@ pub fn tree(rt: &HostRuntime, text: &str) -> Result<Node, Fail> {
 ///
 /// # Errors
 ///
-/// `Fail` when memory runs out.
+/// Returns [`Fail`] if an allocation fails.
 pub fn map_with<V: Drop>(rt: &HostRuntime, name: &str, value: V) -> Result<OrderedMap<V>, Fail> {
     let name = name.to_string(rt.alloc())?;
     let mut map = OrderedMap::new(rt.alloc());
@@ -24,7 +24,7 @@ pub fn map_with<V: Drop>(rt: &HostRuntime, name: &str, value: V) -> Result<Order
     Ok(map)
 }
 
-/// A tree as text, with the members of each object as they stand. Equality of nodes does not see their order.
+/// Returns a node as text, with the members of each object in their order. Equality of nodes does not depend on it.
 fn shown(rt: &HostRuntime, node: &Node) -> Result<String, Fail> {
     Ok(format!(in rt.alloc(); "{node:?}")?)
 }
@@ -33,7 +33,7 @@ fn shown(rt: &HostRuntime, node: &Node) -> Result<String, Fail> {
 ///
 /// # Errors
 ///
-/// `Fail` when memory runs out.
+/// Returns [`Fail`] if an allocation fails.
 pub fn fault_text(rt: &HostRuntime, fault: &Fault) -> Result<String, Fail> {
     Ok(format!(in rt.alloc(); "{fault}")?)
 }
@@ -42,7 +42,7 @@ pub fn fault_text(rt: &HostRuntime, fault: &Fault) -> Result<String, Fail> {
 ///
 /// # Errors
 ///
-/// `Fail` when memory runs out.
+/// Returns [`Fail`] if an allocation fails.
 pub fn write_refusal<T: ToNode>(rt: &HostRuntime, value: &T) -> Result<String, Fail> {
     match value.to_node(rt.alloc()) {
         Ok(_) => Ok(String::from_str(rt.alloc(), "written")?),
@@ -54,7 +54,7 @@ pub fn write_refusal<T: ToNode>(rt: &HostRuntime, value: &T) -> Result<String, F
 ///
 /// # Errors
 ///
-/// `Fail` when the texts differ, or when memory runs out.
+/// Returns [`Fail`] if the texts differ, or if an allocation fails.
 pub fn check_same(rt: &HostRuntime, found: &str, wanted: &str) -> Result<(), Fail> {
     if found != wanted {
         Err::<(), String>(format!(in rt.alloc(); "{found} in place of {wanted}")?)?;
@@ -62,21 +62,21 @@ pub fn check_same(rt: &HostRuntime, found: &str, wanted: &str) -> Result<(), Fai
     Ok(())
 }
 
-/// That a tree is the one of a JSON text, member order included.
+/// Checks that a node is the one of a JSON text, member order included.
 ///
 /// # Errors
 ///
-/// `Fail` when the values differ, or when memory runs out.
+/// Returns [`Fail`] if the values differ, or if an allocation fails.
 pub fn check_tree(rt: &HostRuntime, found: &Node, text: &str) -> Result<(), Fail> {
     let wanted = shown(rt, &tree(rt, text)?)?;
     check_same(rt, shown(rt, found)?.as_str(), wanted.as_str())
 }
 
-/// That what was written is the tree of a JSON text, member order included, or was refused with a text.
+/// Checks that the node of a JSON text was written, member order included, or that the fault has a text.
 ///
 /// # Errors
 ///
-/// `Fail` when what was written differs, or when memory runs out.
+/// Returns [`Fail`] if what was written differs, or if an allocation fails.
 pub fn check_written(
     rt: &HostRuntime,
     written: Result<Node, Fault>,

@@ -48,7 +48,7 @@ fn debug_text<T: fmt::Debug>(alloc: Global, value: &T) -> Result<String, AllocEr
     format!(in alloc; "{value:?}")
 }
 
-/// That the words of a set are these, and stand for these values.
+/// Checks that the words of a set are these, and that each is read as its value.
 fn reads_set<T>(rt: &impl Abort, words: &[&str], values: &[T])
 where
     T: Word + FromStr<Err = ()> + PartialEq + fmt::Debug,

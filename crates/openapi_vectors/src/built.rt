@@ -101,7 +101,7 @@ fn document_with(rt: &HostRuntime, name: &str) -> Result<OpenAPI, Fail> {
     Ok(document_of(rt.alloc(), components_of(rt.alloc(), schemas)))
 }
 
-// A fault of an inner object is told with the whole place.
+// A fault of an inner object has the location from the whole value.
 #[test]
 fn extensions_are_looked_at_deep_inside(rt: HostRuntime) -> Result<(), Fail> {
     let refused = Err("name not writable at #/properties/p/foo");
@@ -121,7 +121,7 @@ fn types_are_written_behind_their_type(rt: HostRuntime) -> Result<(), Fail> {
     check_built(&rt, Ok(object), Ok(r#"{"type":"object"}"#))
 }
 
-// A format of the set that stands as an unknown text is written as that text, and so is read as a known one.
+// A format of the set that is held as an unknown text is written as that text, and so is read as a known one.
 #[test]
 fn unknown_formats_that_are_known_are_read_as_known(rt: HostRuntime) -> Result<(), Fail> {
     let known = String::from_str(rt.alloc(), "date")?;

@@ -27,7 +27,7 @@ const SCHEMAS: [(&str, &str); 2] = [
     (r#"{"$ref":"r"}"#, r#"{"$ref":"s"}"#),
 ];
 
-// That a clone equals its source is asked by each case of `tests/cases`.
+// Each case of `tests/cases` checks that a clone equals its source.
 #[test]
 fn schemas_that_differ_are_not_equal(rt: HostRuntime) -> Result<(), Fail> {
     for (one, other) in SCHEMAS {
@@ -66,13 +66,13 @@ fn equality_ignores_the_order_of_extensions(rt: HostRuntime) -> Result<(), Fail>
     Ok(())
 }
 
-/// The tree of a JSON text whose members stand by their names.
+/// Returns the node of a JSON text, with members in the order of their names.
 fn sorted(rt: &HostRuntime, text: &str) -> Result<Node, Fail> {
     let value = Value::from_slice(rt.alloc(), text.as_bytes())?;
     Ok(Node::from_value(rt.alloc(), &value)?)
 }
 
-/// Whether what is read of a tree is this value.
+/// Returns whether this value is read from a node.
 fn is_read<T: FromNode + PartialEq + Drop>(
     rt: &HostRuntime,
     node: &Node,
@@ -98,15 +98,15 @@ fn equality_ignores_the_order_of_properties(rt: HostRuntime) -> Result<(), Fail>
     Ok(())
 }
 
-/// Checks that what is read of a tree is written as a JSON text, member order included.
+/// Checks that what is read from a node is written as a JSON text, member order included.
 fn check_order<T: ToNode + Drop>(rt: &HostRuntime, node: &Node, wanted: &str) -> Result<(), Fail> {
     let mut steps = Steps::new(rt);
     let value = T::from_node(rt.alloc(), node, &mut steps)?;
     check_written(rt, value.to_node(rt.alloc()), Ok(wanted))
 }
 
-// Equality does not see the order: properties keep that of the tree, which is the one of their names where the tree comes
-// of a `Value` or of text by name.
+// Equality does not depend on the order. Properties keep that of the node, which is by name if the node was read from a
+// `Value` or from text by name.
 #[test]
 fn properties_keep_the_order_of_the_tree(rt: HostRuntime) -> Result<(), Fail> {
     let text = r#"{"type":"object","properties":{"z":{},"a":{},"b":{}}}"#;

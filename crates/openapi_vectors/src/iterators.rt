@@ -152,7 +152,7 @@ fn names_of(alloc: Global, paths: Paths) -> Result<String, AllocError> {
     Ok(names)
 }
 
-/// The names that the iterators over the paths of a tree give.
+/// Returns the names that the iterators over the paths of a node return.
 fn names_in(alloc: Global, node: &Node, steps: &mut Steps) -> Result<String, Fail> {
     match Paths::from_node(alloc, node, steps) {
         Ok(paths) => Ok(names_of(alloc, paths)?),

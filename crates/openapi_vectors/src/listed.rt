@@ -4,7 +4,7 @@ use openapi_test_support::trees::{check_same, tree};
 use openapiv3::{FromNode, Node, OpenAPI, Steps};
 use std::test::Fail;
 
-/// What is told of its operations.
+/// A value whose operations are listed.
 trait Listed {
     /// Path, method and identifier of each operation.
     fn listed(&self, rt: &HostRuntime) -> Result<String, Fail>;
@@ -25,7 +25,7 @@ impl Listed for OpenAPI {
     }
 }
 
-/// What is told of the operations of what is read of a tree.
+/// Returns the list of the operations of what is read from a node.
 fn list<T: FromNode + Listed + Drop>(rt: &HostRuntime, given: &Node) -> Result<String, Fail> {
     let mut steps = Steps::new(rt);
     let value = T::from_node(rt.alloc(), given, &mut steps)?;

@@ -6,7 +6,7 @@ use openapiv3::{Fault, FromNode, Node, Parameter, ParameterSchemaOrContent, ToNo
 use std::alloc::Global;
 use std::test::Fail;
 
-/// The place of the parameter, its style, and what stands in a query alone.
+/// The location of the parameter, its style, and the fields that only a parameter of a query has.
 impl Tells for Parameter {
     fn told(&self, alloc: Global) -> Result<String, Fail> {
         let mut text = String::new(alloc);

@@ -11,13 +11,13 @@ pub(crate) fn read_value<T: FromNode>(rt: &HostRuntime, text: &str) -> Result<T,
     Ok(T::from_node(rt.alloc(), &tree(rt, text)?, &mut steps)?)
 }
 
-/// What tells of itself.
+/// A value that describes itself.
 pub(crate) trait Tells {
-    /// What it tells, as a text.
+    /// Returns the description as a text.
     fn told(&self, alloc: Global) -> Result<String, Fail>;
 }
 
-/// That what is read of each JSON text tells a text.
+/// Checks that what is read from each JSON text is described by a text.
 pub(crate) fn check_told<T: FromNode + Tells + Drop>(
     rt: &HostRuntime,
     rows: &[(&str, &str)],
@@ -85,7 +85,7 @@ impl Tells for Responses {
     }
 }
 
-// Later responses of a code stand in the place of the earlier ones; a name that is no code is not kept.
+// A later response of a code replaces the earlier one in its place. A name that is no code is not kept.
 #[test]
 fn responses_stand_at_their_codes(rt: HostRuntime) -> Result<(), Fail> {
     let rows = [
@@ -102,7 +102,7 @@ fn responses_stand_at_their_codes(rt: HostRuntime) -> Result<(), Fail> {
     check_told::<Responses>(&rt, &rows)
 }
 
-/// What its responses tell.
+/// An operation is described by its responses.
 impl Tells for Operation {
     fn told(&self, alloc: Global) -> Result<String, Fail> {
         self.responses.told(alloc)

@@ -17,7 +17,7 @@ fn kind_of<'a>(components: &'a Components, name: &str) -> Option<&'a SchemaKind>
     Some(&schema.schema_kind)
 }
 
-/// The type that stands second among the schemas of `allOf`, where it is an object.
+/// Returns the type that comes second among the schemas of `allOf`, if it is an object.
 fn second_type(kind: &SchemaKind) -> Option<&SchemaType> {
     let SchemaKind::AllOf { all_of } = kind else {
         return None;
@@ -87,7 +87,7 @@ fn check_pets(components: &Components) -> Result<(), Fail> {
 
 /// What can be checked by itself.
 trait Checked {
-    /// That it is what the test asks for.
+    /// Checks that the value is what the test expects.
     fn check(&self) -> Result<(), Fail>;
 }
 
@@ -104,7 +104,7 @@ impl Checked for OpenAPI {
     }
 }
 
-/// That what is read of a JSON text is what the test asks for.
+/// Checks that what is read from a JSON text is what the test expects.
 fn check_read<T: FromNode + Checked + Drop>(rt: &HostRuntime, given: &str) -> Result<(), Fail> {
     let value: T = read_value(rt, given)?;
     value.check()

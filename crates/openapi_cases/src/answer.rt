@@ -15,18 +15,18 @@ use openapi_test_support::trees::tree;
 use openapiv3::{Fault, Node, Settle, Steps, ToNode, json_from_node, node_from_json};
 use std::test::Fail;
 
-/// What is asked of a type.
+/// The question of a case about a type.
 #[derive(Clone, Copy)]
 pub enum Ask<'a> {
-    /// What a tree is cleaned to. A clone of what was read has to be equal to it, and what the tree settles to has to stay.
+    /// What a node is cleaned to. A clone of what was read has to equal it, and the settled node has to stay as it is.
     Clean(&'a Node),
-    /// What a tree settles to.
+    /// What a node settles to.
     Settle(&'a Node),
     /// Whether what is read of what was written is what was read at first.
     Again(&'a Node),
     /// Whether the type follows a table.
     Table(&'a [Row<'a>]),
-    /// What a tree is cleaned to, as JSON text with members in the order of their names.
+    /// What a node is cleaned to, as JSON text with members in the order of their names.
     Line(&'a Node),
 }
 
@@ -34,7 +34,7 @@ pub enum Ask<'a> {
 ///
 /// # Errors
 ///
-/// `Fail` when memory runs out.
+/// Returns [`Fail`] if an allocation fails.
 pub fn answer(rt: &HostRuntime, case: &Case<'_>) -> Result<String, Fail> {
     let (command, rest) = case.request.split_once(' ').unwrap_or((case.request, ""));
     match command {
@@ -56,7 +56,7 @@ pub fn answer(rt: &HostRuntime, case: &Case<'_>) -> Result<String, Fail> {
     }
 }
 
-/// The answer to a command that has a type and a tree.
+/// Returns the answer to a command that has a type and a node.
 fn typed(rt: &HostRuntime, command: &str, name: &str, node: &Node) -> Result<String, Fail> {
     match command {
         "clean" => clean(rt, name, node),
@@ -70,8 +70,8 @@ fn typed(rt: &HostRuntime, command: &str, name: &str, node: &Node) -> Result<Str
     }
 }
 
-/// What a tree is cleaned to by the type, and by functions of its own where it has any. The faults of the tree have to
-/// agree.
+/// Returns what a node is cleaned to by the type, and checks that functions of its own agree if it has any. The faults
+/// of the node have to agree, too.
 fn clean(rt: &HostRuntime, name: &str, node: &Node) -> Result<String, Fail> {
     let answer = of_type(rt, name, Ask::Clean(node))?;
     if !agree_with(rt, name, node, answer.as_str())? {
@@ -90,11 +90,11 @@ fn clean(rt: &HostRuntime, name: &str, node: &Node) -> Result<String, Fail> {
     }
 }
 
-/// The answer of a tree or a fault.
+/// Returns the answer for a node or a fault.
 ///
 /// # Errors
 ///
-/// `Fail` when memory runs out.
+/// Returns [`Fail`] if an allocation fails.
 pub fn told(rt: &HostRuntime, answer: Result<Node, Fault>) -> Result<String, Fail> {
     match answer {
         Ok(node) => Ok(format!(in rt.alloc(); "= {}\n", ordered_text(rt, &node)?.as_str())?),
@@ -115,7 +115,7 @@ fn told_if_known(rt: &HostRuntime, answer: Option<Result<Node, Fault>>) -> Resul
 ///
 /// # Errors
 ///
-/// `Fail` when memory runs out.
+/// Returns [`Fail`] if an allocation fails.
 pub fn answer_line(rt: &HostRuntime, line: &str) -> Result<String, Fail> {
     let Some((request, text)) = line.split_once('\t') else {
         return Ok(String::from_str(rt.alloc(), "! no tab\n")?);
@@ -137,7 +137,7 @@ pub fn answer_line(rt: &HostRuntime, line: &str) -> Result<String, Fail> {
 ///
 /// # Errors
 ///
-/// `Fail` when memory runs out.
+/// Returns [`Fail`] if an allocation fails.
 pub fn answer_as<T: ToNode + Clone + PartialEq + Drop>(
     rt: &HostRuntime,
     ask: Ask<'_>,
@@ -151,7 +151,7 @@ pub fn answer_as<T: ToNode + Clone + PartialEq + Drop>(
     }
 }
 
-/// What a tree is cleaned to, where a clone and the settled tree are as they have to be.
+/// Returns what a node is cleaned to, after checks of a clone and of the settled node.
 fn cleaned<T: ToNode + Clone + PartialEq + Drop>(
     rt: &HostRuntime,
     node: &Node,
@@ -176,7 +176,7 @@ fn is_its_clone<T: Clone + PartialEq + Drop>(value: &T) -> Result<bool, Fail> {
     Ok(value.clone()? == *value)
 }
 
-/// Whether what a tree settles to settles to itself.
+/// Returns whether what a node settles to settles to itself.
 fn stays_settled<T: ToNode + Drop>(rt: &HostRuntime, node: &Node) -> Result<bool, Fail> {
     let mut steps = Steps::new(rt);
     let once = T::settle(rt.alloc(), node, &mut steps)?;
@@ -184,7 +184,7 @@ fn stays_settled<T: ToNode + Drop>(rt: &HostRuntime, node: &Node) -> Result<bool
     Ok(ordered_text(rt, &once)?.as_str() == ordered_text(rt, &twice)?.as_str())
 }
 
-/// What a tree settles to.
+/// Returns what a node settles to.
 fn settled<T: ToNode + Drop>(rt: &HostRuntime, node: &Node) -> Result<String, Fail> {
     let mut steps = Steps::new(rt);
     told(rt, T::settle(rt.alloc(), node, &mut steps))
@@ -224,7 +224,7 @@ fn follows<T: ToNode + Clone + PartialEq + Drop>(
     Ok(String::new(rt.alloc()))
 }
 
-/// Whether two trees are read as the same value.
+/// Returns whether two nodes are read as the same value.
 fn are_same<T: ToNode + PartialEq + Drop>(
     rt: &HostRuntime,
     one: &Node,
@@ -236,7 +236,7 @@ fn are_same<T: ToNode + PartialEq + Drop>(
     Ok(one == other)
 }
 
-/// What a tree is cleaned to as JSON text, or `! ` and the fault that refuses it.
+/// Returns what a node is cleaned to as JSON text, or `! ` and the fault.
 fn line<T: ToNode + Drop>(rt: &HostRuntime, node: &Node) -> Result<String, Fail> {
     let mut steps = Steps::new(rt);
     let written = match T::from_node(rt.alloc(), node, &mut steps) {

@@ -1,4 +1,4 @@
-//! The calls for `tests/memory.sh`: which one the words name, and those that need no tree.
+//! The calls for `tests/memory.sh`: which one the words name, and those that need no node.
 
 use crate::marks::{Moment, mark};
 use crate::samples::Sample;
@@ -13,7 +13,7 @@ use std::test::Fail;
 ///
 /// # Errors
 ///
-/// `Fail` when memory runs out, or when the text of the sample is not read.
+/// Returns [`Fail`] if an allocation fails, or if the text of the sample is not read.
 pub fn alone(rt: &HostRuntime, call: &str) -> Result<Told, Fail> {
     match call {
         "ref_" => reference(rt.alloc()),
@@ -30,7 +30,7 @@ pub fn alone(rt: &HostRuntime, call: &str) -> Result<Told, Fail> {
 ///
 /// # Errors
 ///
-/// `Fail` when memory runs out, or when the text of the sample is not read.
+/// Returns [`Fail`] if an allocation fails, or if the text of the sample is not read.
 pub fn on_sample(rt: &HostRuntime, call: &str, sample: Sample) -> Result<Told, Fail> {
     match call {
         "from_value" => nodes::from_value(rt, sample.text()),
@@ -73,7 +73,7 @@ fn reference(alloc: Global) -> Result<Told, Fail> {
     Ok(told_by_growth(answer, &wanted))
 }
 
-/// Puts an item in a box. The item is the call's, and is let go of where there is no memory for the box.
+/// Puts an item in a box. The call owns the item, and drops it if the allocation of the box fails.
 fn boxed_item(alloc: Global, item: Node) -> Result<Told, Fail> {
     let wanted = ReferenceOr::Item(Box::new(alloc, item.clone()?)?);
     mark(alloc, Moment::CallBegins)?;
@@ -160,7 +160,7 @@ fn entered(map: &mut OrderedMap<usize>, name: String, value: usize) -> Result<us
     Ok(*there)
 }
 
-/// Extends a map of the first name by all names. Where memory runs out, the first ones are in the map.
+/// Extends a map of the first name by all names. If an allocation fails, the first ones are in the map.
 fn extend(alloc: Global) -> Result<Told, Fail> {
     let pairs = pairs(alloc)?;
     let mut map = map_of(alloc, 1)?;

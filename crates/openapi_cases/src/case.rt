@@ -1,4 +1,4 @@
-//! Files of cases: what is asked, and what has to come of it.
+//! Files of cases: requests, and what has to come of them.
 
 use crate::row::Row;
 use std::alloc::Global;
@@ -9,7 +9,7 @@ use std::test::Fail;
 pub struct Case<'a> {
     /// The number of its first line, from 1.
     pub line: usize,
-    /// What it asks for, which is its first line.
+    /// Its request, which is its first line.
     pub request: &'a str,
     /// The rows of a table, which are its lines that begin with two spaces.
     pub rows: Vec<Row<'a>>,
@@ -41,16 +41,16 @@ impl<'a> Case<'a> {
     }
 }
 
-/// Whether a line stands below a request.
+/// Returns whether a line belongs to the request above it.
 fn is_below(line: &str) -> bool {
     line.starts_with("  ") || line.starts_with("= ") || line.starts_with("! ")
 }
 
-/// The cases of a text, in their order. Empty lines and those that begin with `#` say nothing.
+/// Returns the cases of a text, in their order. Empty lines and those that begin with `#` are ignored.
 ///
 /// # Errors
 ///
-/// `Fail` when memory runs out, or when an answer is before the first case.
+/// Returns [`Fail`] if an allocation fails, or if an answer is before the first case.
 pub fn cases_of(alloc: Global, text: &str) -> Result<Vec<Case<'_>>, Fail> {
     let mut cases = Vec::new(alloc);
     for (place, line) in text.lines().enumerate() {

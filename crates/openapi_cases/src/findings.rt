@@ -13,7 +13,7 @@ use std::test::Fail;
 ///
 /// # Errors
 ///
-/// `Fail` when memory runs out.
+/// Returns [`Fail`] if an allocation fails.
 pub fn all_faults(rt: &HostRuntime, name: &str, node: &Node) -> Result<String, Fail> {
     let Some(kind) = kind_of(name) else {
         return no_such_type(rt);
@@ -30,7 +30,7 @@ pub fn all_faults(rt: &HostRuntime, name: &str, node: &Node) -> Result<String, F
 ///
 /// # Errors
 ///
-/// `Fail` when memory runs out.
+/// Returns [`Fail`] if an allocation fails.
 pub fn all_dropped(rt: &HostRuntime, name: &str, node: &Node) -> Result<String, Fail> {
     let Some(kind) = kind_of(name) else {
         return no_such_type(rt);
@@ -53,7 +53,7 @@ pub fn all_dropped(rt: &HostRuntime, name: &str, node: &Node) -> Result<String, 
 ///
 /// # Errors
 ///
-/// `Fail` when memory runs out.
+/// Returns [`Fail`] if an allocation fails.
 pub fn all_references(rt: &HostRuntime, name: &str, node: &Node) -> Result<String, Fail> {
     let Some(kind) = kind_of(name) else {
         return no_such_type(rt);
@@ -89,7 +89,7 @@ fn no_such_type(rt: &HostRuntime) -> Result<String, Fail> {
 ///
 /// # Errors
 ///
-/// `Fail` when memory runs out.
+/// Returns [`Fail`] if an allocation fails.
 pub fn agree_with(rt: &HostRuntime, name: &str, node: &Node, answer: &str) -> Result<bool, Fail> {
     if kind_of(name).is_none() {
         return Ok(true);
@@ -111,7 +111,7 @@ pub fn agree_with(rt: &HostRuntime, name: &str, node: &Node, answer: &str) -> Re
 ///
 /// # Errors
 ///
-/// `Fail` when memory runs out, or when the text of the sample is not read.
+/// Returns [`Fail`] if an allocation fails, or if the text of the sample is not read.
 pub fn faults_of(rt: &HostRuntime, sample: Sample) -> Result<Told, Fail> {
     let alloc = rt.alloc();
     let node = tree(rt, sample.text())?;
@@ -128,7 +128,7 @@ pub fn faults_of(rt: &HostRuntime, sample: Sample) -> Result<Told, Fail> {
 ///
 /// # Errors
 ///
-/// `Fail` when memory runs out, or when the text of the sample is not read.
+/// Returns [`Fail`] if an allocation fails, or if the text of the sample is not read.
 pub fn dropped_of(rt: &HostRuntime, sample: Sample) -> Result<Told, Fail> {
     let alloc = rt.alloc();
     let node = tree(rt, sample.text())?;
@@ -145,7 +145,7 @@ pub fn dropped_of(rt: &HostRuntime, sample: Sample) -> Result<Told, Fail> {
 ///
 /// # Errors
 ///
-/// `Fail` when memory runs out, or when the text of the sample is not read.
+/// Returns [`Fail`] if an allocation fails, or if the text of the sample is not read.
 pub fn references_of(rt: &HostRuntime, sample: Sample) -> Result<Told, Fail> {
     let alloc = rt.alloc();
     let node = tree(rt, sample.text())?;

@@ -153,7 +153,7 @@ impl ByFunctions for SecurityRequirement {
     }
 }
 
-/// What a tree is cleaned to by the two functions of a type.
+/// Returns what a node is cleaned to by the two functions of a type.
 fn cleaned<T: ByFunctions>(rt: &HostRuntime, node: &Node) -> Result<Node, Fault> {
     let mut steps = Steps::new(rt);
     match T::read(rt.alloc(), node, &mut steps) {
@@ -162,7 +162,7 @@ fn cleaned<T: ByFunctions>(rt: &HostRuntime, node: &Node) -> Result<Node, Fault>
     }
 }
 
-/// What a tree is cleaned to by the two functions of the type of a name, where it has some.
+/// Returns what a node is cleaned to by the two functions of the type of a name, if it has some.
 pub fn by_functions(rt: &HostRuntime, name: &str, node: &Node) -> Option<Result<Node, Fault>> {
     match name {
         "ReferenceOr<Callback>" => Some(cleaned::<ReferenceOr<Callback>>(rt, node)),

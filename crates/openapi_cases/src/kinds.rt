@@ -2,8 +2,8 @@
 
 use openapi_faults::{Kind, TableName};
 
-/// Returns the kind that the type of a name is read by. Some types have none that is read by itself: a format, for one, may be
-/// unset where it stands.
+/// Returns the kind that the type of a name is read by. Some types have none that is read by itself: a format, for
+/// example, may be missing.
 pub fn kind_of(name: &str) -> Option<Kind> {
     let kind = match name {
         "AdditionalProperties" => Kind::FlagOrSchema,

@@ -1,12 +1,14 @@
 //! Answers cases: what a type of OpenAPI makes of a JSON text.
 //!
-//! With words, each names a file of cases (`docs/CONTRIBUTING.md` says how one is written). A line is printed for each
-//! file, with the number of its cases, and more for each case that came out otherwise. With none, each line of standard
-//! input is a type, a tab and a JSON text, and each line of standard output what the type reads of it, written again, or
-//! `! ` and why it is refused. With the word `memory` it makes one call for `tests/memory.sh`, which the words behind it
-//! name.
+//! With words, each names a file of cases (`docs/CONTRIBUTING.md` describes how to write one). A line is printed for
+//! each file, with the number of its cases, and more for each case with another answer.
 //!
-//! Exit statuses: 0, all came out as it has to; 1, something did not, or the words name nothing.
+//! Without words, each line of standard input is a type, a tab and a JSON text. Each line of standard output is what
+//! the type reads from it, written again, or `! ` and the fault.
+//!
+//! With the word `memory` it makes one call for `tests/memory.sh`, which the words behind it name.
+//!
+//! Exit statuses: 0, all answers are as they have to be; 1, some are not, or the words name nothing.
 #![tactic(auto)]
 
 mod answer;
@@ -66,7 +68,7 @@ fn make_call(rt: &HostRuntime, words: &[String]) -> Result<ExitCode, Fail> {
     Ok(told.exit_code())
 }
 
-/// The answer to a case. Where there is none, says on standard error which case it is.
+/// Returns the answer to a case. If there is none, it prints to standard error which case it is.
 fn answer_or_tell(rt: &HostRuntime, file: &str, case: &Case<'_>) -> Result<String, Fail> {
     match answer(rt, case) {
         Ok(text) => Ok(text),

@@ -11,12 +11,12 @@ pub enum Moment {
     CallBegins,
     /// The call has ended: its last request was the one before.
     CallEnds,
-    /// All that was made since the start was let go of.
+    /// All that was made since the start was dropped.
     End,
 }
 
 impl Moment {
-    /// A number of bytes that nothing else asks for.
+    /// Returns a number of bytes that nothing else allocates.
     fn size(self) -> usize {
         match self {
             Moment::Start => 1_111_111,
@@ -27,17 +27,17 @@ impl Moment {
     }
 }
 
-/// Asks for memory of the size of the moment, and lets go of it.
+/// Allocates as many bytes as the moment has, and drops them.
 ///
 /// # Errors
 ///
-/// `AllocError` when memory runs out.
+/// Returns [`AllocError`] if the allocation fails.
 pub fn mark(alloc: Global, moment: Moment) -> Result<(), AllocError> {
     drop(room(alloc, moment.size())?);
     Ok(())
 }
 
-/// Room for some bytes. It stands alone and is not inlined, so that no compiler sees that the room is not used.
+/// Allocates some bytes. It is a function that is not inlined, so that no compiler sees that the bytes are not used.
 #[inline(never)]
 fn room(alloc: Global, size: usize) -> Result<Vec<u8>, AllocError> {
     Vec::with_capacity(alloc, size)

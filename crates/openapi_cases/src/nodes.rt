@@ -13,7 +13,7 @@ use std::test::Fail;
 ///
 /// # Errors
 ///
-/// `Fail` when memory runs out, or when the text of the sample is not read.
+/// Returns [`Fail`] if an allocation fails, or if the text of the sample is not read.
 pub fn from_value(rt: &HostRuntime, text: &str) -> Result<Told, Fail> {
     let alloc = rt.alloc();
     let value = Value::from_slice(alloc, text.as_bytes())?;
@@ -29,7 +29,7 @@ pub fn from_value(rt: &HostRuntime, text: &str) -> Result<Told, Fail> {
 ///
 /// # Errors
 ///
-/// `Fail` when memory runs out, or when the text of the sample is not read.
+/// Returns [`Fail`] if an allocation fails, or if the text of the sample is not read.
 pub fn to_value(rt: &HostRuntime, text: &str) -> Result<Told, Fail> {
     let alloc = rt.alloc();
     let node = tree(rt, text)?;
@@ -46,7 +46,7 @@ pub fn to_value(rt: &HostRuntime, text: &str) -> Result<Told, Fail> {
 ///
 /// # Errors
 ///
-/// `Fail` when memory runs out, or when the text of the sample is not read.
+/// Returns [`Fail`] if an allocation fails, or if the text of the sample is not read.
 pub fn node_from_json(rt: &HostRuntime, text: &str) -> Result<Told, Fail> {
     let alloc = rt.alloc();
     let wanted = tree(rt, text)?;
@@ -71,7 +71,7 @@ pub fn told_by_json_fault(fault: &JsonFault) -> Told {
 ///
 /// # Errors
 ///
-/// `Fail` when memory runs out, or when the text of the sample is not read.
+/// Returns [`Fail`] if an allocation fails, or if the text of the sample is not read.
 pub fn json_from_node(rt: &HostRuntime, text: &str) -> Result<Told, Fail> {
     let alloc = rt.alloc();
     let node = tree(rt, text)?;
@@ -88,7 +88,7 @@ pub fn json_from_node(rt: &HostRuntime, text: &str) -> Result<Told, Fail> {
 ///
 /// # Errors
 ///
-/// `Fail` when memory runs out, or when the text of the sample is not read.
+/// Returns [`Fail`] if an allocation fails, or if the text of the sample is not read.
 pub fn node_from_json_in_order(rt: &HostRuntime, text: &str) -> Result<Told, Fail> {
     let alloc = rt.alloc();
     let wanted = tree(rt, text)?;
@@ -105,7 +105,7 @@ pub fn node_from_json_in_order(rt: &HostRuntime, text: &str) -> Result<Told, Fai
 ///
 /// # Errors
 ///
-/// `Fail` when memory runs out, or when the text of the sample is not read.
+/// Returns [`Fail`] if an allocation fails, or if the text of the sample is not read.
 pub fn json_from_node_in_order(rt: &HostRuntime, text: &str) -> Result<Told, Fail> {
     let alloc = rt.alloc();
     let node = tree(rt, text)?;
@@ -121,7 +121,7 @@ pub fn json_from_node_in_order(rt: &HostRuntime, text: &str) -> Result<Told, Fai
 ///
 /// # Errors
 ///
-/// `Fail` when memory runs out, or when the text of the sample is not read.
+/// Returns [`Fail`] if an allocation fails, or if the text of the sample is not read.
 pub fn pretty_from_node_in_order(rt: &HostRuntime, text: &str) -> Result<Told, Fail> {
     let alloc = rt.alloc();
     let node = tree(rt, text)?;
@@ -137,7 +137,7 @@ pub fn pretty_from_node_in_order(rt: &HostRuntime, text: &str) -> Result<Told, F
 ///
 /// # Errors
 ///
-/// `Fail` when memory runs out, or when the text of the sample is not read.
+/// Returns [`Fail`] if an allocation fails, or if the text of the sample is not read.
 pub fn pretty_from_node(rt: &HostRuntime, text: &str) -> Result<Told, Fail> {
     let alloc = rt.alloc();
     let node = tree(rt, text)?;
@@ -161,11 +161,11 @@ fn told_by_text(
     })
 }
 
-/// Looks for the position of a text's root.
+/// Finds the position of a text's root.
 ///
 /// # Errors
 ///
-/// `Fail` when memory runs out, or when the text of the sample is not read.
+/// Returns [`Fail`] if an allocation fails, or if the text of the sample is not read.
 pub fn position_of(rt: &HostRuntime, text: &str) -> Result<Told, Fail> {
     let alloc = rt.alloc();
     let wanted = Some(Position {
@@ -178,11 +178,11 @@ pub fn position_of(rt: &HostRuntime, text: &str) -> Result<Told, Fail> {
     Ok(told_by_growth(answer, &wanted))
 }
 
-/// Looks for the position of a member's value below a text's root.
+/// Finds the position of a member's value below a text's root.
 ///
 /// # Errors
 ///
-/// `Fail` when memory runs out, or when the text of the sample is not read.
+/// Returns [`Fail`] if an allocation fails, or if the text of the sample is not read.
 pub fn position_below(rt: &HostRuntime, sample: Sample) -> Result<Told, Fail> {
     let alloc = rt.alloc();
     let (names, member) = sample.inner();
@@ -194,11 +194,11 @@ pub fn position_below(rt: &HostRuntime, sample: Sample) -> Result<Told, Fail> {
     Ok(told_by_growth(answer, &wanted))
 }
 
-/// Looks for the positions of a text's root, of a member's value below it, and of a value that is not there.
+/// Finds the positions of a text's root, of a member's value below it, and of a value that does not exist.
 ///
 /// # Errors
 ///
-/// `Fail` when memory runs out, or when the text of the sample is not read.
+/// Returns [`Fail`] if an allocation fails, or if the text of the sample is not read.
 pub fn positions_of(rt: &HostRuntime, sample: Sample) -> Result<Told, Fail> {
     let alloc = rt.alloc();
     let (names, member) = sample.inner();
@@ -263,11 +263,11 @@ fn point_at(offset: usize) -> Point {
     }
 }
 
-/// Copies a node, with its looks counted.
+/// Copies a node, and counts its accesses.
 ///
 /// # Errors
 ///
-/// `Fail` when memory runs out, or when the text of the sample is not read.
+/// Returns [`Fail`] if an allocation fails, or if the text of the sample is not read.
 pub fn copy(rt: &HostRuntime, text: &str) -> Result<Told, Fail> {
     let alloc = rt.alloc();
     let node = tree(rt, text)?;
@@ -283,7 +283,7 @@ pub fn copy(rt: &HostRuntime, text: &str) -> Result<Told, Fail> {
 ///
 /// # Errors
 ///
-/// `Fail` when memory runs out, or when the text of the sample is not read.
+/// Returns [`Fail`] if an allocation fails, or if the text of the sample is not read.
 pub fn clone(rt: &HostRuntime, text: &str) -> Result<Told, Fail> {
     let alloc = rt.alloc();
     let node = tree(rt, text)?;

@@ -16,7 +16,7 @@ use std::test::Fail;
 ///
 /// # Errors
 ///
-/// `Fail` when memory runs out.
+/// Returns [`Fail`] if an allocation fails.
 pub fn rewritten(rt: &HostRuntime, function: &str, text: &str) -> Result<String, Fail> {
     let text = spelled_out(rt, text)?;
     let mut steps = Steps::new(rt);
@@ -66,7 +66,7 @@ fn write(
 ///
 /// # Errors
 ///
-/// `Fail` when memory runs out, or when the text of the sample is not read.
+/// Returns [`Fail`] if an allocation fails, or if the text of the sample is not read.
 pub fn written(rt: &HostRuntime, function: &str, sample: Sample) -> Result<Told, Fail> {
     let alloc = rt.alloc();
     let mut steps = Steps::new(rt);
@@ -87,7 +87,7 @@ pub fn written(rt: &HostRuntime, function: &str, sample: Sample) -> Result<Told,
 ///
 /// # Errors
 ///
-/// `Fail` when memory runs out, or when the sample is not refused.
+/// Returns [`Fail`] if an allocation fails, or if the sample is not refused.
 pub fn locate(rt: &HostRuntime, sample: Sample) -> Result<Told, Fail> {
     let (alloc, bytes) = (rt.alloc(), sample.text().as_bytes());
     let mut steps = Steps::new(rt);

@@ -64,7 +64,7 @@ pub struct Row<'a> {
     pub name: &'a str,
     /// How it is taken where it is missing or null.
     pub mode: Mode<'a>,
-    /// The word for what is expected of it; `any` where every tree is taken.
+    /// The word for what is expected of it; `any` if every node is allowed.
     pub word: &'a str,
     /// The JSON text of a value that is cleaned to itself.
     pub sample: &'a str,
@@ -76,7 +76,7 @@ impl<'a> Row<'a> {
     ///
     /// # Errors
     ///
-    /// `Fail` when memory runs out, or when the line is no row.
+    /// Returns [`Fail`] if an allocation fails, or if the line is no row.
     pub fn of_line(line: &'a str) -> Result<Row<'a>, Fail> {
         match Row::of_parts(line) {
             Some(row) => Ok(row),

@@ -1,8 +1,8 @@
-//! The trees on which calls are made for `tests/memory.sh`.
+//! The JSON values on which calls are made for `tests/memory.sh`.
 
 use std::str::FromStr;
 
-/// A tree, which is read as one type.
+/// A JSON value, which is read as one type.
 #[derive(Clone, Copy)]
 pub enum Sample {
     /// A Schema Object that is held as Any, and is an integer once it is written.
@@ -46,7 +46,7 @@ const TAG: &str =
     r#"{"name":"t","externalDocs":{"url":"u"},"x-b":{"z":[1,null],"a":"q"},"x-a":"a text that takes a block of its own"}"#;
 
 impl Sample {
-    /// The tree as JSON text.
+    /// Returns the value as JSON text.
     pub fn text(self) -> &'static str {
         match self {
             Sample::Schema => r#"{"type":"integer","exclusiveMinimum":false,"required":[]}"#,
@@ -62,11 +62,11 @@ impl Sample {
         }
     }
 
-    /// What is written of what is read of the tree, as JSON text; or what is told of the fault that refuses it.
+    /// Returns what is written of what is read from the value, as JSON text.
     ///
     /// # Errors
     ///
-    /// The text of the fault that refuses the value.
+    /// Returns the text of the fault of reading the value.
     pub fn cleaned(self) -> Result<&'static str, &'static str> {
         match self {
             Sample::Schema => Ok(r#"{"type":"integer","exclusiveMinimum":false}"#),
@@ -78,12 +78,12 @@ impl Sample {
         }
     }
 
-    /// Returns what is written of what is read of the tree with members in the order of their names, in the same way. Of two
-    /// spellings of a code the later one counts, and by name it is the one in small letters.
+    /// Returns what [`cleaned`](Sample::cleaned) does, if the value is read with members in the order of their names.
+    /// Of two spellings of a code the later one counts, and by name it is the one in small letters.
     ///
     /// # Errors
     ///
-    /// The text of the fault that refuses the value.
+    /// Returns the text of the fault of reading the value.
     pub fn cleaned_by_name(self) -> Result<&'static str, &'static str> {
         match self {
             Sample::Responses => { Ok(r#"{"2XX":{"description":"a"},"404":{"description":"b"}}"#) }
@@ -92,8 +92,8 @@ impl Sample {
         }
     }
 
-    /// Returns the names of the members that lead to a value below the root, and the text of the last of these members, which
-    /// the tree has once.
+    /// Returns the names of the members that lead to a value below the root, and the text of the last of these members.
+    /// The value has that text once.
     pub fn inner(self) -> (&'static [&'static str], &'static str) {
         match self {
             Sample::Schema => (&["required"], r#""required":[]"#),
@@ -111,11 +111,11 @@ impl Sample {
         }
     }
 
-    /// What the tree settles to, in the same way.
+    /// Returns what the value settles to, in the same way.
     ///
     /// # Errors
     ///
-    /// The text of the fault that refuses the value.
+    /// Returns the text of the fault of reading the value.
     pub fn settled(self) -> Result<&'static str, &'static str> {
         match self {
             Sample::Schema => Ok(r#"{"type":"integer"}"#),

@@ -1,11 +1,11 @@
-//! What is told of what was read: the kind of a schema, and the operations of a document.
+//! Reports of what was read: the kind of a schema, and the operations of a document.
 
 use openapiv3::{FromNode, Node, OpenAPI, Schema, SchemaKind, SchemaType, Steps};
 use std::test::Fail;
 
-/// What something is told of.
+/// A value that is reported.
 trait Tells {
-    /// The lines that are told.
+    /// Returns the lines of the report.
     fn tell(&self, rt: &HostRuntime) -> Result<String, Fail>;
 }
 
@@ -46,7 +46,7 @@ impl Tells for OpenAPI {
     }
 }
 
-/// What is told of what is read of a tree.
+/// Returns the report of what is read from a node.
 fn told<T: FromNode + Tells + Drop>(rt: &HostRuntime, node: &Node) -> Result<String, Fail> {
     let mut steps = Steps::new(rt);
     match T::from_node(rt.alloc(), node, &mut steps) {
@@ -59,7 +59,7 @@ fn told<T: FromNode + Tells + Drop>(rt: &HostRuntime, node: &Node) -> Result<Str
 ///
 /// # Errors
 ///
-/// `Fail` when memory runs out.
+/// Returns [`Fail`] if an allocation fails.
 pub fn sort(rt: &HostRuntime, node: &Node) -> Result<String, Fail> {
     told::<Schema>(rt, node)
 }
@@ -68,7 +68,7 @@ pub fn sort(rt: &HostRuntime, node: &Node) -> Result<String, Fail> {
 ///
 /// # Errors
 ///
-/// `Fail` when memory runs out.
+/// Returns [`Fail`] if an allocation fails.
 pub fn operations(rt: &HostRuntime, node: &Node) -> Result<String, Fail> {
     told::<OpenAPI>(rt, node)
 }

@@ -7,7 +7,7 @@ use std::test::Fail;
 /// A member of an object: its name, and its value as JSON text.
 type Member<'a> = (&'a str, &'a str);
 
-/// The extensions of each tree, in no order of names, one of them null.
+/// The extensions of each object, in no order of names, one of them null.
 const SAMPLE: [Member<'static>; 3] = [("x-b", "[{\"b\":null}]"), ("x-", "7"), ("x-a", "null")];
 
 /// A JSON text, and the answer that has to come of it where it is cleaned.
@@ -19,7 +19,7 @@ pub struct Expected {
     pub wanted: String,
 }
 
-/// What has to come of the objects that a table tells.
+/// What has to come of the objects that a table defines.
 #[derive(Drop)]
 pub struct Table<'a> {
     alloc: Global,
@@ -75,7 +75,7 @@ fn object_with(
 ///
 /// # Errors
 ///
-/// `Fail` when memory runs out.
+/// Returns [`Fail`] if an allocation fails.
 pub fn full_object(alloc: Global, rows: &[Row<'_>]) -> Result<String, Fail> {
     object_with(alloc, rows, rows.len(), &[])
 }
@@ -108,7 +108,7 @@ fn tells_apart(row: &Row<'_>) -> bool {
 ///
 /// # Errors
 ///
-/// `Fail` when memory runs out.
+/// Returns [`Fail`] if an allocation fails.
 pub fn other_objects(alloc: Global, rows: &[Row<'_>]) -> Result<Vec<String>, Fail> {
     let mut others = Vec::new(alloc);
     for (place, row) in rows.iter().enumerate() {
@@ -124,7 +124,7 @@ pub fn other_objects(alloc: Global, rows: &[Row<'_>]) -> Result<Vec<String>, Fai
 ///
 /// # Errors
 ///
-/// `Fail` when memory runs out.
+/// Returns [`Fail`] if an allocation fails.
 pub fn expected_of(alloc: Global, rows: &[Row<'_>]) -> Result<Vec<Expected>, Fail> {
     let mut table = Table {
         alloc,
@@ -176,7 +176,7 @@ impl Table<'_> {
         self.refuses(place, &[(name, value)], fault.as_str())
     }
 
-    /// The full object as it stands, and with its rows in another order.
+    /// Expects the full object with its rows in their order, and in another order.
     fn expect_order(&mut self) -> Result<(), Fail> {
         let full = full_object(self.alloc, self.rows)?;
         let turned = turned_object(self.alloc, self.rows)?;
@@ -231,8 +231,8 @@ impl Table<'_> {
         }
     }
 
-    /// What each mode says beside: the value that is not written, the default, the text that is not of the set, and the
-    /// second of two names, alone, before the first and behind it.
+    /// Expects what each mode adds: the value that is not written, the default, and the text that is not of the set. Of
+    /// two names it tries the second one alone, and each before the other.
     fn expect_silent(&mut self, place: usize, row: &Row<'_>) -> Result<(), Fail> {
         let name = row.name;
         match row.mode {

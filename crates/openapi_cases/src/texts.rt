@@ -1,4 +1,4 @@
-//! Cases on JSON text: what is read of it, what is written again, and where its values stand.
+//! Cases on JSON text: what is read from it, what is written again, and the positions of its values.
 
 use openapiv3::{
     JsonFault, Node, PlaceStep, Point, Pointer, Position, Steps, json_from_node,
@@ -11,7 +11,7 @@ use std::test::Fail;
 ///
 /// # Errors
 ///
-/// `Fail` when memory runs out.
+/// Returns [`Fail`] if an allocation fails.
 pub fn told(rt: &HostRuntime, text: &str) -> Result<String, Fail> {
     Ok(format!(in rt.alloc(); "= {text}\n")?)
 }
@@ -25,7 +25,7 @@ fn refused(rt: &HostRuntime, fault: &JsonFault) -> Result<String, Fail> {
 ///
 /// # Errors
 ///
-/// `Fail` when memory runs out.
+/// Returns [`Fail`] if an allocation fails.
 pub fn ordered_text(rt: &HostRuntime, node: &Node) -> Result<String, Fail> {
     let mut steps = Steps::new(rt);
     Ok(json_from_node_in_order(rt.alloc(), node, &mut steps)?)
@@ -52,7 +52,7 @@ fn is_read_again(rt: &HostRuntime, node: &Node, text: &str) -> Result<bool, Fail
 ///
 /// # Errors
 ///
-/// `Fail` when memory runs out.
+/// Returns [`Fail`] if an allocation fails.
 pub fn by_name(rt: &HostRuntime, text: &str) -> Result<String, Fail> {
     match node_from_json(rt.alloc(), text.as_bytes()) {
         Ok(node) => {
@@ -72,7 +72,7 @@ pub fn by_name(rt: &HostRuntime, text: &str) -> Result<String, Fail> {
 ///
 /// # Errors
 ///
-/// `Fail` when memory runs out.
+/// Returns [`Fail`] if an allocation fails.
 pub fn in_order(rt: &HostRuntime, text: &str) -> Result<String, Fail> {
     let named = by_name(rt, text)?;
     match node_from_json_in_order(rt.alloc(), text.as_bytes()) {
@@ -109,7 +109,7 @@ fn again(rt: &HostRuntime, text: &str) -> Result<String, Fail> {
 ///
 /// # Errors
 ///
-/// `Fail` when memory runs out.
+/// Returns [`Fail`] if an allocation fails.
 pub fn pretty(rt: &HostRuntime, text: &str) -> Result<String, Fail> {
     match node_from_json_in_order(rt.alloc(), text.as_bytes()) {
         Ok(node) => {
@@ -128,7 +128,7 @@ pub fn pretty(rt: &HostRuntime, text: &str) -> Result<String, Fail> {
 ///
 /// # Errors
 ///
-/// `Fail` when memory runs out.
+/// Returns [`Fail`] if an allocation fails.
 pub fn with_zeros(rt: &HostRuntime, text: &str) -> Result<String, Fail> {
     match node_with_zeros_in_order(rt.alloc(), text.as_bytes()) {
         Ok(read) => {
@@ -151,7 +151,7 @@ pub fn with_zeros(rt: &HostRuntime, text: &str) -> Result<String, Fail> {
 ///
 /// # Errors
 ///
-/// `Fail` when memory runs out.
+/// Returns [`Fail`] if an allocation fails.
 pub fn position(rt: &HostRuntime, request: &str) -> Result<String, Fail> {
     let (place, text) = request.split_once(' ').unwrap_or((request, ""));
     let text = spelled_out(rt, text)?;
@@ -168,7 +168,7 @@ pub fn position(rt: &HostRuntime, request: &str) -> Result<String, Fail> {
 ///
 /// # Errors
 ///
-/// `Fail` when memory runs out.
+/// Returns [`Fail`] if an allocation fails.
 pub fn positions(rt: &HostRuntime, request: &str) -> Result<String, Fail> {
     let (pointers, text) = request.split_once(' ').unwrap_or((request, ""));
     let text = spelled_out(rt, text)?;
@@ -191,7 +191,7 @@ pub fn positions(rt: &HostRuntime, request: &str) -> Result<String, Fail> {
 ///
 /// # Errors
 ///
-/// `Fail` when memory runs out.
+/// Returns [`Fail`] if an allocation fails.
 pub fn spelled_out(rt: &HostRuntime, text: &str) -> Result<String, Fail> {
     let text = text.replace(rt.alloc(), "↵", "\n")?;
     let text = text.as_str().replace(rt.alloc(), "␍", "\r")?;
@@ -215,7 +215,7 @@ fn position_text(rt: &HostRuntime, position: Option<Position>) -> Result<String,
     }
 }
 
-/// A point: its line and its column, and how many bytes stand before it.
+/// Returns a point as text: its line and its column, and how many bytes come before it.
 fn point_text(rt: &HostRuntime, point: &Point) -> Result<String, Fail> {
     let Point {
         offset,
@@ -225,7 +225,7 @@ fn point_text(rt: &HostRuntime, point: &Point) -> Result<String, Fail> {
     Ok(format!(in rt.alloc(); "{line}:{column} at {offset}")?)
 }
 
-/// The place of a JSON Pointer whose tokens have no `~`, in which `[0]` stands for the index 0. So `#` is the root.
+/// Returns the location of a JSON Pointer whose tokens have no `~`, in which `[0]` is the index 0. So `#` is the root.
 fn place_of(rt: &HostRuntime, pointer: &str) -> Result<Vec<PlaceStep>, Fail> {
     let mut place = Vec::new(rt.alloc());
     for token in pointer.split('/').skip(1) {

@@ -10,7 +10,7 @@ use std::process::ExitCode;
 pub enum Told {
     /// It answered what it is to answer.
     Answered,
-    /// It told that memory was refused, by that cause and no place.
+    /// It reported an allocation failure, by that cause and the empty location.
     OutOfMemory,
     /// It did neither, or what it was lent is not as it was: what differs.
     Differs(&'static str),
@@ -73,7 +73,7 @@ pub fn told_by<T: PartialEq + Drop>(answer: Result<T, Fault>, wanted: &T) -> Tol
     }
 }
 
-/// What came of a call that gives a value, and else tells of memory alone.
+/// Returns what came of a call whose only error is an allocation failure.
 pub fn told_by_growth<T: PartialEq + Drop>(answer: Result<T, AllocError>, wanted: &T) -> Told {
     match answer {
         Ok(value) => told_by_value(&value, wanted),

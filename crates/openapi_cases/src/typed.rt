@@ -14,7 +14,7 @@ use std::test::Fail;
 ///
 /// # Errors
 ///
-/// `Fail` when memory runs out, or when the text of the sample is not read.
+/// Returns [`Fail`] if an allocation fails, or if the text of the sample is not read.
 pub fn on_sample<T: ToNode + Clone + PartialEq + Drop>(
     rt: &HostRuntime,
     call: &str,
@@ -29,7 +29,7 @@ pub fn on_sample<T: ToNode + Clone + PartialEq + Drop>(
     }
 }
 
-/// Reads a tree. What was read is told by what is written of it.
+/// Reads a node, and compares what is written of what was read.
 fn from_node<T: ToNode + Drop>(rt: &HostRuntime, sample: Sample) -> Result<Told, Fail> {
     let alloc = rt.alloc();
     let node = tree(rt, sample.text())?;
@@ -46,7 +46,7 @@ fn from_node<T: ToNode + Drop>(rt: &HostRuntime, sample: Sample) -> Result<Told,
     Ok(told.if_kept(&node, &before))
 }
 
-/// Reads JSON text by the function of this name. What was read is told by what is written of it.
+/// Reads JSON text by the function of this name, and compares what is written of what was read.
 fn from_text<T: ToNode + Drop>(rt: &HostRuntime, call: &str, sample: Sample) -> Result<Told, Fail> {
     let alloc = rt.alloc();
     let bytes = sample.text().as_bytes();
@@ -71,7 +71,7 @@ fn from_text<T: ToNode + Drop>(rt: &HostRuntime, call: &str, sample: Sample) -> 
     }
 }
 
-/// Settles a tree.
+/// Settles a node.
 fn settle<T: ToNode + Drop>(rt: &HostRuntime, sample: Sample) -> Result<Told, Fail> {
     let alloc = rt.alloc();
     let node = tree(rt, sample.text())?;
@@ -84,7 +84,7 @@ fn settle<T: ToNode + Drop>(rt: &HostRuntime, sample: Sample) -> Result<Told, Fa
     Ok(told.if_kept(&node, &before))
 }
 
-/// What came of a call that gives a tree, or a fault that prints as a text where the call refuses its own.
+/// Returns what came of a call that returns a node, or a fault that has to print as a text.
 fn told_by_tree(
     rt: &HostRuntime,
     answer: Result<Node, Fault>,
@@ -104,7 +104,7 @@ fn told_by_tree(
     }
 }
 
-/// Writes what was read of a tree.
+/// Writes what was read from a node.
 fn to_node<T: ToNode + Clone + PartialEq + Drop>(
     rt: &HostRuntime,
     sample: Sample,

@@ -18,7 +18,7 @@ use std::test::Fail;
 ///
 /// # Errors
 ///
-/// `Fail` when memory runs out.
+/// Returns [`Fail`] if an allocation fails.
 pub fn of_type(rt: &HostRuntime, name: &str, ask: Ask<'_>) -> Result<String, Fail> {
     match name {
         "AdditionalProperties" => answer_as::<AdditionalProperties>(rt, ask),

@@ -166,7 +166,7 @@ fn no_lines(alloc: Global) -> Lines {
 ///
 /// # Errors
 ///
-/// `Fail` when memory runs out, when the value is no document, or when `visit_mut` visits otherwise.
+/// Returns [`Fail`] if an allocation fails, if the value is no document, or if `visit_mut` visits otherwise.
 pub fn visited(rt: &HostRuntime, node: &Node) -> Result<String, Fail> {
     let mut steps = Steps::new(rt);
     let mut document = OpenAPI::from_node(rt.alloc(), node, &mut steps)?;

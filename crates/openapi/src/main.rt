@@ -1,9 +1,14 @@
 //! Checks, rewrites and lists OpenAPI 3.0 documents in JSON.
 //!
-//! `openapi check` prints every finding of each file, `clean` its text without what has no effect, `normalize` its serialized value,
-//! and `operations` and `references` list what there is in it. Exit statuses: 0, all is well; 1, a file breaks a rule, has warnings
-//! that are denied, or would change with `--check`; 2, a file is no JSON, or the arguments are wrong; 3, reading, writing or memory
-//! failed. Of several files the highest counts.
+//! `openapi check` prints every finding of each file, `clean` its text without what has no effect, `normalize` its
+//! serialized value, and `operations` and `references` list what there is in it.
+//!
+//! Exit statuses, of which the highest counts for several files:
+//!
+//! - 0: all is well.
+//! - 1: a file breaks a rule, has warnings that are denied, or would change with `--check`.
+//! - 2: a file is no JSON, or the arguments are wrong.
+//! - 3: reading, writing or an allocation failed.
 #![tactic(auto)]
 
 mod arguments;

@@ -110,8 +110,8 @@ fn told_if_known(rt: &HostRuntime, answer: Option<Result<Node, Fault>>) -> Resul
     }
 }
 
-/// The answer to a line of standard input: a type, a tab and a JSON text; or a command and a type, a tab and a JSON text, of
-/// which the answer ends with an empty line.
+/// Returns the answer to a line of standard input: a type, a tab and a JSON text. If the line is a command and a type,
+/// a tab and a JSON text, the answer ends with an empty line.
 ///
 /// # Errors
 ///

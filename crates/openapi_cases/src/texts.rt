@@ -67,8 +67,8 @@ pub fn by_name(rt: &HostRuntime, text: &str) -> Result<String, Fail> {
     }
 }
 
-/// JSON text to a node and back, in order. What is refused has to be refused by name for the same reason, and else the
-/// same has to be written by name of both nodes, and to be read of the pretty text.
+/// Reads JSON text as a node in order, and writes it again. A text that is refused has to be refused by name for the
+/// same reason. Otherwise the pretty text of the node has to be read as the same, in order and by name.
 ///
 /// # Errors
 ///

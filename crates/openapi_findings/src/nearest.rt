@@ -14,8 +14,8 @@ struct Search<'a> {
     limit: usize,
 }
 
-/// Returns the name of a field that is nearest to an unknown one, or `None` if it is too far: a third of the name may differ, and
-/// one character of a short name. (So does `cargo` with its commands.)
+/// Returns the name of a field that is nearest to an unknown one, or `None` if it is too far. A third of the name may
+/// differ, and one character of a short name. (So does `cargo` with its commands.)
 ///
 /// # Errors
 ///

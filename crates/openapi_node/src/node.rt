@@ -132,7 +132,7 @@ impl Node {
     pub fn object(members: OrderedMap<Node>) -> Node
         ensures { result ≡ object (members_of members) }
     {
-        // it does nothing, as for a list
+        // No effect at run time, as for a list.
         for i in 0..members.len() {
             members.entry_at(i).1.names_differ();
         }

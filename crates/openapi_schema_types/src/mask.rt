@@ -105,7 +105,7 @@ impl Mask {
         bits: (1 << 24) - 1,
     };
 
-    /// The names whose flags are set. There is one flag for each name, in the order of the names.
+    /// Returns the set of the names whose flags are set. There is one flag for each name, in the order of the names.
     pub fn of_flags(flags: &[bool; NAMES]) -> Mask
         ensures { result.bits ≡ mask_of flags.now }
     {

@@ -111,8 +111,8 @@ impl Sort {
         }
     }
 
-    /// The sort by the `type`, where there is one, and the names that are present: the possible one, if a schema of it
-    /// may have all these names, else Any.
+    /// Returns the sort by the `type`, if there is one, and by the names that are present. It is the possible sort if a
+    /// schema of it may have all these names, and else `Any`.
     pub fn by_names(typ: Option<&str>, names: Mask) -> Sort
         ensures { (es : List (Entry Tree)) → names.bits ≡ mask_of (presence es) → IsType (option_copied typ.entry) es
             → sort_in result ≡ sort_by_names es }

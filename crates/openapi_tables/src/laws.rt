@@ -16,8 +16,8 @@ pub fn well_made()
     ensures { WellMade }
 {}
 
-/// A status code is read again from its text, and no two codes have the same text: for the codes 100 to 999 and the
-/// ranges `0XX` to `9XX`.
+/// States that a status code is read again from its text, and that no two codes have the same text: for the codes 100
+/// to 999 and the ranges `0XX` to `9XX`.
 pub fn codes()
     ensures { Codes }
 {}
@@ -38,8 +38,8 @@ pub fn ignored()
     ensures { Ignored }
 {}
 
-/// States that two neighbors among the members may be swapped if no row takes both: the object conforms if it did, and
-/// the same is read from it.
+/// States that two neighbors with different names may be swapped if no row takes both: the object conforms if it did,
+/// and the same is read from it.
 ///
 /// The law also covers objects that a reference may replace. So the order of members counts only among extensions,
 /// among paths, among status codes, and between two names of which the first decides.
@@ -72,7 +72,7 @@ pub fn reads_its_writing()
     ensures { ReadsItsWriting }
 {}
 
-/// What is printed and read once is settled: printing and reading it again changes nothing.
+/// States that a value that is printed and read once is in stable form: printing and reading it again changes nothing.
 pub fn settles()
     ensures { Settles }
 {}
@@ -114,8 +114,8 @@ pub fn callbacks_kept()
     ensures { CallbacksKept }
 {}
 
-/// States when a node conforms with the `xml` of schemas: if and only if it conforms when schemas have no `xml`, and
-/// each value of an `xml` of a schema in it conforms to the XML Object.
+/// States that a node conforms if and only if it conforms when schemas have no `xml`, and each `xml` of a schema in it
+/// conforms to the XML Object.
 pub fn xml_kept()
     ensures { XmlKept }
 {}

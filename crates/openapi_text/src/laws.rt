@@ -6,9 +6,9 @@ pub fn nests_no_deeper()
     ensures { NestsNoDeeper }
 {}
 
-/// States that settled text is a fixed point, by name, in the order of the text and pretty-printed: what
-/// [`Rewriting::Settle`] writes is the text of a document again, for which it writes the same text and no other. The text
-/// is in UTF-8, as each `String` is.
+/// States that settled text is a fixed point, by name, in the order of the text and pretty-printed. What
+/// [`Rewriting::Settle`] writes is the text of a document again, for which it writes the same text and no other. The
+/// text is in UTF-8, as each `String` is.
 ///
 /// [`Rewriting::Settle`]: crate::Rewriting::Settle
 pub fn settled_text_stays()

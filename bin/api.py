@@ -24,6 +24,7 @@ IMPL = re.compile(r"impl(?:<(?:[^<>]|<[^<>]*>)*>)? (?:((?:\w+::)*\w+(?:<.*>)?) f
 BLANKET = re.compile(r"impl<(\w+): (\w+)(?: \+ [\w' +]+)?> (\w+) for \1\b")
 LITERAL = re.compile(r'"(?:[^"\\]|\\.)*"|b?\'(?:[^\'\\]|\\.)\'')
 CONTRACT = re.compile(r" *(?:requires|ensures)\b")
+BLOCK = re.compile(r"(^```.*?^```$)", re.M | re.S)
 
 
 class Item:
@@ -202,10 +203,14 @@ class Writer:
                       "FromStr", "IntoIterator", "Iterator", "Ord", "PartialEq", "PartialOrd", "Index", "Hash"}
 
     def prose(self, docs):
-        """Returns a comment as Markdown, with its links, and headings two levels deeper."""
-        lines = [re.sub(r"^#", "####", it) for it in docs if not re.match(r"\[[^\]]*\]: ", it)]
-        text = "\n".join(lines)
-        return re.sub(r"\[(`[^`]+`)\](?:\(([\w:]+)\)|\[[^\]]*\])?", self.link, text)
+        """Returns a comment as Markdown, with its links, and headings three levels deeper. Blocks of code are unchanged."""
+        parts = BLOCK.split("\n".join(docs))
+        return "".join(it if BLOCK.fullmatch(it) else self.text(it) for it in parts)
+
+    def text(self, part):
+        """Returns a part of a comment that has no block of code as Markdown."""
+        lines = [re.sub(r"^#", "####", it) for it in part.split("\n") if not re.match(r"\[[^\]]*\]: ", it)]
+        return re.sub(r"\[(`[^`]+`)\](?:\(([\w:]+)\)|\[[^\]]*\])?", self.link, "\n".join(lines))
 
     def line(self, docs):
         return " ".join(self.prose(docs).split())

@@ -28,6 +28,16 @@ use std::alloc::{AllocError, Global};
 /// # Errors
 ///
 /// Returns [`AllocError`] if an allocation fails.
+///
+/// # Examples
+///
+/// ```rust
+/// // The name is missing, and the description is no string.
+/// let node = node_from_json(rt.alloc(), br#"{"description":true}"#)?;
+/// let tag = Kind::Object(TableName::Tag);
+/// let found = faults(rt.alloc(), tag, &node, &mut Steps::new(&rt))?;
+/// assert_eq!(rt; found.len(), 2);
+/// ```
 pub fn faults(
     alloc: Global,
     kind: Kind,

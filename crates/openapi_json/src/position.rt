@@ -42,6 +42,16 @@ pub struct Position {
 /// # Errors
 ///
 /// Returns [`AllocError`] if an allocation fails.
+///
+/// # Examples
+///
+/// ```rust
+/// let text = "{\n  \"info\": {}\n}";
+/// let place = [PlaceStep::Name(String::from_str(rt.alloc(), "info")?)];
+/// let position = position_of(rt.alloc(), text.as_bytes(), &place)?;
+/// let found = position.map(|it| (it.value.line, it.value.column));
+/// assert_eq!(rt; found, Some((2, 11)));
+/// ```
 pub fn position_of(
     alloc: Global,
     bytes: &[u8],

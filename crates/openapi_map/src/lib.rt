@@ -49,6 +49,18 @@ struct Held<V> {
 /// A map from names to values that keeps the order in which the names were inserted.
 ///
 /// Contracts see it as the list of its entries, no two of which have the same name.
+///
+/// # Examples
+///
+/// ```rust
+/// let mut map: OrderedMap<u64> = OrderedMap::new(rt.alloc());
+/// map.insert(String::from_str(rt.alloc(), "b")?, 1)?;
+/// map.insert(String::from_str(rt.alloc(), "a")?, 2)?;
+/// map.insert(String::from_str(rt.alloc(), "b")?, 3)?;
+/// assert_eq!(rt; map.len(), 2);
+/// assert_eq!(rt; map.get("b").copied(), Some(3));
+/// assert_eq!(rt; map.keys().next(), Some("b"));
+/// ```
 #[derive(Drop)]
 pub struct OrderedMap<V> {
     // `None` where there are no entries and none were foreseen.

@@ -38,6 +38,18 @@ pub trait Resolve {
     /// # Errors
     ///
     /// Returns the errors of [`component`](Resolve::component).
+    ///
+    /// # Examples
+    ///
+    /// ```rust
+    /// fn title_of<'a>(
+    ///     document: &'a OpenAPI,
+    ///     item: &'a ReferenceOr<Schema>,
+    /// ) -> Result<Option<&'a str>, ResolveError> {
+    ///     let schema: &Schema = document.resolve(item)?;
+    ///     Ok(schema.schema_data.title.as_deref())
+    /// }
+    /// ```
     fn resolve<'a, T: Component>(&'a self, item: &'a ReferenceOr<T>) -> Result<&'a T, ResolveError>
         ensures found { IfOk result (λ x.
             item_or (component_of T.the_section (components_of self.now)) item.now ≡ Some x.now) }

@@ -8,6 +8,8 @@ mod built;
 #[cfg(test)]
 mod compared;
 #[cfg(test)]
+mod doc_examples;
+#[cfg(test)]
 mod extended;
 #[cfg(test)]
 mod iterators;

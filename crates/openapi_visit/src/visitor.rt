@@ -16,6 +16,27 @@ use std::alloc::{AllocError, Global};
 /// # Errors
 ///
 /// An error of a method ends the visit, and [`visit`] returns it.
+///
+/// # Examples
+///
+/// This visitor counts the operations of a document. [`visit`] shows its use.
+///
+/// ```rust
+/// /// Counts the operations of a document.
+/// #[derive(Drop)]
+/// struct Counter {
+///     operations: usize,
+/// }
+///
+/// impl Visitor for Counter {
+///     type Error = AllocError;
+///
+///     fn operation(&mut self, _location: &str, _operation: &Operation) -> Result<(), AllocError> {
+///         self.operations = self.operations.saturating_add(1);
+///         Ok(())
+///     }
+/// }
+/// ```
 pub trait Visitor {
     /// The error that ends a visit early.
     type Error: From<AllocError>;
@@ -112,6 +133,18 @@ pub trait Visitor {
 /// # Errors
 ///
 /// Returns the first error of the visitor, or an error converted from [`AllocError`] if an allocation fails.
+///
+/// # Examples
+///
+/// `Counter` is the example of [`Visitor`].
+///
+/// ```rust
+/// fn count_operations(alloc: Global, document: &OpenAPI) -> Result<usize, AllocError> {
+///     let mut counter = Counter { operations: 0 };
+///     visit(alloc, document, &mut counter)?;
+///     Ok(counter.operations)
+/// }
+/// ```
 pub fn visit<V: Visitor>(
     alloc: Global,
     document: &OpenAPI,

@@ -13,7 +13,8 @@
 //! 3. Write it with [`to_json_pretty`], or without white space with [`to_json`] or [`to_json_in_order`].
 //!
 //! The allocator is `rt.alloc()` of the runtime. [`Steps::new`] creates the count of node accesses, which only
-//! contracts see. The README has a complete example, the function `with_version`.
+//! contracts see. In the examples, `rt` is the runtime that `main` gets. The README has a complete example, the
+//! function `with_version`.
 //!
 //! # Input
 //!

@@ -50,6 +50,16 @@ impl From<Fault> for ReadError {
 /// Returns [`ReadError::Json`] if the bytes are not JSON in UTF-8, or if a number in them is not whole. Returns
 /// [`ReadError::Refused`] with a location and a rule that is broken there if the JSON value is not such an object. Both
 /// variants also report an allocation failure.
+///
+/// # Examples
+///
+/// ```rust
+/// let text = r#"{"openapi":"3.0.3","info":{"title":"Pets","version":"1"},"paths":{}}"#;
+/// let document: OpenAPI = from_json(rt.alloc(), text.as_bytes(), &mut Steps::new(&rt))?;
+/// assert_eq!(rt; document.info.title.as_str(), "Pets");
+/// assert!(rt; document.paths.paths.is_empty());
+/// assert!(rt; document.components.is_none());
+/// ```
 pub fn from_json<T: FromNode>(
     alloc: Global,
     bytes: &[u8],
@@ -69,6 +79,16 @@ pub fn from_json<T: FromNode>(
 /// # Errors
 ///
 /// Returns the errors of [`from_json`].
+///
+/// # Examples
+///
+/// ```rust
+/// let text = r#"{"name":"pets","x-b":1,"x-a":2}"#;
+/// let tag: Tag = from_json_in_order(rt.alloc(), text.as_bytes(), &mut Steps::new(&rt))?;
+/// let mut names = tag.extensions.keys();
+/// assert_eq!(rt; names.next(), Some("x-b"));
+/// assert_eq!(rt; names.next(), Some("x-a"));
+/// ```
 pub fn from_json_in_order<T: FromNode>(
     alloc: Global,
     bytes: &[u8],

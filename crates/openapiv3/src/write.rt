@@ -17,6 +17,16 @@ use std::alloc::Global;
 /// Returns a [`Fault`] with [`Cause::NameNotWritable`](openapi_node::Cause::NameNotWritable) at a name or a status code
 /// that would not be read again, such as an extension without `x-`. An allocation failure has
 /// [`Cause::Memory`](openapi_node::Cause::Memory) and the empty location.
+///
+/// # Examples
+///
+/// ```rust
+/// let name = String::from_str(rt.alloc(), "Ann")?;
+/// let mut contact = Contact::new(rt.alloc());
+/// contact.name = Some(name);
+/// let text = to_json(rt.alloc(), &contact, &mut Steps::new(&rt))?;
+/// assert_eq!(rt; text.as_str(), r#"{"name":"Ann"}"#);
+/// ```
 pub fn to_json<T: ToNode>(alloc: Global, value: &T, steps: &mut Steps) -> Result<String>
     ensures text { IfOk result (λ s. IsWrittenOf IsByName T.FromNode.kind (T.FromNode.form_of value.now) (string_bytes s)) }
     ensures refuses { IfErr result (λ f. NotWritable f (unwritable final_tables T.FromNode.kind

@@ -1,0 +1,121 @@
+//! The examples of the doc comments, word for word: `tests/readme.py` compares the two.
+
+use openapi_faults::{Kind, TableName, faults};
+use openapiv3::{
+    Contact, OpenAPI, Operation, OrderedMap, PlaceStep, ReferenceOr, Resolve, ResolveError, Schema,
+    Steps, Tag, Visitor, from_json, from_json_in_order, node_from_json, position_of, to_json,
+    visit,
+};
+use std::alloc::{AllocError, Global};
+use std::test::Fail;
+
+#[test]
+fn from_json_reads_a_document(rt: HostRuntime) -> Result<(), Fail> {
+    let text = r#"{"openapi":"3.0.3","info":{"title":"Pets","version":"1"},"paths":{}}"#;
+    let document: OpenAPI = from_json(rt.alloc(), text.as_bytes(), &mut Steps::new(&rt))?;
+    assert_eq!(rt; document.info.title.as_str(), "Pets");
+    assert!(rt; document.paths.paths.is_empty());
+    assert!(rt; document.components.is_none());
+    Ok(())
+}
+
+#[test]
+fn from_json_in_order_keeps_the_order_of_the_text(rt: HostRuntime) -> Result<(), Fail> {
+    let text = r#"{"name":"pets","x-b":1,"x-a":2}"#;
+    let tag: Tag = from_json_in_order(rt.alloc(), text.as_bytes(), &mut Steps::new(&rt))?;
+    let mut names = tag.extensions.keys();
+    assert_eq!(rt; names.next(), Some("x-b"));
+    assert_eq!(rt; names.next(), Some("x-a"));
+    Ok(())
+}
+
+#[test]
+fn to_json_writes_an_object(rt: HostRuntime) -> Result<(), Fail> {
+    let name = String::from_str(rt.alloc(), "Ann")?;
+    let mut contact = Contact::new(rt.alloc());
+    contact.name = Some(name);
+    let text = to_json(rt.alloc(), &contact, &mut Steps::new(&rt))?;
+    assert_eq!(rt; text.as_str(), r#"{"name":"Ann"}"#);
+    Ok(())
+}
+
+#[test]
+fn faults_are_all_returned(rt: HostRuntime) -> Result<(), Fail> {
+    // The name is missing, and the description is no string.
+    let node = node_from_json(rt.alloc(), br#"{"description":true}"#)?;
+    let tag = Kind::Object(TableName::Tag);
+    let found = faults(rt.alloc(), tag, &node, &mut Steps::new(&rt))?;
+    assert_eq!(rt; found.len(), 2);
+    Ok(())
+}
+
+#[test]
+fn position_of_finds_a_line_and_a_column(rt: HostRuntime) -> Result<(), Fail> {
+    let text = "{\n  \"info\": {}\n}";
+    let place = [PlaceStep::Name(String::from_str(rt.alloc(), "info")?)];
+    let position = position_of(rt.alloc(), text.as_bytes(), &place)?;
+    let found = position.map(|it| (it.value.line, it.value.column));
+    assert_eq!(rt; found, Some((2, 11)));
+    Ok(())
+}
+
+/// Counts the operations of a document.
+#[derive(Drop)]
+struct Counter {
+    operations: usize,
+}
+
+impl Visitor for Counter {
+    type Error = AllocError;
+
+    fn operation(&mut self, _location: &str, _operation: &Operation) -> Result<(), AllocError> {
+        self.operations = self.operations.saturating_add(1);
+        Ok(())
+    }
+}
+
+fn count_operations(alloc: Global, document: &OpenAPI) -> Result<usize, AllocError> {
+    let mut counter = Counter { operations: 0 };
+    visit(alloc, document, &mut counter)?;
+    Ok(counter.operations)
+}
+
+#[test]
+fn visit_calls_a_method_for_each_operation(rt: HostRuntime) -> Result<(), Fail> {
+    let text =
+        r#"{"openapi":"3.0.3","info":{"title":"t","version":"1"},"paths":{"/a":{"get":{"responses":{}},"put":{"responses":{}}}}}"#;
+    let document: OpenAPI = from_json(rt.alloc(), text.as_bytes(), &mut Steps::new(&rt))?;
+    assert!(rt; count_operations(rt.alloc(), &document) == Ok(2));
+    Ok(())
+}
+
+fn title_of<'a>(
+    document: &'a OpenAPI,
+    item: &'a ReferenceOr<Schema>,
+) -> Result<Option<&'a str>, ResolveError> {
+    let schema: &Schema = document.resolve(item)?;
+    Ok(schema.schema_data.title.as_deref())
+}
+
+#[test]
+fn resolve_follows_a_reference(rt: HostRuntime) -> Result<(), Fail> {
+    let item = ReferenceOr::ref_(rt.alloc(), "#/components/schemas/Pet")?;
+    let text =
+        r#"{"openapi":"3.0.3","info":{"title":"t","version":"1"},"paths":{},"components":{"schemas":{"Pet":{"title":"A pet"}}}}"#;
+    let document: OpenAPI = from_json(rt.alloc(), text.as_bytes(), &mut Steps::new(&rt))?;
+    let found = title_of(&document, &item).ok();
+    assert_eq!(rt; found, Some(Some("A pet")));
+    Ok(())
+}
+
+#[test]
+fn ordered_map_keeps_the_order_of_insertion(rt: HostRuntime) -> Result<(), Fail> {
+    let mut map: OrderedMap<u64> = OrderedMap::new(rt.alloc());
+    map.insert(String::from_str(rt.alloc(), "b")?, 1)?;
+    map.insert(String::from_str(rt.alloc(), "a")?, 2)?;
+    map.insert(String::from_str(rt.alloc(), "b")?, 3)?;
+    assert_eq!(rt; map.len(), 2);
+    assert_eq!(rt; map.get("b").copied(), Some(3));
+    assert_eq!(rt; map.keys().next(), Some("b"));
+    Ok(())
+}

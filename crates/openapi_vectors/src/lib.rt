@@ -1,6 +1,6 @@
 //! Tests of what users name at the root of `openapiv3`, where they need code: values that are built, printed, compared,
-//! gone over or matched on, and the example of the README. What JSON text is cleaned to is tested by the files of
-//! `openapi_cases`.
+//! gone over or matched on, and the examples of the README and of doc comments. What JSON text is cleaned to is tested
+//! by the files of `openapi_cases`.
 #![tactic(auto)]
 
 #[cfg(test)]

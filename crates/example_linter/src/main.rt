@@ -33,7 +33,7 @@ fn check_id(
     Ok(true)
 }
 
-/// Whether an operation has tags, and the document declares all of them.
+/// Returns whether an operation has tags, and the document declares all of them.
 fn check_tags(
     rt: &HostRuntime,
     place: &str,

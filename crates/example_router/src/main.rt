@@ -12,7 +12,7 @@ use openapiv3::{OpenAPI, Steps, from_json};
 use std::env;
 use std::io::Read;
 
-/// The document that standard input holds.
+/// Returns the document that standard input holds.
 fn read(rt: &HostRuntime) -> Result<OpenAPI> {
     let mut bytes = Vec::new(rt.alloc());
     rt.reader().read_to_end(&mut bytes)?;

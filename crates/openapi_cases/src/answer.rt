@@ -30,7 +30,7 @@ pub enum Ask<'a> {
     Line(&'a Node),
 }
 
-/// The answer to a case.
+/// Returns the answer to a case.
 ///
 /// # Errors
 ///
@@ -102,7 +102,7 @@ pub fn told(rt: &HostRuntime, answer: Result<Node, Fault>) -> Result<String, Fai
     }
 }
 
-/// The same, where the command has an answer for the type.
+/// Returns the answer for a node or a fault, if the command has one for the type.
 fn told_if_known(rt: &HostRuntime, answer: Option<Result<Node, Fault>>) -> Result<String, Fail> {
     match answer {
         Some(answer) => told(rt, answer),
@@ -133,7 +133,7 @@ pub fn answer_line(rt: &HostRuntime, line: &str) -> Result<String, Fail> {
     }
 }
 
-/// What a type answers.
+/// Returns what a type answers.
 ///
 /// # Errors
 ///
@@ -171,7 +171,7 @@ fn cleaned<T: ToNode + Clone + PartialEq + Drop>(
     }
 }
 
-/// Whether a value equals its clone.
+/// Returns whether a value equals its clone.
 fn is_its_clone<T: Clone + PartialEq + Drop>(value: &T) -> Result<bool, Fail> {
     Ok(value.clone()? == *value)
 }
@@ -190,7 +190,7 @@ fn settled<T: ToNode + Drop>(rt: &HostRuntime, node: &Node) -> Result<String, Fa
     told(rt, T::settle(rt.alloc(), node, &mut steps))
 }
 
-/// Whether what is read of what was written is what was read at first.
+/// Returns whether what is read from what was written is what was read at first.
 fn again<T: ToNode + PartialEq + Drop>(rt: &HostRuntime, node: &Node) -> Result<String, Fail> {
     let mut steps = Steps::new(rt);
     let first = T::from_node(rt.alloc(), node, &mut steps)?;
@@ -203,7 +203,7 @@ fn again<T: ToNode + PartialEq + Drop>(rt: &HostRuntime, node: &Node) -> Result<
     Ok(String::from_str(rt.alloc(), same)?)
 }
 
-/// Nothing where the type follows a table, and else the first object that does not come out as it has to.
+/// Returns an empty text if the type follows a table, and else the first object with another result.
 fn follows<T: ToNode + Clone + PartialEq + Drop>(
     rt: &HostRuntime,
     rows: &[Row<'_>],

@@ -9,7 +9,7 @@ use openapiv3::{Node, OpenAPI, Operation, OrderedMap, ReferenceOr, Responses, Sc
 use std::alloc::{AllocError, Global};
 use std::test::Fail;
 
-/// What comes of a call that is made on no sample.
+/// Returns what comes of a call that is made on no sample.
 ///
 /// # Errors
 ///
@@ -26,7 +26,7 @@ pub fn alone(rt: &HostRuntime, call: &str) -> Result<Told, Fail> {
     }
 }
 
-/// What comes of a call that is made on a sample.
+/// Returns what comes of a call that is made on a sample.
 ///
 /// # Errors
 ///

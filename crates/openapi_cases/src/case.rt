@@ -18,7 +18,7 @@ pub struct Case<'a> {
 }
 
 impl<'a> Case<'a> {
-    /// A case without rows, of which nothing has to come.
+    /// Returns a case without rows, of which nothing has to come.
     fn new(alloc: Global, line: usize, request: &'a str) -> Case<'a> {
         Case {
             line,

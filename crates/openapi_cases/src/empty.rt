@@ -8,12 +8,12 @@ use openapiv3::{
 };
 use std::alloc::Global;
 
-/// What a value is written as.
+/// Returns what a value is written as.
 fn written<T: ToNode + Drop>(alloc: Global, value: T) -> Result<Node, Fault> {
     value.to_node(alloc)
 }
 
-/// What a new value is written as, by the name of its type, where it has one.
+/// Returns what a new value is written as, by the name of its type, if it has one.
 pub fn written_empty(rt: &HostRuntime, name: &str) -> Option<Result<Node, Fault>> {
     let alloc = rt.alloc();
     Some(match name {

@@ -16,10 +16,10 @@ use std::alloc::Global;
 
 /// What two functions read and write.
 trait ByFunctions: Drop {
-    /// What the one reads.
+    /// Reads a value by the first function.
     fn read(alloc: Global, node: &Node, steps: &mut Steps) -> Result<Self, Fault>;
 
-    /// What the other one writes.
+    /// Writes a value by the second function.
     fn write(&self, alloc: Global) -> Result<Node, Fault>;
 }
 

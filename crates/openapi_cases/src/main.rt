@@ -41,7 +41,7 @@ use std::test::Fail;
 use std::{env, fs};
 use told::Told;
 
-/// The words of the command line, the name of the program first.
+/// Returns the words of the command line, the name of the program first.
 fn words_of(rt: &HostRuntime) -> Result<Vec<String>, Fail> {
     let mut words = Vec::new(rt.alloc());
     for word in env::args(rt)? {
@@ -50,7 +50,7 @@ fn words_of(rt: &HostRuntime) -> Result<Vec<String>, Fail> {
     Ok(words)
 }
 
-/// What comes of the call that the words behind `memory` name.
+/// Returns what comes of the call that the words behind `memory` name.
 fn told_by(rt: &HostRuntime, words: &[String]) -> Result<Told, Fail> {
     match words {
         [call] => calls::alone(rt, call.as_str()),
@@ -79,7 +79,7 @@ fn answer_or_tell(rt: &HostRuntime, file: &str, case: &Case<'_>) -> Result<Strin
     }
 }
 
-/// Whether a case came out as it has to. If not, prints what came.
+/// Returns whether a case has the wanted answer. If not, it prints the answer.
 fn is_met(rt: &HostRuntime, file: &str, case: &Case<'_>) -> Result<bool, Fail> {
     let found = answer_or_tell(rt, file, case)?;
     if found.as_str() == case.wanted.as_str() {
@@ -93,7 +93,7 @@ fn is_met(rt: &HostRuntime, file: &str, case: &Case<'_>) -> Result<bool, Fail> {
     Ok(false)
 }
 
-/// Whether all cases of a file came out as they have to. Prints how many there are.
+/// Returns whether all cases of a file have the wanted answers, and prints how many there are.
 fn run_file(rt: &HostRuntime, file: &str) -> Result<bool, Fail> {
     let text = fs::read_to_string(rt, file)?;
     let cases = cases_of(rt.alloc(), text.as_str())?;
@@ -105,7 +105,7 @@ fn run_file(rt: &HostRuntime, file: &str) -> Result<bool, Fail> {
     Ok(all)
 }
 
-/// Whether all cases of all files came out as they have to.
+/// Returns success if all cases of all files have the wanted answers.
 fn run_files(rt: &HostRuntime, files: &[String]) -> Result<ExitCode, Fail> {
     let mut all = true;
     for file in files {

@@ -59,7 +59,7 @@ pub fn node_from_json(rt: &HostRuntime, text: &str) -> Result<Told, Fail> {
     })
 }
 
-/// What came of a call that refused JSON text.
+/// Returns what came of a call that refused JSON text.
 pub fn told_by_json_fault(fault: &JsonFault) -> Told {
     match fault {
         JsonFault::Memory => Told::OutOfMemory,
@@ -117,7 +117,7 @@ pub fn json_from_node_in_order(rt: &HostRuntime, text: &str) -> Result<Told, Fai
     Ok(told_by_text(rt, answer, &node)?.if_kept(&node, &before))
 }
 
-/// The same with a line for each item and each member.
+/// Does the same with a line for each item and each member.
 ///
 /// # Errors
 ///
@@ -133,7 +133,7 @@ pub fn pretty_from_node_in_order(rt: &HostRuntime, text: &str) -> Result<Told, F
     Ok(told_by_text(rt, answer, &node)?.if_kept(&node, &before))
 }
 
-/// The same with the members of each object in the order of their names. The node has them in that order already.
+/// Does the same with the members of each object in the order of their names. The node has them in that order already.
 ///
 /// # Errors
 ///
@@ -149,7 +149,7 @@ pub fn pretty_from_node(rt: &HostRuntime, text: &str) -> Result<Told, Fail> {
     Ok(told_by_text(rt, answer, &node)?.if_kept(&node, &before))
 }
 
-/// What came of a call that writes a node as JSON text.
+/// Returns what came of a call that writes a node as JSON text.
 fn told_by_text(
     rt: &HostRuntime,
     answer: Result<String, AllocError>,

@@ -105,7 +105,7 @@ pub fn locate(rt: &HostRuntime, sample: Sample) -> Result<Told, Fail> {
     })
 }
 
-/// What came of a call that located an error.
+/// Returns what came of a call that located an error.
 fn told_by_position(located: &LocatedError, wanted: &Option<Position>) -> Told {
     told_by_value(&located.position, wanted)
 }

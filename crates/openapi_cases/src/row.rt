@@ -29,7 +29,7 @@ pub enum Mode<'a> {
 }
 
 impl<'a> Mode<'a> {
-    /// The mode of a text.
+    /// Returns the mode of a text.
     fn of_text(text: &'a str) -> Option<Mode<'a>> {
         match text {
             "required" => Some(Mode::Required),
@@ -44,7 +44,7 @@ impl<'a> Mode<'a> {
         }
     }
 
-    /// The mode of a text of several words.
+    /// Returns the mode of a text of several words.
     fn of_words(text: &'a str) -> Option<Mode<'a>> {
         match text.split_once(' ')? {
             ("style", style) => Some(Mode::Style(style)),
@@ -71,8 +71,8 @@ pub struct Row<'a> {
 }
 
 impl<'a> Row<'a> {
-    /// The row of a line: name, mode, word and sample with ` | ` between two of them. Extensions have neither word nor
-    /// sample.
+    /// Returns the row of a line: name, mode, word and sample with ` | ` between two of them. Extensions have neither
+    /// word nor sample.
     ///
     /// # Errors
     ///

@@ -22,7 +22,7 @@ pub enum Sample {
 impl FromStr for Sample {
     type Err = &'static str;
 
-    /// The sample of a word.
+    /// Returns the sample of a word.
     fn from_str(word: &str) -> Result<Sample, &'static str> {
         match word {
             "schema" => Ok(Sample::Schema),

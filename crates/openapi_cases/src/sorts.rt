@@ -9,7 +9,7 @@ trait Tells {
     fn tell(&self, rt: &HostRuntime) -> Result<String, Fail>;
 }
 
-/// The word for the kind of a schema.
+/// Returns the word for the kind of a schema.
 fn word_of(kind: &SchemaKind) -> &'static str {
     match kind {
         SchemaKind::Typed(SchemaType::String(_)) => "string",
@@ -55,7 +55,7 @@ fn told<T: FromNode + Tells + Drop>(rt: &HostRuntime, node: &Node) -> Result<Str
     }
 }
 
-/// The kind that a schema is read as.
+/// Returns the kind that a schema is read as.
 ///
 /// # Errors
 ///
@@ -64,7 +64,7 @@ pub fn sort(rt: &HostRuntime, node: &Node) -> Result<String, Fail> {
     told::<Schema>(rt, node)
 }
 
-/// A line for each operation of a document: its method, its path, and its identifier where it has one.
+/// Returns a line for each operation of a document: its method, its path, and its identifier if it has one.
 ///
 /// # Errors
 ///

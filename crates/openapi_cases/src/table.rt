@@ -50,7 +50,7 @@ fn close(text: &mut String) -> Result<(), Fail> {
     Ok(())
 }
 
-/// The object with all rows in their order, but for others in the place of one.
+/// Returns the object with all rows in their order, but for others in the place of one.
 fn object_with(
     alloc: Global,
     rows: &[Row<'_>],
@@ -71,7 +71,7 @@ fn object_with(
     Ok(text)
 }
 
-/// The object with all rows in their order.
+/// Returns the object with all rows in their order.
 ///
 /// # Errors
 ///
@@ -80,7 +80,8 @@ pub fn full_object(alloc: Global, rows: &[Row<'_>]) -> Result<String, Fail> {
     object_with(alloc, rows, rows.len(), &[])
 }
 
-/// The object with a name that is not known first, then extensions, and then the rows from the last to the first.
+/// Returns the object with a name that is not known first, then extensions, and then the rows from the last to the
+/// first.
 fn turned_object(alloc: Global, rows: &[Row<'_>]) -> Result<String, Fail> {
     let mut text = String::new(alloc);
     put(&mut text, ("wat", "{\"x-y\":1}"))?;
@@ -94,8 +95,8 @@ fn turned_object(alloc: Global, rows: &[Row<'_>]) -> Result<String, Fail> {
     Ok(text)
 }
 
-/// Whether what is read without the row differs from what is read with it: where it may be left out, and its value is
-/// not the default.
+/// Returns whether what is read without the row differs from what is read with it: where it may be left out, and its
+/// value is not the default.
 fn tells_apart(row: &Row<'_>) -> bool {
     match row.mode {
         Mode::Required | Mode::OneOf | Mode::Either(_, _) | Mode::Fixed => false,
@@ -104,7 +105,7 @@ fn tells_apart(row: &Row<'_>) -> bool {
     }
 }
 
-/// The objects that lack one row, and are read as other values than the full one.
+/// Returns the objects that lack one row, and are read as other values than the full one.
 ///
 /// # Errors
 ///
@@ -119,8 +120,8 @@ pub fn other_objects(alloc: Global, rows: &[Row<'_>]) -> Result<Vec<String>, Fai
     Ok(others)
 }
 
-/// What has to come of the full object, of its rows in another order, and of each row that is left out, null or of
-/// another kind.
+/// Returns what has to come of the full object, of its rows in another order, and of each row that is left out, null or
+/// of another kind.
 ///
 /// # Errors
 ///
@@ -142,14 +143,14 @@ pub fn expected_of(alloc: Global, rows: &[Row<'_>]) -> Result<Vec<Expected>, Fai
 }
 
 impl Table<'_> {
-    /// That one object is cleaned to another.
+    /// Expects that one object is cleaned to another.
     fn cleans(&mut self, given: String, wanted: &str) -> Result<(), Fail> {
         let wanted = format!(in self.alloc; "= {wanted}\n")?;
         self.expected.push(Expected { given, wanted })?;
         Ok(())
     }
 
-    /// That the members in the place of a row are cleaned to others.
+    /// Expects that the members in the place of a row are cleaned to others.
     fn gives(
         &mut self,
         place: usize,
@@ -161,7 +162,7 @@ impl Table<'_> {
         self.cleans(given, wanted.as_str())
     }
 
-    /// That the members in the place of a row are refused with a text.
+    /// Expects that the members in the place of a row are refused with a text.
     fn refuses(&mut self, place: usize, given: &[Member<'_>], fault: &str) -> Result<(), Fail> {
         let given = object_with(self.alloc, self.rows, place, given)?;
         let wanted = format!(in self.alloc; "! {fault}\n")?;
@@ -169,7 +170,7 @@ impl Table<'_> {
         Ok(())
     }
 
-    /// That a row is refused where it has this value, since another kind is expected of it.
+    /// Expects that a row is refused if it has this value, since another kind is expected of it.
     fn refuses_kind(&mut self, place: usize, row: &Row<'_>, value: &str) -> Result<(), Fail> {
         let (name, word) = (row.name, row.word);
         let fault = format!(in self.alloc; "invalid type, expected {word} at #/{name}")?;
@@ -185,7 +186,7 @@ impl Table<'_> {
         self.cleans(full, same.as_str())
     }
 
-    /// A row that is left out.
+    /// Expects a row that is left out.
     fn expect_missing(&mut self, place: usize, row: &Row<'_>) -> Result<(), Fail> {
         let name = row.name;
         match row.mode {
@@ -206,7 +207,7 @@ impl Table<'_> {
         }
     }
 
-    /// A row that is null.
+    /// Expects a row that is null.
     fn expect_null(&mut self, place: usize, row: &Row<'_>) -> Result<(), Fail> {
         let null = [(row.name, "null")];
         match row.mode {
@@ -222,7 +223,7 @@ impl Table<'_> {
         }
     }
 
-    /// A row of another kind.
+    /// Expects a row of another kind.
     fn expect_kind(&mut self, place: usize, row: &Row<'_>) -> Result<(), Fail> {
         match (row.mode, row.word) {
             (Mode::Fixed, _) | (_, "any") => Ok(()),

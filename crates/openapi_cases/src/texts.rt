@@ -7,7 +7,7 @@ use openapiv3::{
 };
 use std::test::Fail;
 
-/// The answer of a line of text.
+/// Returns the answer of a line of text.
 ///
 /// # Errors
 ///
@@ -16,12 +16,12 @@ pub fn told(rt: &HostRuntime, text: &str) -> Result<String, Fail> {
     Ok(format!(in rt.alloc(); "= {text}\n")?)
 }
 
-/// The answer of a fault.
+/// Returns the answer of a fault.
 fn refused(rt: &HostRuntime, fault: &JsonFault) -> Result<String, Fail> {
     Ok(format!(in rt.alloc(); "! {fault}\n")?)
 }
 
-/// A node as compact JSON text, with the members of each object in their order.
+/// Returns a node as compact JSON text, with the members of each object in their order.
 ///
 /// # Errors
 ///
@@ -31,7 +31,7 @@ pub fn ordered_text(rt: &HostRuntime, node: &Node) -> Result<String, Fail> {
     Ok(json_from_node_in_order(rt.alloc(), node, &mut steps)?)
 }
 
-/// A node with a line for each item and each member.
+/// Returns a node with a line for each item and each member.
 fn pretty_text(rt: &HostRuntime, node: &Node) -> Result<String, Fail> {
     let mut steps = Steps::new(rt);
     Ok(pretty_from_node_in_order(rt.alloc(), node, &mut steps)?)
@@ -48,7 +48,8 @@ fn is_read_again(rt: &HostRuntime, node: &Node, text: &str) -> Result<bool, Fail
     Ok(again.as_str() == text)
 }
 
-/// JSON text to a node and back, by name. The pretty text by name has to be read as the same, in that order.
+/// Reads JSON text as a node, and writes it again, by name. The pretty text by name has to be read as the same, in that
+/// order.
 ///
 /// # Errors
 ///
@@ -97,7 +98,7 @@ pub fn in_order(rt: &HostRuntime, text: &str) -> Result<String, Fail> {
     }
 }
 
-/// What is written in order of the node that is read in order of a text.
+/// Returns what is written in order of the node that is read in order of a text.
 fn again(rt: &HostRuntime, text: &str) -> Result<String, Fail> {
     match node_from_json_in_order(rt.alloc(), text.as_bytes()) {
         Ok(node) => told(rt, ordered_text(rt, &node)?.as_str()),
@@ -105,7 +106,7 @@ fn again(rt: &HostRuntime, text: &str) -> Result<String, Fail> {
     }
 }
 
-/// JSON text to a node and back, with a line for each item and each member.
+/// Reads JSON text as a node, and writes it again, with a line for each item and each member.
 ///
 /// # Errors
 ///

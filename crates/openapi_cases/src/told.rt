@@ -12,12 +12,12 @@ pub enum Told {
     Answered,
     /// It reported an allocation failure, by that cause and the empty location.
     OutOfMemory,
-    /// It did neither, or what it was lent is not as it was: what differs.
+    /// It did neither, or a value that it borrowed is not as it was: what differs.
     Differs(&'static str),
 }
 
 impl Told {
-    /// What the process ends with.
+    /// Returns what the process ends with.
     pub fn exit_code(self) -> ExitCode {
         match self {
             Told::Answered | Told::OutOfMemory => ExitCode::SUCCESS,
@@ -25,7 +25,7 @@ impl Told {
         }
     }
 
-    /// The same, where what the call was lent is as it was before.
+    /// Returns the same if the value that the call borrowed is as it was before.
     pub fn if_kept<T: PartialEq>(self, lent: &T, before: &T) -> Told {
         if lent == before {
             self
@@ -45,7 +45,7 @@ impl fmt::Display for Told {
     }
 }
 
-/// What came of a call that gave a value.
+/// Returns what came of a call that gave a value.
 pub fn told_by_value<T: PartialEq>(value: &T, wanted: &T) -> Told {
     if value == wanted {
         Told::Answered
@@ -54,7 +54,7 @@ pub fn told_by_value<T: PartialEq>(value: &T, wanted: &T) -> Told {
     }
 }
 
-/// What came of a call that gave a fault.
+/// Returns what came of a call that gave a fault.
 pub fn told_by_fault(fault: &Fault) -> Told {
     if fault.cause != Cause::Memory {
         Told::Differs("the fault has another cause")
@@ -65,7 +65,7 @@ pub fn told_by_fault(fault: &Fault) -> Told {
     }
 }
 
-/// What came of a call that gives a value or a fault.
+/// Returns what came of a call that gives a value or a fault.
 pub fn told_by<T: PartialEq + Drop>(answer: Result<T, Fault>, wanted: &T) -> Told {
     match answer {
         Ok(value) => told_by_value(&value, wanted),

@@ -10,7 +10,7 @@ use openapiv3::{
 };
 use std::test::Fail;
 
-/// What comes of a call that is made on a sample, which is read as a `T`.
+/// Returns what comes of a call that is made on a sample, which is read as a `T`.
 ///
 /// # Errors
 ///

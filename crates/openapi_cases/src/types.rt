@@ -14,7 +14,7 @@ use openapiv3::{
 };
 use std::test::Fail;
 
-/// What the type of a name answers.
+/// Returns what the type of a name answers.
 ///
 /// # Errors
 ///

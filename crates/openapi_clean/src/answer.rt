@@ -76,7 +76,7 @@ fn line(
     text
 }
 
-/// The lines of what is read as a `T`.
+/// Returns the lines of what is read as a `T`.
 fn lines_of_object<T: Lines + Drop>(
     alloc: Global,
     node: Node,
@@ -100,7 +100,7 @@ trait Lines: FromNode {
     /// The lines of what has a form.
     ghost lines_of_form: { Form → List ℕ };
 
-    /// The lines of the object.
+    /// Returns the lines of the object.
     fn lines(&self, alloc: Global) -> Result<String, RunFault>
         ensures ok { IfOk result (λ text. string_bytes text ≡ lines_of_form (Self.form_of self.now)) }
         ensures err { IfErr result (λ e. e ≡ RunFault.Memory) };
@@ -109,7 +109,7 @@ trait Lines: FromNode {
 impl Lines for OpenAPI {
     ghost lines_of_form = { λ f. lines_of (ops f) };
 
-    /// A line for each operation: its method, a space, its path.
+    /// Returns a line for each operation: its method, a space, its path.
     fn lines(&self, alloc: Global) -> Result<String, RunFault> {
         let mut text = String::new(alloc);
         for (path, method, _) in self.operations() {

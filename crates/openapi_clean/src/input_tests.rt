@@ -178,7 +178,7 @@ fn full_writers_fail(rt: HostRuntime) -> Result<(), Fail> {
     Ok(())
 }
 
-/// A tag without unknown names whose name has that many letters.
+/// Returns a tag without unknown names whose name has that many letters.
 fn long_tag(rt: &HostRuntime, length: usize) -> Result<Vec<u8>, Fail> {
     let mut bytes = Vec::new(rt.alloc());
     bytes.extend_from_slice(b"{\"name\":\"")?;

@@ -21,8 +21,8 @@ use run::run;
 use std::process::ExitCode;
 use std::{env, io};
 
-/// The words of the command line, the name of the program first. A word that is not UTF-8 is in no command, and leaves
-/// no words.
+/// Returns the words of the command line, the name of the program first. A word that is not UTF-8 is in no command, and
+/// leaves no words.
 fn words_of(rt: &HostRuntime) -> Result<Vec<String>, RunFault> {
     let mut words = Vec::new(rt.alloc());
     match env::args(rt) {

@@ -26,7 +26,7 @@ macro_rules! take_each {
 }
 
 impl<T: Drop> Methods<T> {
-    /// Nothing under any method.
+    /// Creates the value in which no method has one.
     pub(crate) fn none() -> Methods<T>
         ensures { NoneStands result }
     {

@@ -152,7 +152,7 @@ pub(crate) fn path_item_with(
     }
 }
 
-/// An operation of its parts.
+/// Returns an operation made from its parts.
 pub(crate) fn joined_operation(
     texts: OperationTexts,
     settings: OperationSettings,
@@ -179,7 +179,7 @@ pub(crate) fn joined_operation(
     }
 }
 
-/// A path item of its parts.
+/// Returns a path item made from its parts.
 pub(crate) fn joined_path_item(beside: PathItemValues, methods: Methods<Operation>) -> PathItem
     ensures { path_item_fields result ≡ path_item_joined beside methods }
 {

@@ -141,7 +141,7 @@ fn operation_of(alloc: Global, members: &Members, steps: &mut Steps) -> Result<O
     Ok(joined_operation(texts, settings, callbacks, extensions, messages))
 }
 
-/// The callbacks of an operation, by their names; none where `callbacks` is missing.
+/// Reads the callbacks of an operation, by their names; there are none if `callbacks` is missing.
 #[cycle(read)]
 fn read_callbacks(
     alloc: Global,
@@ -160,7 +160,7 @@ fn read_callbacks(
     }
 }
 
-/// The callbacks and references among the members of an object, in order.
+/// Reads the callbacks and references among the members of an object, in order.
 #[cycle(read)]
 fn callbacks_of(
     alloc: Global,
@@ -229,7 +229,7 @@ fn callback_of(alloc: Global, members: &Members, steps: &mut Steps) -> Result<Ca
     Ok(Callback { paths, extensions })
 }
 
-/// The path items of a callback: the members whose names do not begin with `x-`, in order.
+/// Reads the path items of a callback: the members whose names do not begin with `x-`, in order.
 #[cycle(read)]
 fn read_requests(
     alloc: Global,

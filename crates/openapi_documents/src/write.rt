@@ -33,7 +33,7 @@ pub(crate) fn write_path_item(alloc: Global, path_item: &PathItem) -> Result<Nod
     whole_object(path_item_members(alloc, path_item))
 }
 
-/// The members that a path item is written as.
+/// Returns the members that a path item is written as.
 #[cycle(write)]
 fn path_item_members(alloc: Global, path_item: &PathItem) -> Result<Members>
     ensures { RowsWritten (path_item_slots path_item.now) result }
@@ -94,7 +94,7 @@ pub(crate) fn write_operation(alloc: Global, operation: &Operation) -> Result<No
     whole_object(operation_members(alloc, operation))
 }
 
-/// The members that an operation is written as.
+/// Returns the members that an operation is written as.
 #[cycle(write)]
 fn operation_members(alloc: Global, operation: &Operation) -> Result<Members>
     ensures { RowsWritten (operation_slots operation.now) result }
@@ -154,7 +154,7 @@ pub(crate) fn write_callback(alloc: Global, callback: &Callback) -> Result<Node>
     whole_object(callback_members(alloc, callback))
 }
 
-/// The members that a callback is written as.
+/// Returns the members that a callback is written as.
 #[cycle(write)]
 fn callback_members(alloc: Global, callback: &Callback) -> Result<Members>
     ensures { RowsWritten (callback_slots callback.now) result }
@@ -164,7 +164,7 @@ fn callback_members(alloc: Global, callback: &Callback) -> Result<Members>
     Ok(out)
 }
 
-/// The members that the path items of a callback are written as. Err also at a name that begins with `x-`.
+/// Returns the members that the path items of a callback are written as. A name that begins with `x-` is an error, too.
 #[cycle(write)]
 fn request_members(alloc: Global, callback: &Callback) -> Result<Members>
     ensures ok { IfOk result (λ out. IsWritten final_tables (through (is_class kinds.callback_names)

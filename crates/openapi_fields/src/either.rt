@@ -32,21 +32,21 @@ pub enum Either<A, B> {
     Second(B),
 }
 
-/// Whether two names are the same.
+/// Returns whether two names are the same.
 fn is_same(a: &str, b: &str) -> bool
     ensures { result ≡ same_text a.now b.now }
 {
     a == b
 }
 
-/// Whether a name is one of two.
+/// Returns whether a name is one of two.
 fn is_one_of(first: &str, second: &str, name: &str) -> bool
     ensures { result ≡ is_either first.now second.now name.now }
 {
     is_same(first, name) || is_same(second, name)
 }
 
-/// The first of the members that have one of two names.
+/// Returns the first of the members that have one of two names.
 fn first_of_two<'a>(members: &'a Members, first: &str, second: &str) -> Option<(&'a str, &'a Node)>
     ensures { option_map deref_pair result ≡ slice_get (chosen (is_either first.now second.now) members.now) 0 }
 {

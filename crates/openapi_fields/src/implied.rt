@@ -34,7 +34,7 @@ pub trait Implied: FromNode {
     fn implied(alloc: Global) -> Self
         ensures { Self.form_of result ≡ default_of mode Self.kind };
 
-    /// Whether the value is left out where it is written.
+    /// Returns whether the value is left out where it is written.
     fn is_left_out(&self) -> bool
         ensures { result ≡ is_silent mode (Self.form_of self.now) };
 

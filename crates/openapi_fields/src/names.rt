@@ -10,7 +10,7 @@ pub trait Names {
     /// The test.
     ghost test: { List ℕ → Bool };
 
-    /// Whether a name is in the set.
+    /// Returns whether a name is in the set.
     fn contains(name: &str) -> bool
         ensures { result ≡ test name.now };
 }

@@ -20,7 +20,7 @@ pub fn at_name<T>(alloc: Global, name: &str, read: Result<T>) -> Result<T>
     }
 }
 
-/// What was read at the element of an index, seen from the list.
+/// Returns what was read at the element of an index, with a location from the list.
 pub(crate) fn at_index<T>(alloc: Global, index: usize, read: Result<T>) -> Result<T>
     ensures { AtStep (indexed index) read result }
 {

@@ -13,7 +13,7 @@ use crate::presence::{as_member, present_view};
 use openapi_node::{Cause, Fault, Members, Node, Result, Steps, find_member};
 use std::alloc::Global;
 
-/// The member of a name, where it is there.
+/// Reads the member of a name, if it exists.
 pub(crate) fn found<T: FromNode>(
     alloc: Global,
     members: &Members,
@@ -30,7 +30,7 @@ pub(crate) fn found<T: FromNode>(
     as_member(alloc, name, T::from_node(alloc, node, steps))
 }
 
-/// The member of a name, where it is there and not null.
+/// Reads the member of a name, unless it is missing or null.
 fn present<T: FromNode>(
     alloc: Global,
     members: &Members,

@@ -52,7 +52,7 @@ pub fn node_from_json_in_order(alloc: Global, bytes: &[u8]) -> Result<Node, Json
     }
 }
 
-/// The value of a whole text.
+/// Reads the value of a whole text.
 pub(crate) fn read_value<'a>(
     alloc: Global,
     text: &'a str,
@@ -109,7 +109,7 @@ pub(crate) fn node_of(
     }
 }
 
-/// The nodes of the values of an array.
+/// Returns the nodes of the values of an array.
 #[cycle(make)]
 fn nodes_of(
     alloc: Global,
@@ -127,7 +127,7 @@ fn nodes_of(
     Ok(nodes)
 }
 
-/// The members of an object, of one name the last in the place of the first.
+/// Returns the members of an object, of one name the last in the place of the first.
 #[cycle(make)]
 fn members_of(
     alloc: Global,

@@ -30,7 +30,7 @@ pub(crate) enum Members {
 }
 
 impl Members {
-    /// No members.
+    /// Creates a value without members.
     pub(crate) fn new(alloc: Global) -> Members
         ensures none { entries_in result ≡ [] }
         ensures order { IsInOrder result }
@@ -38,7 +38,7 @@ impl Members {
         Members::Few(Vec::new(alloc))
     }
 
-    /// The members with one more, which takes the place of one of its name.
+    /// Returns the members with one more, which takes the place of one of its name.
     pub(crate) fn with(self, alloc: Global, name: String, node: Node) -> Result<Members, AllocError>
         requires { IsInOrder self }
         ensures entries { IfOk result (λ m. entries_in m
@@ -69,7 +69,7 @@ impl Members {
         }
     }
 
-    /// The members in a map, in the order of their names.
+    /// Returns the members in a map, in the order of their names.
     pub(crate) fn into_map(self, alloc: Global) -> Result<OrderedMap<Node>, AllocError>
         requires { IsInOrder self }
         ensures { IfOk result (λ m. m ≡ entries_in self) }
@@ -82,7 +82,7 @@ impl Members {
     }
 }
 
-/// Whether a name is above the last one.
+/// Returns whether a name is above the last one.
 fn goes_last(members: &OrderedMap<Node>, name: &str) -> bool
     ensures { IsTrue result → Ascends members.now → AllBelow name.now members.now }
 {
@@ -108,7 +108,7 @@ fn by_name(alloc: Global, members: OrderedMap<Node>) -> Result<BTreeMap<String, 
     Ok(out)
 }
 
-/// Members by their names, in a map that keeps that order.
+/// Returns members by their names, in a map that keeps that order.
 fn in_order(alloc: Global, members: BTreeMap<String, Node>) -> Result<OrderedMap<Node>, AllocError>
     ensures same { IfOk result (λ m. m ≡ map owned_entry members.entries) }
     ensures order { IfOk result Ascends }

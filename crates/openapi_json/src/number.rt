@@ -7,7 +7,7 @@ ghost use Rattle.openapi_json.specs.Ordered.{holds_whole, writes_whole};
 use fast_float::Numeral;
 use openapi_node::Whole;
 
-/// Whether the text of a number begins with a minus.
+/// Returns whether the text of a number begins with a minus.
 fn has_minus(bytes: &[u8]) -> bool
     ensures value { result ≡ (slice_index bytes.now 0 == 45) }
     ensures len { IsTrue result → 0 < length bytes.now }
@@ -15,7 +15,7 @@ fn has_minus(bytes: &[u8]) -> bool
     !bytes.is_empty() && bytes[0] == b'-'
 }
 
-/// A number with no sign.
+/// Returns a number without a sign.
 fn natural(numeral: &Numeral<'_>) -> Option<Whole>
     ensures some { IfSome result (λ w. number_from false numeral.now ≡ Some (of_integer w)) }
     ensures none { result ≡ None → holds_whole (number_from false numeral.now) ≡ false }
@@ -39,7 +39,7 @@ fn below_zero(numeral: &Numeral<'_>) -> Option<Whole>
     None
 }
 
-/// The whole number that a token of JSON writes, where it writes one as `serde_json` reads it.
+/// Returns the whole number that a token of JSON writes, if it writes one as `serde_json` reads it.
 pub(crate) fn whole_of(text: &str) -> Option<Whole>
     ensures some { IfSome result (λ w. number_of text.now ≡ Some (of_integer w)) }
     ensures none { result ≡ None → writes_whole text.now ≡ false }

@@ -95,7 +95,7 @@ fn item<'v, 'a>(values: &'v [Value<'a>], index: usize) -> Option<Inside<'v, 'a>>
     })
 }
 
-/// How many tokens a value has.
+/// Returns how many tokens a value has.
 #[cycle(count)]
 fn count(value: &Value<'_>) -> usize
     requires { length (json_tokens (value_view value.now)) < 2 ^ 64 }
@@ -108,7 +108,7 @@ fn count(value: &Value<'_>) -> usize
     }
 }
 
-/// How many tokens the values of an array have.
+/// Returns how many tokens the values of an array have.
 #[cycle(count)]
 fn count_items(values: &[Value<'_>]) -> usize
     requires { length (flat item_tokens values.now) < 2 ^ 64 }
@@ -121,7 +121,7 @@ fn count_items(values: &[Value<'_>]) -> usize
     sum
 }
 
-/// How many tokens the members of an object have.
+/// Returns how many tokens the members of an object have.
 #[cycle(count)]
 fn count_members(members: &[(&str, Value<'_>)]) -> usize
     requires { length (flat member_tokens members.now) < 2 ^ 64 }

@@ -48,7 +48,7 @@ pub fn pretty_from_node(alloc: Global, node: &Node, steps: &mut Steps) -> Result
     spread(alloc, text.as_str())
 }
 
-/// A JSON text with a line for each item and each member.
+/// Returns a JSON text with a line for each item and each member.
 fn spread(alloc: Global, text: &str) -> Result<String, AllocError>
     requires { AreGood (tokens text.now) }
     ensures text { IfOk result (λ s. string_bytes s ≡ pretty (tokens text.now)) }

@@ -14,8 +14,8 @@ use std::alloc::Global;
 /// How deep arrays and objects may nest, as for `serde_json`.
 pub(crate) const MAX_DEPTH: usize = 127;
 
-/// The node of bytes that are JSON text whose numbers are whole, with the members of each object in the order of their
-/// names, and of one name the last. It answers [`Unread::Other`] for other bytes, and does not find out why.
+/// Reads the node of bytes that are JSON text whose numbers are whole, with the members of each object in the order of
+/// their names, and of one name the last. It returns [`Unread::Other`] for other bytes, and does not find out why.
 pub(crate) fn read_bytes(alloc: Global, bytes: &[u8]) -> Result<Node, Unread>
     ensures { IfOk result (IsTreeOfText bytes.now) }
 {
@@ -26,7 +26,7 @@ pub(crate) fn read_bytes(alloc: Global, bytes: &[u8]) -> Result<Node, Unread>
     read_all(alloc, text, &mut scratch)
 }
 
-/// The node that a whole text is.
+/// Reads the node that a whole text is.
 fn read_all(alloc: Global, text: &str, scratch: &mut Scratch) -> Result<Node, Unread>
     ensures { IfOk result (IsTreeOfText text.now) }
 {

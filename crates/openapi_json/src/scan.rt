@@ -16,7 +16,7 @@ pub(crate) enum Mode {
     Escape,
 }
 
-/// Whether a token begins at a byte.
+/// Returns whether a token begins at a byte.
 pub(crate) fn begins_token(mode: Mode, byte: u8) -> bool
     ensures { result ≡ begins (mode_of mode) (class byte) byte }
 {
@@ -28,7 +28,7 @@ pub(crate) fn begins_token(mode: Mode, byte: u8) -> bool
     }
 }
 
-/// The mode behind a byte.
+/// Returns the mode behind a byte.
 pub(crate) fn mode_after(mode: Mode, byte: u8) -> Mode
     ensures { mode_of result ≡ next_mode (mode_of mode) (class byte) }
 {

@@ -65,7 +65,7 @@ pub fn json_from_node_in_order(
     text_of(alloc, node, Order::AsTheyStand, steps)
 }
 
-/// The compact JSON text of a node, with its members in an order.
+/// Returns the compact JSON text of a node, with its members in an order.
 pub(crate) fn text_of(
     alloc: Global,
     node: &Node,
@@ -122,7 +122,7 @@ fn may_stand(members: &OrderedMap<Node>, order: Order) -> bool
     }
 }
 
-/// The members of an object in the order of their names.
+/// Returns the members of an object in the order of their names.
 fn by_name<'a>(
     alloc: Global,
     members: &'a OrderedMap<Node>,

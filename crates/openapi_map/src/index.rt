@@ -132,7 +132,7 @@ fn move_links(links: &mut Vec<usize>, place: usize, before: usize)
     }
 }
 
-/// The bucket of a name. Of a hash it takes as many low bits as number the buckets, which are a power of two.
+/// Returns the bucket of a name. Of a hash it takes as many low bits as number the buckets, which are a power of two.
 fn bucket_of(name: &str, buckets: usize) -> usize
     requires { 0 < buckets }
     ensures is { result ≡ bucket buckets name.now }

@@ -333,7 +333,7 @@ impl<V> OrderedMap<V> {
         }
     }
 
-    /// The value at a place, counted from 0, which can be written.
+    /// Returns a mutable borrow of the value at a place, which counts from 0.
     fn value_at(&mut self, place: usize) -> &mut V
         requires { place < length self.old }
         ensures* writes_back { sem 𝓛 (lends_place V.row self.entry place result) }

@@ -58,7 +58,7 @@ pub(crate) enum Finder {
     Many(Box<NameIndex>),
 }
 
-/// The mark of a name, by its length and its first byte.
+/// Returns the mark of a name, by its length and its first byte.
 fn mark_of(name: &str) -> usize
     ensures is { result ≡ mark name.now }
     ensures within { result < 64 }
@@ -72,14 +72,14 @@ fn mark_of(name: &str) -> usize
     (bytes.len() + 8 * first) % 64
 }
 
-/// Whether some name may have the mark of this one.
+/// Returns whether some name may have the mark of this one.
 fn has_mark(marks: u64, name: &str) -> bool
     ensures { result ≡ (bit_at marks (mark name.now) == 1) }
 {
     (marks >> mark_of(name)) & 1 == 1
 }
 
-/// The marks with that of one more name.
+/// Returns the marks with that of one more name.
 fn with_mark(marks: u64, name: &str) -> u64
     ensures { result ≡ bit_or marks (2 ^ mark name.now) }
 {
@@ -122,7 +122,7 @@ fn place_along(names: &Vec<String>, name: &str) -> Option<usize>
     names.iter().position(|other| is_name(other, name))
 }
 
-/// Whether two names are the same. Most differ in length.
+/// Returns whether two names are the same. Most differ in length.
 pub(crate) fn is_name(name: &String, other: &str) -> bool
     ensures { result ≡ bytes_eq other.now (string_bytes name.now) }
 {

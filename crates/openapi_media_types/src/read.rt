@@ -127,7 +127,7 @@ fn read_content(alloc: Global, view: &View<'_>, steps: &mut Steps) -> Result<Con
     }
 }
 
-/// The media types among the members of an object, in order.
+/// Reads the media types among the members of an object, in order.
 #[cycle(read)]
 fn media_types_of(alloc: Global, members: &Members, steps: &mut Steps) -> Result<Content>
     ensures reads { ReadAs (map_form media_type_form) result content
@@ -188,7 +188,7 @@ fn media_type_of(alloc: Global, members: &Members, steps: &mut Steps) -> Result<
     })
 }
 
-/// The encodings of a media type, by the names of properties; none where `encoding` is missing.
+/// Reads the encodings of a media type, by the names of properties; there are none if `encoding` is missing.
 #[cycle(read)]
 fn read_encodings(
     alloc: Global,
@@ -207,7 +207,7 @@ fn read_encodings(
     }
 }
 
-/// The encodings among the members of an object, in order.
+/// Reads the encodings among the members of an object, in order.
 #[cycle(read)]
 fn encodings_of(alloc: Global, members: &Members, steps: &mut Steps) -> Result<OrderedMap<Encoding>>
     ensures reads { ReadAs (map_form encoding_form) result (kinds.map_of (kinds.by kinds.encoding))
@@ -266,7 +266,7 @@ fn encoding_of(alloc: Global, members: &Members, steps: &mut Steps) -> Result<En
     })
 }
 
-/// The headers of an encoding, by their names; none where `headers` is missing.
+/// Reads the headers of an encoding, by their names; there are none if `headers` is missing.
 #[cycle(read)]
 fn read_headers(
     alloc: Global,
@@ -286,7 +286,7 @@ fn read_headers(
     }
 }
 
-/// The headers and references among the members of an object, in order.
+/// Reads the headers and references among the members of an object, in order.
 #[cycle(read)]
 fn headers_of(
     alloc: Global,

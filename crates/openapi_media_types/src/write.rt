@@ -44,7 +44,7 @@ pub(crate) fn write_header(alloc: Global, header: &Header) -> Result<Node>
     whole_object(header_members(alloc, header))
 }
 
-/// The members that a header is written as.
+/// Returns the members that a header is written as.
 #[cycle(write)]
 fn header_members(alloc: Global, header: &Header) -> Result<Members>
     ensures { RowsWritten (header_slots header.now) result }
@@ -114,7 +114,7 @@ pub(crate) fn write_media_type(alloc: Global, media_type: &MediaType) -> Result<
     whole_object(media_type_members(alloc, media_type))
 }
 
-/// The members that a media type is written as.
+/// Returns the members that a media type is written as.
 #[cycle(write)]
 fn media_type_members(alloc: Global, media_type: &MediaType) -> Result<Members>
     ensures { RowsWritten (media_type_slots media_type.now) result }
@@ -164,7 +164,7 @@ pub(crate) fn write_encoding(alloc: Global, encoding: &Encoding) -> Result<Node>
     whole_object(encoding_members(alloc, encoding))
 }
 
-/// The members that an encoding is written as.
+/// Returns the members that an encoding is written as.
 #[cycle(write)]
 fn encoding_members(alloc: Global, encoding: &Encoding) -> Result<Members>
     ensures { RowsWritten (encoding_slots encoding.now) result }

@@ -31,7 +31,7 @@ impl Node {
     }
 }
 
-/// The number, where it fits an `i64` or a `u64`.
+/// Returns the number, or `None` if it fits neither an `i64` nor a `u64`.
 fn read_whole(number: &Number) -> Option<Whole>
     ensures { result ≡ as_integer (number_view number.now) }
 {
@@ -44,7 +44,7 @@ fn read_whole(number: &Number) -> Option<Whole>
     }
 }
 
-/// A node of a copy of the text.
+/// Returns a node with a copy of the text.
 fn read_text(alloc: Global, text: &String) -> Result<Node>
     ensures ok { IfOk result (λ n. n ≡ text_tree (string_bytes text.now)) }
     ensures err { IfErr result IsMemory }

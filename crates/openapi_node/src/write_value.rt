@@ -39,7 +39,7 @@ impl Node {
     }
 }
 
-/// The number as `serde_json` keeps it.
+/// Returns the number as `serde_json` keeps it.
 fn write_whole(whole: Whole) -> Value
     ensures { view result ≡ number (of_integer whole) }
 {

@@ -14,7 +14,7 @@ use openapi_node::{Members, Node, Result};
 use openapi_values::Word;
 use std::alloc::Global;
 
-/// The place that a parameter is in.
+/// Returns the place that a parameter is in.
 fn location(value: &Parameter) -> ParameterLocation
     ensures { parameter_location_word result ≡ parameter_word value.now }
 {

@@ -95,7 +95,7 @@ fn clone_schema(schema: &Schema) -> Result<Schema, AllocError>
     })
 }
 
-/// A kind of the same sort.
+/// Clones a kind of the same sort.
 #[cycle(clone)]
 fn clone_kind(kind: &SchemaKind) -> Result<SchemaKind, AllocError>
     ensures { IfOk result (λ k. schema_kind_rows k ≡ schema_kind_rows kind.now) }
@@ -118,7 +118,7 @@ fn clone_kind(kind: &SchemaKind) -> Result<SchemaKind, AllocError>
     }
 }
 
-/// A type of the same sort.
+/// Clones a type of the same sort.
 #[cycle(clone)]
 fn clone_type(typ: &SchemaType) -> Result<SchemaType, AllocError>
     ensures { IfOk result (λ y. schema_type_rows y ≡ schema_type_rows typ.now) }
@@ -133,7 +133,7 @@ fn clone_type(typ: &SchemaType) -> Result<SchemaType, AllocError>
     }
 }
 
-/// A schema of objects, field by field.
+/// Clones a schema of objects, field by field.
 #[cycle(clone)]
 fn clone_object(typ: &ObjectType) -> Result<ObjectType, AllocError>
     ensures { IfOk result (λ x. object_fields x ≡ object_fields typ.now) }
@@ -147,7 +147,7 @@ fn clone_object(typ: &ObjectType) -> Result<ObjectType, AllocError>
     })
 }
 
-/// A schema of arrays, field by field.
+/// Clones a schema of arrays, field by field.
 #[cycle(clone)]
 fn clone_array(typ: &ArrayType) -> Result<ArrayType, AllocError>
     ensures { IfOk result (λ x. array_fields x ≡ array_fields typ.now) }
@@ -160,7 +160,7 @@ fn clone_array(typ: &ArrayType) -> Result<ArrayType, AllocError>
     })
 }
 
-/// A schema of no sort in particular, in two halves.
+/// Clones a schema of no sort in particular, in two halves.
 #[cycle(clone)]
 fn clone_any(any: &AnySchema) -> Result<AnySchema, AllocError>
     ensures { IfOk result (λ x. any_fields x ≡ any_fields any.now) }
@@ -171,7 +171,7 @@ fn clone_any(any: &AnySchema) -> Result<AnySchema, AllocError>
     Ok(any_of_names(*any.enumeration.allocator(), first, last, enumeration))
 }
 
-/// What a schema of no sort in particular has under the first twelve names, field by field.
+/// Clones what a schema of no sort in particular has under the first twelve names, field by field.
 #[cycle(clone)]
 fn clone_first(any: &AnySchema) -> Result<FirstNames, AllocError>
     ensures { IfOk result (λ a. any_first_rows a ≡ take 12 (any_fields any.now)) }
@@ -195,7 +195,7 @@ fn clone_first(any: &AnySchema) -> Result<FirstNames, AllocError>
     })
 }
 
-/// What it has under the last twelve names but for the enumeration, field by field.
+/// Clones what it has under the last twelve names, except for the enumeration, field by field.
 #[cycle(clone)]
 fn clone_last(any: &AnySchema) -> Result<LastNames<'static>, AllocError>
     ensures { IfOk result (λ b. any_last_rows (list_form leaf (out-AnySchema any.now).enumeration) b
@@ -220,7 +220,7 @@ fn clone_last(any: &AnySchema) -> Result<LastNames<'static>, AllocError>
     })
 }
 
-/// A schema, or a reference with the same text.
+/// Clones a schema, or a reference with the same text.
 #[cycle(clone)]
 fn clone_ref(value: &ReferenceOr<Schema>) -> Result<ReferenceOr<Schema>, AllocError>
     ensures { IfOk result (λ r. ref_form r ≡ ref_form value.now) }
@@ -233,7 +233,7 @@ fn clone_ref(value: &ReferenceOr<Schema>) -> Result<ReferenceOr<Schema>, AllocEr
     }
 }
 
-/// The same, with the schema in a box.
+/// Clones a schema in a box, or a reference with the same text.
 #[cycle(clone)]
 fn clone_boxed(value: &ReferenceOr<Box<Schema>>) -> Result<ReferenceOr<Box<Schema>>, AllocError>
     ensures { IfOk result (λ r. inner_box_form r ≡ inner_box_form value.now) }
@@ -250,7 +250,7 @@ fn clone_boxed(value: &ReferenceOr<Box<Schema>>) -> Result<ReferenceOr<Box<Schem
     }
 }
 
-/// The same, in a box.
+/// Clones a schema or a reference, in a box.
 #[cycle(clone)]
 fn clone_in_box(value: &Box<ReferenceOr<Schema>>) -> Result<Box<ReferenceOr<Schema>>, AllocError>
     ensures { IfOk result (λ b. outer_box_form b ≡ outer_box_form value.now) }
@@ -288,7 +288,7 @@ fn clone_properties(
     Ok(clones)
 }
 
-/// A schema in a box or a reference, where there is one.
+/// Clones a schema in a box or a reference, if there is one.
 #[cycle(clone)]
 fn clone_items(
     value: &Option<ReferenceOr<Box<Schema>>>,
@@ -301,7 +301,7 @@ fn clone_items(
     }
 }
 
-/// A schema or a reference in a box, where there is one.
+/// Clones a schema or a reference in a box, if there is one.
 #[cycle(clone)]
 fn clone_not(
     value: &Option<Box<ReferenceOr<Schema>>>,
@@ -327,7 +327,7 @@ fn clone_if_additional(
     }
 }
 
-/// A flag, or a schema or a reference.
+/// Clones a flag, or a schema or a reference.
 #[cycle(clone)]
 fn clone_additional(value: &AdditionalProperties) -> Result<AdditionalProperties, AllocError>
     ensures { IfOk result (λ a. additional_form a ≡ additional_form value.now) }

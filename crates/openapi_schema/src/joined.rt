@@ -25,7 +25,7 @@ use openapi_schema_types::SchemaData;
 use openapi_values::ReferenceOr;
 use std::alloc::Global;
 
-/// The kind of a schema, by what was read under the first twelve names and under the last twelve.
+/// Returns the kind of a schema, by what was read under the first twelve names and under the last twelve.
 #[inline(never)]
 pub(crate) fn kind_with(
     alloc: Global,
@@ -43,7 +43,7 @@ pub(crate) fn kind_with(
     }
 }
 
-/// The schema among the members of an object whose kind was read.
+/// Reads the schema among the members of an object whose kind was read.
 #[inline(never)]
 pub(crate) fn schema_with(
     alloc: Global,

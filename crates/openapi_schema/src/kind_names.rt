@@ -82,7 +82,7 @@ fn present_names(first: &FirstNames, last: &LastNames<'_>) -> Mask
     ])
 }
 
-/// A text that is lent, where there is one.
+/// Borrows a text, if there is one.
 fn lent(text: &Option<String>) -> Option<&str>
     ensures { option_copied result ≡ option_map string_bytes text.now }
 {

@@ -59,7 +59,7 @@ pub(crate) trait TypedEntry: Entry + Drop {
     // The sort of the schema.
     ghost sort: { Sort };
 
-    /// A schema of this type.
+    /// Returns a schema of this type.
     fn kind(first: FirstNames, last: LastNames<'_>, enumeration: Vec<Option<Self>>) -> SchemaKind
         requires { IsEnumeration Self.tree_in enumeration last }
         ensures { IsKindOf sort result first last.entry };
@@ -147,7 +147,7 @@ pub(crate) fn typed_or_any<T: TypedEntry>(
     }
 }
 
-/// A limit of whole numbers of 64 bits. None where the number does not fit.
+/// Returns a limit as a whole number of 64 bits with sign. The outer `None` is a number that does not fit.
 fn limit(number: &Option<Whole>) -> Option<Option<i64>>
     ensures { LimitReadAs result number.now }
 {
@@ -168,7 +168,7 @@ struct Limits {
     maximum: Option<i64>,
 }
 
-/// The limits, where each of them fits.
+/// Returns the limits, or `None` if one of them does not fit.
 fn limits_in(first: &FirstNames) -> Option<Limits>
     ensures { LimitsReadAs result first.now }
 {
@@ -188,7 +188,7 @@ fn limits_in(first: &FirstNames) -> Option<Limits>
     })
 }
 
-/// A schema of whole numbers with these limits.
+/// Returns a schema of whole numbers with these limits.
 fn integer_kind(
     first: FirstNames,
     last: LastNames<'_>,
@@ -235,7 +235,7 @@ pub(crate) fn integer_or_any(
     }
 }
 
-/// A schema of objects.
+/// Returns a schema of objects.
 pub(crate) fn object_kind(alloc: Global, first: FirstNames, last: LastNames<'_>) -> SchemaKind
     ensures { IsKindOf sorts.object_sort result first last.entry }
 {
@@ -249,7 +249,7 @@ pub(crate) fn object_kind(alloc: Global, first: FirstNames, last: LastNames<'_>)
     }))
 }
 
-/// A schema of arrays.
+/// Returns a schema of arrays.
 pub(crate) fn array_kind(first: FirstNames, last: LastNames<'_>) -> SchemaKind
     ensures { IsKindOf sorts.array_sort result first last.entry }
 {

@@ -22,7 +22,7 @@ use openapi_schema_types::TypeName;
 use openapi_values::Word;
 use std::alloc::Global;
 
-/// The name of the type of a schema.
+/// Returns the name of the type of a schema.
 fn type_name(typ: &SchemaType) -> TypeName
     ensures { type_name_word result ≡ schema_type_word typ.now }
 {
@@ -36,14 +36,14 @@ fn type_name(typ: &SchemaType) -> TypeName
     }
 }
 
-/// The text of `type` of a schema of that type.
+/// Returns the text of `type` of a schema of that type.
 fn type_word(typ: &SchemaType) -> &'static str
     ensures { join (tag_slots (Some result.now)) (untagged (type_slots typ.now)) ≡ type_slots typ.now }
 {
     type_name(typ).as_str()
 }
 
-/// The text of `type` of a schema of that kind, where it has one.
+/// Returns the text of `type` of a schema of that kind, if it has one.
 fn kind_word(kind: &SchemaKind) -> Option<&'static str>
     ensures { join (tag_slots (option_map (λ w. w.now) result)) (untagged (kind_slots kind.now)) ≡ kind_slots kind.now }
 {
@@ -99,7 +99,7 @@ pub(crate) fn whole_schema(
     Ok(Node::object(out))
 }
 
-/// The kind of a schema by itself as it is written, of the members of its rows.
+/// Returns the kind of a schema by itself as it is written, of the members of its rows.
 pub(crate) fn whole_kind(alloc: Global, kind: &SchemaKind, rows: Members) -> Result<Node>
     requires { IsWritten final_tables (untagged (kind_slots kind.now)) rows }
     ensures { WrittenAs kinds.a_schema_kind (schema_kind_form kind.now) result }
@@ -109,7 +109,7 @@ pub(crate) fn whole_kind(alloc: Global, kind: &SchemaKind, rows: Members) -> Res
     Ok(Node::object(out))
 }
 
-/// The type of a schema by itself as it is written, of the members of its rows.
+/// Returns the type of a schema by itself as it is written, of the members of its rows.
 pub(crate) fn whole_type(alloc: Global, typ: &SchemaType, rows: Members) -> Result<Node>
     requires { IsWritten final_tables (untagged (type_slots typ.now)) rows }
     ensures { WrittenAs schema_type (schema_type_form typ.now) result }

@@ -160,7 +160,7 @@ fn read_last_names<'a>(
     })
 }
 
-/// A reference or a schema in a box under a name, where it is there and not null.
+/// Reads a reference or a schema in a box at a name, unless it is missing or null.
 #[cycle(read)]
 fn read_inner_box(
     alloc: Global,
@@ -181,7 +181,7 @@ fn read_inner_box(
     }
 }
 
-/// A schema or a reference in a box under a name, where it is there and not null.
+/// Reads a schema or a reference in a box at a name, unless it is missing or null.
 #[cycle(read)]
 fn read_outer_box(
     alloc: Global,
@@ -202,7 +202,7 @@ fn read_outer_box(
     }
 }
 
-/// A list of schemas and references under a name, where it is there and not null.
+/// Reads a list of schemas and references at a name, unless it is missing or null.
 #[cycle(read)]
 fn read_listed(
     alloc: Global,
@@ -224,7 +224,7 @@ fn read_listed(
     }
 }
 
-/// The schemas and references of a list.
+/// Reads the schemas and references of a list.
 #[cycle(read)]
 fn read_refs_in(
     alloc: Global,
@@ -240,7 +240,7 @@ fn read_refs_in(
     }
 }
 
-/// The schemas and references among the elements of a list, in order.
+/// Reads the schemas and references among the elements of a list, in order.
 #[cycle(read)]
 fn read_refs(alloc: Global, nodes: &[Node], steps: &mut Steps) -> Result<Vec<ReferenceOr<Schema>>>
     ensures reads { ReadAs (list_form ref_form) result (kinds.list_of (kinds.ref_to kinds.a_schema))
@@ -259,7 +259,7 @@ fn read_refs(alloc: Global, nodes: &[Node], steps: &mut Steps) -> Result<Vec<Ref
     Ok(values)
 }
 
-/// The schemas and references under `properties`, where it is there and not null.
+/// Reads the schemas and references of `properties`, unless it is missing or null.
 #[cycle(read)]
 fn read_properties(
     alloc: Global,
@@ -278,7 +278,7 @@ fn read_properties(
     }
 }
 
-/// The schemas and references of a map.
+/// Reads the schemas and references of a map.
 #[cycle(read)]
 fn read_properties_in(
     alloc: Global,
@@ -295,7 +295,7 @@ fn read_properties_in(
     }
 }
 
-/// The schemas and references among the members of an object, in order.
+/// Reads the schemas and references among the members of an object, in order.
 #[cycle(read)]
 fn read_named(
     alloc: Global,
@@ -347,7 +347,7 @@ fn read_additional(
     }
 }
 
-/// A flag, or a schema or a reference to one.
+/// Reads a flag, or a schema or a reference to one.
 #[cycle(read)]
 pub(crate) fn read_additional_in(
     alloc: Global,

@@ -14,7 +14,7 @@ use openapi_schema_types::Sort;
 use openapi_values::ReferenceOr;
 use std::alloc::Global;
 
-/// The kind of a schema that has nothing but `not`.
+/// Returns the kind of a schema that has nothing but `not`.
 fn not_kind(alloc: Global, not: Option<Box<ReferenceOr<Schema>>>) -> SchemaKind
     ensures { (first : FirstNames) (last : LastNames) → last.not ≡ not → IsKindBy sorts.not_sort result first last }
 {

@@ -73,7 +73,7 @@ pub(crate) fn write_schema(alloc: Global, schema: &Schema) -> Result<Node>
     }
 }
 
-/// The members that the kind of a schema is written as, but for its `type`.
+/// Returns the members that the kind of a schema is written as, but for its `type`.
 #[cycle(write)]
 pub(crate) fn kind_rows(alloc: Global, kind: &SchemaKind) -> Result<Members>
     ensures { RowsWritten (untagged (kind_slots kind.now)) result }
@@ -88,7 +88,7 @@ pub(crate) fn kind_rows(alloc: Global, kind: &SchemaKind) -> Result<Members>
     }
 }
 
-/// The members that a schema of a `type` is written as, but for the `type`.
+/// Returns the members that a schema of a `type` is written as, but for the `type`.
 #[cycle(write)]
 pub(crate) fn type_rows(alloc: Global, typ: &SchemaType) -> Result<Members>
     ensures { RowsWritten (untagged (type_slots typ.now)) result }
@@ -103,7 +103,7 @@ pub(crate) fn type_rows(alloc: Global, typ: &SchemaType) -> Result<Members>
     }
 }
 
-/// The members that a schema of objects is written as, but for its `type`.
+/// Returns the members that a schema of objects is written as, but for its `type`.
 #[cycle(write)]
 #[tactic(auto, unfolding(openapi_tables::specs::Tables::final_tables, openapi_tables::specs::Tables::tables_with, openapi_tables::specs::Tables::object_rows))]
 pub(crate) fn object_rows(alloc: Global, typ: &ObjectType) -> Result<Members>
@@ -132,7 +132,7 @@ pub(crate) fn object_rows(alloc: Global, typ: &ObjectType) -> Result<Members>
     Ok(out)
 }
 
-/// The members that a schema of arrays is written as, but for its `type`.
+/// Returns the members that a schema of arrays is written as, but for its `type`.
 #[cycle(write)]
 #[tactic(auto, unfolding(openapi_tables::specs::Tables::final_tables, openapi_tables::specs::Tables::tables_with, openapi_tables::specs::Tables::array_rows))]
 pub(crate) fn array_rows(alloc: Global, typ: &ArrayType) -> Result<Members>
@@ -154,7 +154,7 @@ pub(crate) fn array_rows(alloc: Global, typ: &ArrayType) -> Result<Members>
     Ok(out)
 }
 
-/// The members that a schema of no sort in particular is written as.
+/// Returns the members that a schema of no sort in particular is written as.
 #[cycle(write)]
 pub(crate) fn any_rows(alloc: Global, any: &AnySchema) -> Result<Members>
     ensures { RowsWritten (any_slots any.now) result }

@@ -116,7 +116,7 @@ impl Mask {
         Mask { bits }
     }
 
-    /// Whether each name of this set is in the other one.
+    /// Returns whether each name of this set is in the other one.
     pub(crate) fn is_within(self, other: Mask) -> bool
         ensures { result ≡ (bit_and self.bits other.bits == self.bits) }
     {

@@ -40,7 +40,7 @@ pub enum Sort {
 }
 
 impl Sort {
-    /// The sort of schemas of a type.
+    /// Returns the sort of schemas of a type.
     fn of_name(name: TypeName) -> Sort
         ensures { sort_in result ≡ named_sort (type_name_word name) }
     {
@@ -54,7 +54,7 @@ impl Sort {
         }
     }
 
-    /// The sort that a `type` names: Any where it names none.
+    /// Returns the sort that a `type` names, or `Any` if it names none.
     fn of_type(typ: &str) -> Sort
         ensures { sort_in result ≡ named_sort typ.now }
     {
@@ -64,7 +64,8 @@ impl Sort {
         }
     }
 
-    /// The sort of the first of `oneOf`, `allOf`, `anyOf` and `not` that is present: Any where none of them is.
+    /// Returns the sort of the first of `oneOf`, `allOf`, `anyOf` and `not` that is present, or `Any` if none of them
+    /// is.
     fn of_names(names: Mask) -> Sort
         ensures { (es : List (Entry Tree)) → names.bits ≡ mask_of (presence es) → sort_in result ≡ first_of_four es }
     {
@@ -81,7 +82,7 @@ impl Sort {
         }
     }
 
-    /// The names that a schema of the sort may have.
+    /// Returns the names that a schema of the sort may have.
     #[tactic(auto, unfolding(crate::specs::Masks::allowance, openapi_tables::specs::Members::allowed, openapi_tables::specs::Members::sort_rows, openapi_tables::specs::Members::kind_names, openapi_tables::specs::Tables::any_rows, openapi_tables::specs::Tables::string_rows, openapi_tables::specs::Tables::object_rows, openapi_tables::specs::Tables::array_rows, openapi_tables::specs::Tables::boolean_rows))]
     fn names(self) -> Mask
         ensures { result.bits ≡ mask_of (allowance (sort_in self)) }
@@ -100,7 +101,8 @@ impl Sort {
         }
     }
 
-    /// The one sort that is possible: that of the `type`, or without a `type` that of the first of the four names.
+    /// Returns the one sort that is possible: that of the `type`, or without a `type` that of the first of the four
+    /// names.
     fn possible(typ: Option<&str>, names: Mask) -> Sort
         ensures { (es : List (Entry Tree)) → names.bits ≡ mask_of (presence es) → IsType (option_copied typ.entry) es
             → sort_in result ≡ possible_sort (held (codes "type") es) es }

@@ -7,7 +7,7 @@ use openapi_map::{Entry, OrderedMap};
 use std::alloc::{AllocError, Global};
 use std::test::Fail;
 
-/// A map of each number below `count` by its digits.
+/// Returns a map of each number below `count` by its digits.
 fn numbered(alloc: Global, count: usize) -> Result<OrderedMap<usize>, AllocError> {
     let mut numbers = OrderedMap::new(alloc);
     for number in 0..count {
@@ -34,7 +34,7 @@ fn pairs_of(alloc: Global, entries: &[(&str, u8)]) -> Result<Vec<(String, u8)>, 
     Ok(pairs)
 }
 
-/// The same entries in a new map. It shows how a caller proves a loop over a map.
+/// Returns the same entries in a new map. It shows how a caller proves a loop over a map.
 fn copied(alloc: Global, map: &OrderedMap<u8>) -> Result<OrderedMap<u8>, AllocError>
     ensures { IfOk result (λ copy. copy ≡ map.now) }
 {
@@ -85,14 +85,14 @@ fn raised(map: &mut OrderedMap<u8>, name: String) -> Result<Option<u8>, AllocErr
     }
 }
 
-/// The value at a name, or 0 where the map lacks it.
+/// Returns the value at a name, or 0 if the map lacks it.
 fn value_or_zero(map: &OrderedMap<u8>, name: &str) -> u8
     ensures { result ≡ unwrap_or (get name.now map.now) 0 }
 {
     if map.contains_key(name) { map[name] } else { 0 }
 }
 
-/// The entries of a map in their order, as `name=value` with a blank behind each.
+/// Returns the entries of a map in their order, as `name=value` with a blank behind each.
 fn told(alloc: Global, map: &OrderedMap<u8>) -> Result<String, Fail> {
     let mut text = String::new(alloc);
     for (name, value) in map {
@@ -101,7 +101,7 @@ fn told(alloc: Global, map: &OrderedMap<u8>) -> Result<String, Fail> {
     Ok(text)
 }
 
-/// Three names, the second of which came twice.
+/// Returns a map of three names, the second of which was inserted twice.
 fn sample(alloc: Global) -> Result<OrderedMap<u8>, AllocError> {
     map_of(alloc, &[("b", 1), ("a", 2), ("c", 3), ("a", 4)])
 }

@@ -87,7 +87,7 @@ fn whole_numbers(rt: HostRuntime) -> Result<(), Fail> {
     Ok(())
 }
 
-/// That a cause has a number, and prints as a text before its place.
+/// Checks that a cause has a number, and prints as a text before its place.
 fn check_cause(
     rt: &impl Abort,
     alloc: Global,
@@ -144,7 +144,7 @@ fn places(rt: HostRuntime) -> Result<(), Fail> {
     Ok(())
 }
 
-/// What any error prints.
+/// Returns what any error prints.
 fn said<E: Error>(alloc: Global, error: &E) -> Result<String, AllocError> {
     format!(in alloc; "{error}")
 }
@@ -240,7 +240,7 @@ fn long_objects_go_by_name(rt: HostRuntime) -> Result<(), Fail> {
     Ok(())
 }
 
-/// That a node prints as a text for programmers.
+/// Checks that a node prints as a text for programmers.
 fn check_debug(rt: &impl Abort, alloc: Global, node: &Node, wanted: &str) -> Result<(), Fail> {
     assert_eq!(rt; debug(alloc, node)?.as_str(), wanted);
     Ok(())

@@ -8,13 +8,13 @@ use openapi_json::{
 use openapi_node::{Node, Steps, Whole};
 use std::test::Fail;
 
-/// What is written of a node by name.
+/// Returns what is written of a node by name.
 fn written(rt: &HostRuntime, node: &Node) -> Result<String, Fail> {
     let mut steps = Steps::new(rt);
     Ok(json_from_node(rt.alloc(), node, &mut steps)?)
 }
 
-/// What is written of a node in order.
+/// Returns what is written of a node in order.
 fn written_in_order(rt: &HostRuntime, node: &Node) -> Result<String, Fail> {
     let mut steps = Steps::new(rt);
     Ok(json_from_node_in_order(rt.alloc(), node, &mut steps)?)

@@ -12,7 +12,7 @@ pub fn tree(rt: &HostRuntime, text: &str) -> Result<Node, Fail> {
     Ok(node_from_json_in_order(rt.alloc(), text.as_bytes())?)
 }
 
-/// A map with one entry.
+/// Returns a map with one entry.
 ///
 /// # Errors
 ///
@@ -29,7 +29,7 @@ fn shown(rt: &HostRuntime, node: &Node) -> Result<String, Fail> {
     Ok(format!(in rt.alloc(); "{node:?}")?)
 }
 
-/// The printed form of a fault.
+/// Returns the printed form of a fault.
 ///
 /// # Errors
 ///
@@ -38,7 +38,7 @@ pub fn fault_text(rt: &HostRuntime, fault: &Fault) -> Result<String, Fail> {
     Ok(format!(in rt.alloc(); "{fault}")?)
 }
 
-/// The text of the fault that refuses to write a value, or `written`.
+/// Returns the text of the fault that refuses to write a value, or `written`.
 ///
 /// # Errors
 ///

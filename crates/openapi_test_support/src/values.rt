@@ -22,7 +22,7 @@ enum Refusal {
     UnknownVariant,
 }
 
-/// A reader of one of a set, written once for every set.
+/// Reads one of a set; written once for every set.
 fn one_of<T: Word>(text: &str) -> Result<T, Refusal>
     ensures found { is_ok result ≡ has T.words text.now }
     ensures value { IfOk result (λ value. T.word_of value ≡ text.now) }
@@ -30,14 +30,14 @@ fn one_of<T: Word>(text: &str) -> Result<T, Refusal>
     T::from_word(text).ok_or(Refusal::UnknownVariant)
 }
 
-/// The format of a number that a text gives. It shows that the conversion is exact for a format.
+/// Returns the format of a number that a text gives. It shows that the conversion is exact for a format.
 fn number_format(text: String) -> VariantOrUnknown<NumberFormat>
     ensures { variant_form number_format_word result ≡ format_form number_formats (string_bytes text) }
 {
     text.into()
 }
 
-/// An item that went into a box and out of it.
+/// Moves an item into a box and out of it.
 fn boxed_and_unboxed<T: Drop>(alloc: Global, item: T) -> Result<ReferenceOr<T>, AllocError>
     ensures { IfOk result (λ made. made ≡ ReferenceOr.Item item) }
 {
@@ -152,7 +152,7 @@ fn reads_sets_of_words(rt: HostRuntime) {
     reads_set(&rt, &["query", "header", "cookie"], &keys);
 }
 
-/// That a value prints as a text, and as another for programmers.
+/// Checks that a value prints as a text, and as another for programmers.
 fn check_texts<T: fmt::Display + fmt::Debug>(
     rt: &impl Abort,
     alloc: Global,
@@ -190,7 +190,7 @@ fn gives_defaults(rt: HostRuntime) {
     assert!(rt; is_false(&false) && !is_false(&true));
 }
 
-/// That a format is a value, has a text or none, and prints as another for programmers.
+/// Checks that a format is a value, has a text or none, and prints as another for programmers.
 fn check_format(
     rt: &impl Abort,
     alloc: Global,
@@ -206,7 +206,7 @@ fn check_format(
     Ok(())
 }
 
-/// That a text, or none, is kept as a value that prints as another for programmers, and so is its clone.
+/// Checks that a text, or none, is kept as a value that prints as another for programmers, and so is its clone.
 fn check_kept(
     rt: &impl Abort,
     alloc: Global,
@@ -223,7 +223,7 @@ fn check_kept(
     check_format(rt, alloc, &made.clone()?, text, want, debug)
 }
 
-/// That a text is read as a format.
+/// Checks that a text is read as a format.
 fn check_read(
     rt: &impl Abort,
     alloc: Global,

@@ -10,7 +10,7 @@ use openapiv3::{
 use std::alloc::Global;
 use std::test::Fail;
 
-/// That a value that was built is written as a JSON text, member order included, or is refused with a text.
+/// Checks that a value that was built is written as a JSON text, member order included, or is refused with a text.
 pub(crate) fn check_built<T: ToNode + Drop>(
     rt: &HostRuntime,
     built: Result<T, Fail>,
@@ -22,12 +22,12 @@ pub(crate) fn check_built<T: ToNode + Drop>(
     }
 }
 
-/// A null extension of this name.
+/// Returns a null extension of this name.
 pub(crate) fn extension(rt: &HostRuntime, name: &str) -> Result<OrderedMap<Node>, Fail> {
     map_with(rt, name, Node::null())
 }
 
-/// An empty tag but for a null extension of this name.
+/// Returns an empty tag but for a null extension of this name.
 fn tag_with(rt: &HostRuntime, name: &str) -> Result<Tag, Fail> {
     let extensions = extension(rt, name)?;
     let mut tag = Tag::new(rt.alloc());
@@ -54,7 +54,7 @@ fn names_of_extensions_begin_with_their_prefix(rt: HostRuntime) -> Result<(), Fa
     Ok(())
 }
 
-/// A schema of no sort in particular with these extensions.
+/// Returns a schema of no sort in particular with these extensions.
 pub(crate) fn schema_of(alloc: Global, extensions: OrderedMap<Node>) -> Schema {
     let mut schema_data = SchemaData::new(alloc);
     schema_data.extensions = extensions;
@@ -64,7 +64,7 @@ pub(crate) fn schema_of(alloc: Global, extensions: OrderedMap<Node>) -> Schema {
     }
 }
 
-/// A schema of an object with these properties.
+/// Returns a schema of an object with these properties.
 fn object_of(alloc: Global, properties: OrderedMap<ReferenceOr<Box<Schema>>>) -> Schema {
     let mut object = ObjectType::new(alloc);
     object.properties = properties;
@@ -74,7 +74,7 @@ fn object_of(alloc: Global, properties: OrderedMap<ReferenceOr<Box<Schema>>>) ->
     }
 }
 
-/// A schema of an object with a property that has a null extension of this name.
+/// Returns a schema of an object with a property that has a null extension of this name.
 fn object_with(rt: &HostRuntime, name: &str) -> Result<Schema, Fail> {
     let extensions = extension(rt, name)?;
     let property = ReferenceOr::boxed_item(rt.alloc(), schema_of(rt.alloc(), extensions))?;
@@ -88,14 +88,14 @@ fn components_of(alloc: Global, schemas: OrderedMap<ReferenceOr<Schema>>) -> Com
     components
 }
 
-/// A document with these components.
+/// Returns a document with these components.
 pub(crate) fn document_of(alloc: Global, components: Components) -> OpenAPI {
     let mut document = OpenAPI::new(alloc);
     document.components = Some(components);
     document
 }
 
-/// A document with a schema of an object with a property that has a null extension of this name.
+/// Returns a document with a schema of an object with a property that has a null extension of this name.
 fn document_with(rt: &HostRuntime, name: &str) -> Result<OpenAPI, Fail> {
     let schemas = map_with(rt, "S", ReferenceOr::Item(object_with(rt, name)?))?;
     Ok(document_of(rt.alloc(), components_of(rt.alloc(), schemas)))
@@ -156,7 +156,7 @@ pub(crate) fn responses_of(
     responses
 }
 
-/// Empty responses but for a new response at this code.
+/// Returns empty responses but for a new response at this code.
 fn responses_with(rt: &HostRuntime, code: StatusCode) -> Result<Responses, Fail> {
     let coded = coded(rt, code, ReferenceOr::Item(Response::new(rt.alloc())))?;
     Ok(responses_of(rt.alloc(), coded))
@@ -180,7 +180,7 @@ fn codes_are_three_digits_or_a_digit_and_two_letters(rt: HostRuntime) -> Result<
     Ok(())
 }
 
-/// A callback that has an empty path item of this name.
+/// Returns a callback that has an empty path item of this name.
 fn callback_with(rt: &HostRuntime, name: &str) -> Result<Callback, Fail> {
     Ok(Callback {
         paths: map_with(rt, name, PathItem::new(rt.alloc()))?,
@@ -188,7 +188,7 @@ fn callback_with(rt: &HostRuntime, name: &str) -> Result<Callback, Fail> {
     })
 }
 
-/// An operation with such a callback under the name `c`.
+/// Returns an operation with such a callback under the name `c`.
 fn operation_with(rt: &HostRuntime, name: &str) -> Result<Operation, Fail> {
     let callbacks = map_with(rt, "c", ReferenceOr::Item(callback_with(rt, name)?))?;
     let mut operation = Operation::new(rt.alloc());

@@ -10,7 +10,7 @@ use openapiv3::{
 use serde_json::Value;
 use std::test::Fail;
 
-/// Whether what is read of two JSON texts is equal.
+/// Returns whether what is read from two JSON texts is equal.
 fn are_equal<T: FromNode + PartialEq + Drop>(
     rt: &HostRuntime,
     one: &str,
@@ -82,7 +82,7 @@ fn is_read<T: FromNode + PartialEq + Drop>(
     Ok(T::from_node(rt.alloc(), node, &mut steps)? == *value)
 }
 
-/// Whether what is read of a JSON text is read of it too with its members by their names.
+/// Returns whether what is read from a JSON text is also read from it with its members in the order of their names.
 fn is_read_sorted<T: FromNode + PartialEq + Drop>(
     rt: &HostRuntime,
     text: &str,
@@ -117,7 +117,7 @@ fn properties_keep_the_order_of_the_tree(rt: HostRuntime) -> Result<(), Fail> {
     check_order::<ReferenceOr<Schema>>(&rt, &node, by_name)
 }
 
-/// That a new value equals what is read of an object without members.
+/// Checks that a new value equals what is read from an object without members.
 fn check_new<T: FromNode + PartialEq + Drop>(rt: &HostRuntime, made: T) -> Result<(), Fail> {
     if read_value::<T>(rt, "{}")? != made {
         return Err(Fail::from("not what is read of {}"));

@@ -12,7 +12,7 @@ fn note(text: &mut String, method: &str, operation: &Operation) -> Result<(), Al
     text.push_str(" ")
 }
 
-/// The methods that are lent, each with the identifier of its operation.
+/// Returns the methods of the iterator that borrows, each with the identifier of its operation.
 fn lent(alloc: Global, path_item: &PathItem) -> Result<String, AllocError> {
     let mut text = String::new(alloc);
     for (method, operation) in path_item.iter() {
@@ -21,7 +21,7 @@ fn lent(alloc: Global, path_item: &PathItem) -> Result<String, AllocError> {
     Ok(text)
 }
 
-/// The methods that are given away, each with the identifier of its operation.
+/// Returns the methods of the iterator that moves, each with the identifier of its operation.
 fn given(alloc: Global, path_item: PathItem) -> Result<String, AllocError> {
     let mut text = String::new(alloc);
     for (method, operation) in path_item {
@@ -30,12 +30,12 @@ fn given(alloc: Global, path_item: PathItem) -> Result<String, AllocError> {
     Ok(text)
 }
 
-/// That the iterator that lends gives these methods, and these identifiers.
+/// Checks that the iterator that borrows returns these methods, and these identifiers.
 fn check_lent(rt: &HostRuntime, path_item: &PathItem, wanted: &str) -> Result<(), Fail> {
     check_same(rt, lent(rt.alloc(), path_item)?.as_str(), wanted)
 }
 
-/// That the iterator that gives away gives these methods, and these identifiers.
+/// Checks that the iterator that moves returns these methods, and these identifiers.
 fn check_given(rt: &HostRuntime, path_item: PathItem, wanted: &str) -> Result<(), Fail> {
     check_same(rt, given(rt.alloc(), path_item)?.as_str(), wanted)
 }
@@ -95,14 +95,14 @@ fn operations_that_were_built_are_given_in_order(rt: HostRuntime) -> Result<(), 
     check_given(&rt, with_three(rt.alloc()), "get post delete ")
 }
 
-/// A path item with one operation.
+/// Returns a path item with one operation.
 fn with_head(alloc: Global) -> PathItem {
     let mut path_item = PathItem::new(alloc);
     path_item.head = Some(Operation::new(alloc));
     path_item
 }
 
-/// That the iterator that lends gives one operation, and stays at its end.
+/// Checks that the iterator that borrows returns one operation, and stays at its end.
 fn check_lends_one(path_item: &PathItem) -> Result<(), Fail> {
     let mut operations = path_item.iter();
     if operations.next().is_none() || operations.next().is_some() || operations.next().is_some() {
@@ -111,7 +111,7 @@ fn check_lends_one(path_item: &PathItem) -> Result<(), Fail> {
     Ok(())
 }
 
-/// That the iterator that gives away gives one operation, and stays at its end.
+/// Checks that the iterator that moves returns one operation, and stays at its end.
 fn check_gives_one(path_item: PathItem) -> Result<(), Fail> {
     let mut operations = path_item.into_iter();
     if operations.next().is_none() || operations.next().is_some() || operations.next().is_some() {
@@ -140,7 +140,7 @@ fn note_path(
     })
 }
 
-/// The names that both iterators over paths give, those of the one that lends first.
+/// Returns the names of both iterators over paths, first those of the one that borrows.
 fn names_of(alloc: Global, paths: Paths) -> Result<String, AllocError> {
     let mut names = String::new(alloc);
     for (name, value) in paths.iter() {

@@ -6,7 +6,7 @@ use std::test::Fail;
 
 /// A value whose operations are listed.
 trait Listed {
-    /// Path, method and identifier of each operation.
+    /// Returns path, method and identifier of each operation.
     fn listed(&self, rt: &HostRuntime) -> Result<String, Fail>;
 }
 
@@ -32,7 +32,7 @@ fn list<T: FromNode + Listed + Drop>(rt: &HostRuntime, given: &Node) -> Result<S
     value.listed(rt)
 }
 
-/// That a document with these paths has these operations.
+/// Checks that a document with these paths has these operations.
 fn check_operations(rt: &HostRuntime, paths: &str, wanted: &str) -> Result<(), Fail> {
     let text = format!(in rt.alloc();
         "{{\"openapi\":\"3.0.3\",\"info\":{{\"title\":\"t\",\"version\":\"1\"}},\"paths\":{paths}}}"
@@ -58,7 +58,7 @@ fn operations_are_given_in_order(rt: HostRuntime) -> Result<(), Fail> {
     )
 }
 
-/// That the operations of a document are at their end, and stay there.
+/// Checks that the operations of a document are at their end, and stay there.
 fn check_end(document: &OpenAPI) -> Result<(), Fail> {
     let mut operations = document.operations();
     if operations.next().is_some() || operations.next().is_some() {

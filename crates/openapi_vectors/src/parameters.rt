@@ -83,10 +83,10 @@ fn the_first_of_schema_and_content_is_kept(rt: HostRuntime) -> Result<(), Fail> 
 
 /// What has the data that parameters of all places have.
 trait HasData {
-    /// What the data that is lent is written as.
+    /// Returns what the borrowed data is written as.
     fn lent(&self, alloc: Global) -> Result<Node, Fault>;
 
-    /// What the data that is given away is written as.
+    /// Returns what the moved data is written as.
     fn given(self, alloc: Global) -> Result<Node, Fault>;
 }
 
@@ -100,7 +100,7 @@ impl HasData for Parameter {
     }
 }
 
-/// That the data of what is read of a JSON text is written as another, whether it is lent or given away.
+/// Checks that the data of what is read from a JSON text is written as another text, whether it is borrowed or moved.
 fn check_data<T: FromNode + HasData + Drop>(
     rt: &HostRuntime,
     given: &str,

@@ -9,13 +9,13 @@ use openapiv3::{
 use std::fmt::Debug;
 use std::test::Fail;
 
-/// That a value prints as a text for programmers.
+/// Checks that a value prints as a text for programmers.
 fn check_printed<T: Debug + Drop>(rt: &HostRuntime, value: T, wanted: &str) -> Result<(), Fail> {
     let found = format!(in rt.alloc(); "{value:?}")?;
     check_same(rt, found.as_str(), wanted)
 }
 
-/// That what is read of a JSON text prints as a text for programmers.
+/// Checks that what is read from a JSON text prints as a text for programmers.
 fn check_read_printed<T: FromNode + Debug + Drop>(
     rt: &HostRuntime,
     given: &str,

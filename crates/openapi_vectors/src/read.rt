@@ -5,7 +5,7 @@ use openapiv3::{Callback, FromNode, Operation, ReferenceOr, Response, Responses,
 use std::alloc::Global;
 use std::test::Fail;
 
-/// What is read of a JSON text.
+/// Returns what is read from a JSON text.
 pub(crate) fn read_value<T: FromNode>(rt: &HostRuntime, text: &str) -> Result<T, Fail> {
     let mut steps = Steps::new(rt);
     Ok(T::from_node(rt.alloc(), &tree(rt, text)?, &mut steps)?)
@@ -56,7 +56,7 @@ fn callbacks_are_told_from_references_and_extensions(rt: HostRuntime) -> Result<
     check_told::<ReferenceOr<Callback>>(&rt, &rows)
 }
 
-/// The text of a reference behind a mark, or the description of a response.
+/// Appends the text of a reference behind a mark, or the description of a response.
 fn note(text: &mut String, response: &ReferenceOr<Response>) -> Result<(), Fail> {
     match response {
         ReferenceOr::Reference { reference } => write!(text, "->{reference} ")?,

@@ -11,7 +11,7 @@ use std::test::Fail;
 const PETS: &str =
     r##"{"openapi":"3.0.0","info":{"title":"Swagger Petstore","license":{"name":"MIT"},"version":"1.0.0","x-hash":"abc123"},"servers":[{"url":"http://petstore.swagger.io/v1"}],"paths":{},"components":{"schemas":{"Cat":{"description":"A representation of a cat","allOf":[{"$ref":"#/components/schemas/Pet"},{"type":"object","properties":{"huntingSkill":{"description":"The measured skill for hunting","type":"string","enum":["clueless","lazy","adventurous","aggressive"]}},"required":["huntingSkill"]}]},"Dog":{"description":"A representation of a dog","allOf":[{"$ref":"#/components/schemas/Pet"},{"type":"object","properties":{"packSize":{"description":"the size of the pack the dog is from","type":"integer","format":"int32","minimum":0}},"required":["packSize"]}]},"Pet":{"discriminator":{"propertyName":"petType"},"type":"object","properties":{"name":{"type":"string"},"petType":{"type":"string"}},"required":["name","petType"]}}}}"##;
 
-/// The kind of the schema under a name, where there is one.
+/// Returns the kind of the schema at a name, if there is one.
 fn kind_of<'a>(components: &'a Components, name: &str) -> Option<&'a SchemaKind> {
     let schema = components.schemas.get(name)?.as_item()?;
     Some(&schema.schema_kind)
@@ -31,7 +31,7 @@ fn second_type(kind: &SchemaKind) -> Option<&SchemaType> {
     }
 }
 
-/// Whether a type is that of an object whose property of this name is an integer of 32 bits.
+/// Returns whether a type is that of an object whose property of this name is an integer of 32 bits.
 fn holds_int32(found: &SchemaType, name: &str) -> bool {
     let SchemaType::Object(object) = found else {
         return false;
@@ -69,7 +69,7 @@ fn is_pet(found: &SchemaType) -> bool {
     object.properties.len() == 2 && holds_string(found, "name") && holds_string(found, "petType")
 }
 
-/// That the example's schemas have their sorts.
+/// Checks that the example's schemas have their sorts.
 fn check_pets(components: &Components) -> Result<(), Fail> {
     let cat = kind_of(components, "Cat").and_then(second_type);
     if !matches!(cat, Some(SchemaType::Object(_))) {

@@ -50,7 +50,7 @@ fn close(text: &mut String) -> Result<(), Fail> {
     Ok(())
 }
 
-/// Returns the object with all rows in their order, but for others in the place of one.
+/// Returns the object with all rows in their order, except for others in the place of one.
 fn object_with(
     alloc: Global,
     rows: &[Row<'_>],

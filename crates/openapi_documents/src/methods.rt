@@ -42,7 +42,7 @@ impl<T: Drop> Methods<T> {
         }
     }
 
-    /// Takes the first value that is there, with its method.
+    /// Removes the first value that exists, and returns it with its method.
     pub(crate) fn take_first(&mut self) -> Option<(&'static str, T)>
         ensures { TakesFirst owned_method (those_held methods (under_methods self.old)) result
             (those_held methods (under_methods self.new)) }

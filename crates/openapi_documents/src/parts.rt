@@ -1,5 +1,5 @@
 #![tactic(auto, unfolding(openapi_tables::specs::Tables::final_tables, openapi_tables::specs::Tables::tables_with))]
-//! What is read and written of operations and path items in parts, but for what leads back to path items.
+//! What is read and written of operations and path items in parts, except for what leads back to path items.
 ghost use Rattle.std.specs.Prelude.{◌≡◌, ◌+◌, ◌*◌, ◌≤◌, [], codes, OnOk, IfErr};
 ghost use Rattle.openapi_node.specs.Tree.{members_of};
 ghost use Rattle.openapi_tables.specs.ByRow.{AreRows, is_named, rows_weight};

@@ -84,7 +84,7 @@ fn read_methods(
     read_each!(alloc, members, methods, steps => get put post delete options head patch, trace)
 }
 
-/// Reads the operation under a method to where it is kept, where it is there and not null.
+/// Reads the operation of a method to where it is kept, unless it is missing or null.
 #[cycle(read)]
 fn read_method(
     alloc: Global,

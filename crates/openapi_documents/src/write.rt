@@ -75,7 +75,7 @@ fn put_methods(alloc: Global, path_item: &PathItem, out: &mut Members) -> Result
     put_each!(alloc, path_item, out => get put post delete options head patch, trace)
 }
 
-/// Writes the operation under a method; nothing where there is none.
+/// Writes the operation under a method, and nothing if there is none.
 #[cycle(write)]
 fn write_method(alloc: Global, value: &Option<Operation>) -> Result<Option<Node>>
     ensures { MemberWrittenAs kinds.optional (kinds.by kinds.operation) (optional_form operation_form value.now) result }
@@ -112,7 +112,7 @@ fn operation_members(alloc: Global, operation: &Operation) -> Result<Members>
     Ok(out)
 }
 
-/// Writes callbacks and references by names; nothing where there are none.
+/// Writes callbacks and references by names, and nothing if there are none.
 #[cycle(write)]
 fn write_callbacks(
     alloc: Global,

@@ -1,4 +1,4 @@
-//! Members that are there and not null.
+//! Members that exist and are not null.
 ghost use Rattle.openapi_node.specs.Tree.{members_of};
 ghost use Rattle.openapi_fields.specs.Presence.{AtMember, ViewFound};
 

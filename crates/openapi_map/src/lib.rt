@@ -63,7 +63,7 @@ struct Held<V> {
 /// ```
 #[derive(Drop)]
 pub struct OrderedMap<V> {
-    // `None` where there are no entries and none were foreseen.
+    // `None` before the first insert if no capacity was requested.
     held: Option<Box<Held<V>>>,
     alloc: Global,
 }

@@ -136,7 +136,7 @@ fn media_type_members(alloc: Global, media_type: &MediaType) -> Result<Members>
     Ok(out)
 }
 
-/// Writes encodings by the names of properties; nothing where there are none.
+/// Writes encodings by the names of properties, and nothing if there are none.
 #[cycle(write)]
 fn write_encodings(alloc: Global, values: &OrderedMap<Encoding>) -> Result<Option<Node>>
     ensures { MemberWrittenAs kinds.listed (kinds.map_of (kinds.by kinds.encoding)) (map_form encoding_form values.now)
@@ -193,7 +193,7 @@ fn encoding_members(alloc: Global, encoding: &Encoding) -> Result<Members>
     Ok(out)
 }
 
-/// Writes headers and references by names; nothing where there are none.
+/// Writes headers and references by names, and nothing if there are none.
 #[cycle(write)]
 fn write_headers(alloc: Global, values: &OrderedMap<ReferenceOr<Header>>) -> Result<Option<Node>>
     ensures { MemberWrittenAs kinds.listed (kinds.map_of (kinds.ref_to (kinds.by kinds.header)))

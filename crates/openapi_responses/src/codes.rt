@@ -21,7 +21,7 @@ use openapi_values::StatusCode;
 use std::alloc::Global;
 use std::str::FromStr;
 
-/// Puts a value at a code: in the place of the one that is there, or last.
+/// Puts a value at a code: it replaces the value of that code, or is appended.
 fn put_at<V: Drop>(
     alloc: Global,
     values: &mut IndexMap<StatusCode, V>,

@@ -45,7 +45,7 @@ pub(crate) fn read_any_first(
     })
 }
 
-/// Reads its last twelve rows but for the enumeration.
+/// Reads its last twelve rows except for the enumeration.
 #[tactic(auto, unfolding(openapi_tables::specs::Tables::final_tables, openapi_tables::specs::Tables::tables_with, openapi_tables::specs::Tables::any_rows, crate::specs::KindNames::any_last, crate::specs::KindNames::any_rest, crate::specs::PlainNames::plain_last, crate::specs::Reading::last_optional, crate::specs::RawSlots::optional_rows))]
 pub(crate) fn read_any_rest(
     alloc: Global,

@@ -1,4 +1,4 @@
-//! The entries under `enum`, where it is there and not null.
+//! The entries of `enum`, unless it is missing or null.
 ghost use Rattle.std.specs.Prelude.{◌+◌, ◌*◌, ◌<◌, ◌≤◌, codes, IfOk};
 ghost use Rattle.openapi_node.specs.Tree.{items_of, items_size, members_of, size_of};
 ghost use Rattle.openapi_node.specs.View.{shown};

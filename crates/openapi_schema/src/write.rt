@@ -73,7 +73,7 @@ pub(crate) fn write_schema(alloc: Global, schema: &Schema) -> Result<Node>
     }
 }
 
-/// Returns the members that the kind of a schema is written as, but for its `type`.
+/// Returns the members that the kind of a schema is written as, except for its `type`.
 #[cycle(write)]
 pub(crate) fn kind_rows(alloc: Global, kind: &SchemaKind) -> Result<Members>
     ensures { RowsWritten (untagged (kind_slots kind.now)) result }
@@ -88,7 +88,7 @@ pub(crate) fn kind_rows(alloc: Global, kind: &SchemaKind) -> Result<Members>
     }
 }
 
-/// Returns the members that a schema of a `type` is written as, but for the `type`.
+/// Returns the members that a schema of a `type` is written as, except for the `type`.
 #[cycle(write)]
 pub(crate) fn type_rows(alloc: Global, typ: &SchemaType) -> Result<Members>
     ensures { RowsWritten (untagged (type_slots typ.now)) result }
@@ -103,7 +103,7 @@ pub(crate) fn type_rows(alloc: Global, typ: &SchemaType) -> Result<Members>
     }
 }
 
-/// Returns the members that a schema of objects is written as, but for its `type`.
+/// Returns the members that a schema of objects is written as, except for its `type`.
 #[cycle(write)]
 #[tactic(auto, unfolding(openapi_tables::specs::Tables::final_tables, openapi_tables::specs::Tables::tables_with, openapi_tables::specs::Tables::object_rows))]
 pub(crate) fn object_rows(alloc: Global, typ: &ObjectType) -> Result<Members>
@@ -132,7 +132,7 @@ pub(crate) fn object_rows(alloc: Global, typ: &ObjectType) -> Result<Members>
     Ok(out)
 }
 
-/// Returns the members that a schema of arrays is written as, but for its `type`.
+/// Returns the members that a schema of arrays is written as, except for its `type`.
 #[cycle(write)]
 #[tactic(auto, unfolding(openapi_tables::specs::Tables::final_tables, openapi_tables::specs::Tables::tables_with, openapi_tables::specs::Tables::array_rows))]
 pub(crate) fn array_rows(alloc: Global, typ: &ArrayType) -> Result<Members>
@@ -255,7 +255,7 @@ fn write_refs(alloc: Global, values: &Vec<ReferenceOr<Schema>>) -> Result<Node>
     Ok(Node::list(nodes))
 }
 
-/// Writes schemas and references by names; nothing where there are none.
+/// Writes schemas and references by names, and nothing if there are none.
 #[cycle(write)]
 fn write_properties(
     alloc: Global,
@@ -293,7 +293,7 @@ fn write_named(alloc: Global, values: &OrderedMap<ReferenceOr<Box<Schema>>>) -> 
     Ok(Node::object(out))
 }
 
-/// Writes a schema in a box or a reference, where there is one.
+/// Writes a schema in a box or a reference, if there is one.
 #[cycle(write)]
 fn write_items(alloc: Global, value: &Option<ReferenceOr<Box<Schema>>>) -> Result<Option<Node>>
     ensures { MemberWrittenAs kinds.optional (kinds.ref_to kinds.a_schema) (optional_form inner_box_form value.now) result }
@@ -304,7 +304,7 @@ fn write_items(alloc: Global, value: &Option<ReferenceOr<Box<Schema>>>) -> Resul
     }
 }
 
-/// Writes a schema or a reference in a box, where there is one.
+/// Writes a schema or a reference in a box, if there is one.
 #[cycle(write)]
 fn write_not(alloc: Global, value: &Option<Box<ReferenceOr<Schema>>>) -> Result<Option<Node>>
     ensures { MemberWrittenAs kinds.optional (kinds.ref_to kinds.a_schema) (optional_form outer_box_form value.now) result }

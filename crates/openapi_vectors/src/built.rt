@@ -27,7 +27,7 @@ pub(crate) fn extension(rt: &HostRuntime, name: &str) -> Result<OrderedMap<Node>
     map_with(rt, name, Node::null())
 }
 
-/// Returns an empty tag but for a null extension of this name.
+/// Returns an empty tag except for a null extension of this name.
 fn tag_with(rt: &HostRuntime, name: &str) -> Result<Tag, Fail> {
     let extensions = extension(rt, name)?;
     let mut tag = Tag::new(rt.alloc());
@@ -156,7 +156,7 @@ pub(crate) fn responses_of(
     responses
 }
 
-/// Returns empty responses but for a new response at this code.
+/// Returns empty responses except for a new response at this code.
 fn responses_with(rt: &HostRuntime, code: StatusCode) -> Result<Responses, Fail> {
     let coded = coded(rt, code, ReferenceOr::Item(Response::new(rt.alloc())))?;
     Ok(responses_of(rt.alloc(), coded))

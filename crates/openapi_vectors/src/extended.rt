@@ -12,7 +12,7 @@ use std::test::Fail;
 
 /// An object that can have extensions.
 pub(crate) trait Extended {
-    /// Returns an object that is empty but for these extensions.
+    /// Returns an object that is empty except for these extensions.
     fn extended(alloc: Global, extensions: OrderedMap<Node>) -> Self;
 }
 
@@ -160,7 +160,7 @@ impl Extended for Components {
     }
 }
 
-/// Returns an object that is empty but for a null extension of this name.
+/// Returns an object that is empty except for a null extension of this name.
 pub(crate) fn with_extension<T: Extended>(rt: &HostRuntime, name: &str) -> Result<T, Fail> {
     let extensions = extension(rt, name)?;
     Ok(T::extended(rt.alloc(), extensions))

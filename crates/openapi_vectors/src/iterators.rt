@@ -126,7 +126,7 @@ fn iterators_stay_at_their_end(rt: HostRuntime) -> Result<(), Fail> {
     check_gives_one(with_head(rt.alloc()))
 }
 
-/// Adds the name of a path to a text, with a mark where there is a reference.
+/// Adds the name of a path to a text, with a mark if it has a reference.
 fn note_path(
     text: &mut String,
     name: &str,

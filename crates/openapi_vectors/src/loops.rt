@@ -7,7 +7,7 @@ use openapiv3::{Operation, PathItem};
 use std::alloc::{AllocError, Global};
 use std::test::Fail;
 
-/// Returns the methods of the operations that are there, in their order.
+/// Returns the methods of the operations that exist, in their order.
 fn methods_of(alloc: Global, path_item: &PathItem) -> Result<Vec<&'static str>, AllocError>
     ensures { IfOk result (λ methods. map (λ m. m.now) methods.items ≡ keys_of (present_operations path_item.now)) }
 {
@@ -18,7 +18,7 @@ fn methods_of(alloc: Global, path_item: &PathItem) -> Result<Vec<&'static str>, 
     Ok(methods)
 }
 
-/// Returns the operations that are there, in their order.
+/// Returns the operations that exist, in their order.
 fn operations_of(alloc: Global, path_item: PathItem) -> Result<Vec<Operation>, AllocError>
     ensures { IfOk result (λ operations. operations.items ≡ values_of (present_operations path_item)) }
 {

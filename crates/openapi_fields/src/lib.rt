@@ -1,6 +1,8 @@
 #![tactic(auto)]
-//! Reading and writing by field tables: the traits of types that are read from nodes and written as nodes, and the
-//! fields of an object by their modes, the same for every type.
+//! Reading and writing by field tables.
+//!
+//! It has the traits of types that are read from nodes and written as nodes. It also reads and writes the fields of an
+//! object by their modes, the same for every type.
 mod boxes;
 mod classes;
 mod either;

@@ -1,6 +1,7 @@
-//! Tests of what users name at the root of `openapiv3`, where they need code: values that are built, printed, compared,
-//! gone over or matched on, and the examples of the README and of doc comments. What JSON text is cleaned to is tested
-//! by the files of `openapi_cases`.
+//! Tests of what users name at the root of `openapiv3`, where they need code.
+//!
+//! Values are built, printed, compared, iterated over or matched on. The examples of the README and of doc comments are
+//! here, too. What JSON text is cleaned to is tested by the files of `openapi_cases`.
 #![tactic(auto)]
 
 #[cfg(test)]

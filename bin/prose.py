@@ -4,8 +4,8 @@
 usage: bin/prose.py [REPOSITORY]      (this one by default)
 
 It refuses:
-- a public function of a library or a program without a doc comment, or without `# Errors` if it returns a `Result`. Functions
-  in impls of traits are left out.
+- a public function of a library or a program without a doc comment, or without `# Errors` if it returns a `Result`. A trait may
+  have `# Errors` for all its methods. Functions in impls of traits are left out.
 - a word of WORDS in a page, in a comment of a source, or in a comment or docstring of a script.
 - a sentence of more than 40 words in a page or in a doc comment. Each cell of a table is by itself.
 - a commit whose subject has more than 70 characters, since the last tag, or since FIRST if there is no tag. Merges are left
@@ -90,25 +90,25 @@ def returns_result(function):
 
 
 def functions(lines):
-    """Yields the public functions of a source, each with the number of its first line."""
+    """Yields the public functions of a source, each with the number of its first line and the lines that document its errors."""
     ends = 0
     for item in api.items_of(lines):
         at = lines.index(item.code[0], ends) + 1
         ends = at + len(item.code) - 1
         if item.kind == "fn" and item.is_public:
-            yield at, item
+            yield at, item, item.docs
         if item.kind == "trait" and item.is_public or item.kind == "impl" and " for " not in item.code[0]:
             for part in item.parts():
                 at = lines.index(part.code[0], at) + 1
                 if part.kind == "fn" and (part.is_public or item.kind == "trait"):
-                    yield at, part
+                    yield at, part, part.docs + (item.docs if item.kind == "trait" else [])
 
 
-def undocumented(function):
-    """Returns what the doc comment of a public function lacks, or None."""
+def undocumented(function, lines):
+    """Returns what the doc comment of a public function lacks, or None. These lines document its errors."""
     if not function.docs:
         return f"`{function.name}` is public and has no doc comment"
-    if returns_result(function) and "# Errors" not in map(str.strip, function.docs):
+    if returns_result(function) and "# Errors" not in map(str.strip, lines):
         return f"`{function.name}` returns a `Result`, and its doc comment has no `# Errors`"
     return None
 
@@ -157,8 +157,8 @@ def check_files(top, report):
             if kind == "source" and not OF_TESTS.fullmatch(name.split("/")[1]):
                 found = [*functions(text.split("\n"))]
                 many += len(found)
-                for number, function in found:
-                    what = undocumented(function)
+                for number, function, lines in found:
+                    what = undocumented(function, lines)
                     report.add(name, [(number, what)] if what else [])
             measured, others = ([texts.numbered(text)], []) if kind == "page" else texts.comments(path, text)
             report.add(name, {*offences(measured, refused_words, long_sentences), *offences(others, refused_words)})

@@ -81,6 +81,18 @@ pub trait Reads {
 trait Own {
     fn own(&self) -> Result<u8>;
 }
+
+/// Visits.
+///
+/// # Errors
+///
+/// Returns the error of a method.
+pub trait Visits {
+    /// Visits one.
+    fn one(&self) -> Result<u8>;
+
+    fn two(&self) -> Result<u8>;
+}
 """
 ERRORS, COMMENT, WORD, LONG = "no `# Errors`", "no doc comment", "the word `{}`", "a sentence of 41 words"
 SAYS, TREE = WORD.format("says"), WORD.format("tree")
@@ -88,6 +100,7 @@ SAYS, TREE = WORD.format("says"), WORD.format("tree")
 TEXTS = {
     "crates/functions/src/lib.rt": (FUNCTIONS, [
         (13, "`errors`"), (13, ERRORS), (18, ERRORS), (31, COMMENT), (41, "`method`"), (41, ERRORS), (45, COMMENT), (58, ERRORS), (60, COMMENT),
+        (76, COMMENT),
     ]),
     "crates/openapi_cases/src/lib.rt": (FUNCTIONS, []),
     "crates/example_one/src/inner/main.rt": (FUNCTIONS, []),

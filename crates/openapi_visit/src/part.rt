@@ -6,6 +6,7 @@ use openapi_parameters::Parameter;
 use openapi_responses::{RequestBody, Response};
 use openapi_schema::Schema;
 use openapi_security::SecurityScheme;
+use openapi_values::ReferenceOr;
 
 /// An object of a document, or a reference in the place of one.
 #[derive(Clone, Copy, Drop)]
@@ -117,8 +118,17 @@ impl AsPart for SecurityScheme {
     }
 }
 
-impl AsPart for Box<Schema> {
+impl<T: AsPart> AsPart for Box<T> {
     fn as_part(&self) -> Part<'_> {
-        Part::Schema(self)
+        (**self).as_part()
+    }
+}
+
+impl<T: AsPart> AsPart for ReferenceOr<T> {
+    fn as_part(&self) -> Part<'_> {
+        match self {
+            ReferenceOr::Reference { reference } => Part::Reference(reference),
+            ReferenceOr::Item(item) => item.as_part(),
+        }
     }
 }

@@ -6,6 +6,7 @@ use openapi_parameters::Parameter;
 use openapi_responses::{RequestBody, Response};
 use openapi_schema::Schema;
 use openapi_security::SecurityScheme;
+use openapi_values::ReferenceOr;
 
 /// An object of a document, or a reference in its place.
 #[derive(Drop)]
@@ -117,8 +118,17 @@ impl AsPartMut for SecurityScheme {
     }
 }
 
-impl AsPartMut for Box<Schema> {
+impl<T: AsPartMut> AsPartMut for Box<T> {
     fn as_part_mut(&mut self) -> PartMut<'_> {
-        PartMut::Schema(self)
+        (**self).as_part_mut()
+    }
+}
+
+impl<T: AsPartMut> AsPartMut for ReferenceOr<T> {
+    fn as_part_mut(&mut self) -> PartMut<'_> {
+        match self {
+            ReferenceOr::Reference { reference } => PartMut::Reference(reference),
+            ReferenceOr::Item(item) => item.as_part_mut(),
+        }
     }
 }

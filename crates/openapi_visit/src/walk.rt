@@ -23,17 +23,15 @@ impl<'a> Walk<'a> {
         let Some((location, part)) = self.left.pop() else {
             return Ok(None);
         };
-        let mut parts = Parts {
-            alloc: self.alloc,
-            location,
-            found: Vec::new(self.alloc),
-        };
-        parts.inside(part)?;
+        let mut parts = Parts::new(self.alloc, location);
+        parts.inside(part);
         let Parts {
             location,
             found,
+            result,
             ..
         } = parts;
+        result?;
         for inner in found.into_iter().rev() {
             self.left.push(inner)?;
         }

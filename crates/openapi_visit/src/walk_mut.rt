@@ -29,12 +29,9 @@ impl<'a> WalkMut<'a> {
         location: String,
         part: PartMut<'a>,
     ) -> Result<(), AllocError> {
-        let mut parts = PartsMut {
-            alloc: self.alloc,
-            location,
-            found: Vec::new(self.alloc),
-        };
-        parts.inside(part)?;
+        let mut parts = PartsMut::new(self.alloc, location);
+        parts.inside(part);
+        parts.result?;
         for inner in parts.found.into_iter().rev() {
             self.left.push(inner)?;
         }

@@ -63,6 +63,30 @@ impl VisitorMut for Removing {
     }
 }
 
+/// Checks that a document is the one of a text.
+fn check_document(rt: &HostRuntime, document: &OpenAPI, text: &str) -> Result<(), Fail> {
+    let wanted: OpenAPI = read_value(rt, text)?;
+    if *document == wanted {
+        Ok(())
+    } else {
+        Err(Fail::from("another document"))
+    }
+}
+
+/// Checks that a visit ends with an error or without one.
+fn check_visit<V: VisitorMut<Error = Stopped>>(
+    rt: &HostRuntime,
+    visitor: &mut V,
+    document: &mut OpenAPI,
+    is_ok: bool,
+) -> Result<(), Fail> {
+    if visit_mut(rt.alloc(), document, visitor).is_ok() == is_ok {
+        Ok(())
+    } else {
+        Err(Fail::from("the visit ends otherwise"))
+    }
+}
+
 /// Checks that a document is another one after a visit, and that the visit ends with an error or without one.
 fn check_visited<V: VisitorMut<Error = Stopped>>(
     rt: &HostRuntime,
@@ -72,14 +96,9 @@ fn check_visited<V: VisitorMut<Error = Stopped>>(
     is_ok: bool,
 ) -> Result<(), Fail> {
     let mut document: OpenAPI = read_value(rt, given)?;
-    if visit_mut(rt.alloc(), &mut document, visitor).is_ok() != is_ok {
-        return Err(Fail::from("the visit ends otherwise"));
-    }
-    let wanted: OpenAPI = read_value(rt, wanted)?;
-    if document == wanted {
-        Ok(())
-    } else {
-        Err(Fail::from("another document"))
+    match check_visit(rt, visitor, &mut document, is_ok) {
+        Ok(()) => check_document(rt, &document, wanted),
+        Err(fail) => Err(fail),
     }
 }
 

@@ -161,18 +161,22 @@ fn no_lines(alloc: Global) -> Lines {
     }
 }
 
-/// Returns a line for each object and each reference that is visited of a document, in the order of the visits. `visit` and
-/// `visit_mut` visit the same.
+/// Returns a line for each object and each reference that is visited of a document, in the order of the visits. `visit`
+/// and `visit_mut` visit the same.
 ///
 /// # Errors
 ///
 /// Returns [`Fail`] if an allocation fails, if the value is no document, or if `visit_mut` visits otherwise.
 pub fn visited(rt: &HostRuntime, node: &Node) -> Result<String, Fail> {
-    let mut steps = Steps::new(rt);
-    let mut document = OpenAPI::from_node(rt.alloc(), node, &mut steps)?;
+    let mut document = OpenAPI::from_node(rt.alloc(), node, &mut Steps::new(rt))?;
+    lines_of(rt, &mut document)
+}
+
+/// Returns the lines of a document that is read.
+fn lines_of(rt: &HostRuntime, document: &mut OpenAPI) -> Result<String, Fail> {
     let (mut lines, mut lines_mut) = (no_lines(rt.alloc()), no_lines(rt.alloc()));
-    visit(rt.alloc(), &document, &mut lines)?;
-    visit_mut(rt.alloc(), &mut document, &mut lines_mut)?;
+    visit(rt.alloc(), document, &mut lines)?;
+    visit_mut(rt.alloc(), document, &mut lines_mut)?;
     if lines.text != lines_mut.text {
         return Err(Fail::from("visit_mut visits otherwise"));
     }

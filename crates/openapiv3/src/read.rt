@@ -54,9 +54,9 @@ impl From<Fault> for ReadError {
 /// # Examples
 ///
 /// ```rust
-/// let text = r#"{"openapi":"3.0.3","info":{"title":"Pets","version":"1"},"paths":{}}"#;
-/// let document: OpenAPI = from_json(rt.alloc(), text.as_bytes(), &mut Steps::new(&rt))?;
-/// assert_eq!(rt; document.info.title.as_str(), "Pets");
+/// let text = r#"{"title":"Pets","version":"1"}"#;
+/// let info: Info = from_json(rt.alloc(), text.as_bytes(), &mut Steps::new(&rt))?;
+/// assert_eq!(rt; info.title.as_str(), "Pets");
 /// ```
 pub fn from_json<T: FromNode>(
     alloc: Global,

@@ -21,8 +21,6 @@ mod loops;
 #[cfg(test)]
 mod made;
 #[cfg(test)]
-mod methods;
-#[cfg(test)]
 mod parameters;
 #[cfg(test)]
 mod printed;

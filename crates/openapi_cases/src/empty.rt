@@ -13,7 +13,11 @@ fn written<T: ToNode + Drop>(alloc: Global, value: T) -> Result<Node, Fault> {
     value.to_node(alloc)
 }
 
-/// Returns what a new value is written as, by the name of its type, if it has one.
+/// Returns what a new value is written as, by the name of its type, or `None` if no value is made for that name.
+///
+/// # Errors
+///
+/// The result inside is the [`Fault`] of writing the value.
 pub fn written_empty(rt: &HostRuntime, name: &str) -> Option<Result<Node, Fault>> {
     let alloc = rt.alloc();
     Some(match name {

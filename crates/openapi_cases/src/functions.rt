@@ -162,7 +162,11 @@ fn cleaned<T: ByFunctions>(rt: &HostRuntime, node: &Node) -> Result<Node, Fault>
     }
 }
 
-/// Returns what a node is cleaned to by the two functions of the type of a name, if it has some.
+/// Returns what a node is cleaned to by the two functions of the type of a name, or `None` if it has none.
+///
+/// # Errors
+///
+/// The result inside is the [`Fault`] of reading the node or of writing the value.
 pub fn by_functions(rt: &HostRuntime, name: &str, node: &Node) -> Option<Result<Node, Fault>> {
     match name {
         "ReferenceOr<Callback>" => Some(cleaned::<ReferenceOr<Callback>>(rt, node)),

@@ -1,4 +1,5 @@
-//! What is inside each object, in the order of its fields. The macros are used for shared borrows, and with `mut` for mutable ones.
+//! What is inside each object, in the order of its fields. The macros are used for shared borrows, and with `mut` for
+//! mutable ones.
 
 /// Adds the parts of a document.
 macro_rules! document_parts {

@@ -22,7 +22,7 @@ pub(crate) struct PartsMut<'a> {
     alloc: Global,
     pub location: String,
     pub found: Vec<(String, PartMut<'a>)>,
-    /// The first allocation failure, after which nothing is added.
+    /// An error if an allocation failed. Nothing is added afterwards.
     pub result: Result<(), AllocError>,
 }
 

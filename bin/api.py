@@ -4,8 +4,8 @@
 usage: bin/api.py            writes the pages
        bin/api.py --check    writes nothing; fails if a page differs from the sources
 
-The root of `openapiv3` exports its items under comments that name the sections of OpenAPI, and each section is a page. `openapi_faults`
-and `openapi_findings` have a page each. The last line is `N passed, M failed`, and counts pages.
+The root of `openapiv3` exports its items under comments that name the sections of OpenAPI, and each section is a page. `openapi_faults`,
+`openapi_findings` and `openapi_visit_mut` have a page each. The last line is `N passed, M failed`, and counts pages.
 """
 import collections
 import itertools
@@ -16,7 +16,7 @@ import sys
 TOP = os.path.dirname(os.path.dirname(os.path.realpath(__file__)))
 PAGES = f"{TOP}/docs/api"
 # The libraries with pages: the first has one for each section of its root, the others one each.
-ROOT, OTHERS = "openapiv3", ("openapi_faults", "openapi_findings")
+ROOT, OTHERS = "openapiv3", ("openapi_faults", "openapi_findings", "openapi_visit_mut")
 # What the root exports of the kit, which is documented there.
 OF_KIT = ("indexmap",)
 BEGINS = re.compile(r"(?:pub(?:\(crate\))? )?(?:const (?=fn))?(struct|enum|trait|fn|type|const|static|impl)\b(?: (\w+))?")

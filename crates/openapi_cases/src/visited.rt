@@ -1,10 +1,11 @@
 //! Cases on what is visited of a document.
 
 use crate::texts::told;
+use openapi_visit_mut::{VisitorMut, visit_mut};
 use openapiv3::{
     Callback, Components, Encoding, Example, FromNode, Header, Link, MediaType, Node, OpenAPI,
     Operation, Parameter, PathItem, RequestBody, Response, Schema, SecurityScheme, Steps, Visitor,
-    VisitorMut, visit, visit_mut,
+    visit,
 };
 use std::alloc::Global;
 use std::test::Fail;

@@ -1,6 +1,7 @@
 //! Documents that a visitor changes.
 use crate::read::read_value;
-use openapiv3::{OpenAPI, Operation, PathItem, VisitorMut, visit_mut};
+use openapi_visit_mut::{VisitorMut, visit_mut};
+use openapiv3::{OpenAPI, Operation, PathItem};
 use std::alloc::{AllocError, Global};
 use std::test::Fail;
 

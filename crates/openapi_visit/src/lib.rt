@@ -2,18 +2,12 @@
 //!
 //! [`visit`] calls a method of a [`Visitor`] for each object of a document, with the location of the object. A visitor
 //! needs neither recursion nor a match on every type. It overrides the methods for the objects that it needs, and the
-//! others do nothing. [`visit_mut`] and [`VisitorMut`] do the same with mutable references.
+//! others do nothing.
 #![tactic(auto)]
 
-mod inside;
 mod part;
-mod part_mut;
 mod parts;
-mod parts_mut;
 mod visitor;
-mod visitor_mut;
 mod walk;
-mod walk_mut;
 
 pub use visitor::{Visitor, visit};
-pub use visitor_mut::{VisitorMut, visit_mut};

@@ -172,7 +172,7 @@ pub use openapi_node::{
 pub use openapi_resolve::{Component, Resolve, ResolveError};
 
 // Visitors: a method for each object of a document, with its location.
-pub use openapi_visit::{Visitor, VisitorMut, visit, visit_mut};
+pub use openapi_visit::{Visitor, visit};
 
 // Traits that read and write: from and to nodes, and as one word of a set.
 pub use openapi_fields::{FromNode, Referable, Settle, ToNode};

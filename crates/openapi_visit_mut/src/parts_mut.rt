@@ -1,9 +1,4 @@
 //! What is inside each part, borrowed mutably.
-use crate::inside::{
-    any_schema_parts, components_parts, described_parts, document_parts, media_type_parts,
-    object_type_parts, operation_parts, path_item_parts, response_parts, responses_parts,
-    schema_parts,
-};
 use crate::part_mut::{AsPartMut, PartMut};
 use indexmap::IndexMap;
 use openapi_documents::{Components, OpenAPI, Operation, PathItem, Paths};
@@ -98,7 +93,8 @@ impl<'a> PartsMut<'a> {
     }
 
     fn document(&mut self, it: &'a mut OpenAPI) {
-        document_parts!(self, it, mut);
+        self.paths(&mut it.paths);
+        self.some("components", &mut it.components);
     }
 
     fn paths(&mut self, it: &'a mut Paths) {
@@ -106,19 +102,39 @@ impl<'a> PartsMut<'a> {
     }
 
     fn components(&mut self, it: &'a mut Components) {
-        components_parts!(self, it, mut);
+        self.map("schemas/", &mut it.schemas);
+        self.map("responses/", &mut it.responses);
+        self.map("parameters/", &mut it.parameters);
+        self.map("examples/", &mut it.examples);
+        self.map("requestBodies/", &mut it.request_bodies);
+        self.map("headers/", &mut it.headers);
+        self.map("securitySchemes/", &mut it.security_schemes);
+        self.map("links/", &mut it.links);
+        self.map("callbacks/", &mut it.callbacks);
     }
 
     fn path_item(&mut self, it: &'a mut PathItem) {
-        path_item_parts!(self, it, mut);
+        self.list("parameters/", &mut it.parameters);
+        self.some("get", &mut it.get);
+        self.some("put", &mut it.put);
+        self.some("post", &mut it.post);
+        self.some("delete", &mut it.delete);
+        self.some("options", &mut it.options);
+        self.some("head", &mut it.head);
+        self.some("patch", &mut it.patch);
+        self.some("trace", &mut it.trace);
     }
 
     fn operation_fields(&mut self, it: &'a mut Operation) {
-        operation_parts!(self, it, mut);
+        self.list("parameters/", &mut it.parameters);
+        self.some("requestBody", &mut it.request_body);
+        self.responses(&mut it.responses);
+        self.map("callbacks/", &mut it.callbacks);
     }
 
     fn responses(&mut self, it: &'a mut Responses) {
-        responses_parts!(self, it, mut);
+        self.some("responses/default", &mut it.default);
+        self.codes("responses/", &mut it.responses);
     }
 
     fn parameter(&mut self, it: &'a mut Parameter) {
@@ -131,32 +147,63 @@ impl<'a> PartsMut<'a> {
     }
 
     fn parameter_data(&mut self, it: &'a mut ParameterData) {
-        described_parts!(self, it, mut);
+        match &mut it.format {
+            ParameterSchemaOrContent::Schema(it) => self.one("schema", it),
+            ParameterSchemaOrContent::Content(it) => self.map("content/", it),
+        }
+        self.map("examples/", &mut it.examples);
     }
 
     fn header(&mut self, it: &'a mut Header) {
-        described_parts!(self, it, mut);
+        match &mut it.format {
+            ParameterSchemaOrContent::Schema(it) => self.one("schema", it),
+            ParameterSchemaOrContent::Content(it) => self.map("content/", it),
+        }
+        self.map("examples/", &mut it.examples);
     }
 
     fn response(&mut self, it: &'a mut Response) {
-        response_parts!(self, it, mut);
+        self.map("headers/", &mut it.headers);
+        self.map("content/", &mut it.content);
+        self.map("links/", &mut it.links);
     }
 
     fn media_type(&mut self, it: &'a mut MediaType) {
-        media_type_parts!(self, it, mut);
+        self.some("schema", &mut it.schema);
+        self.map("examples/", &mut it.examples);
+        self.map("encoding/", &mut it.encoding);
     }
 
     fn object_type(&mut self, it: &'a mut ObjectType) {
-        object_type_parts!(self, it, mut);
+        self.map("properties/", &mut it.properties);
+        if let Some(AdditionalProperties::Schema(it)) = &mut it.additional_properties {
+            self.one("additionalProperties", it);
+        }
     }
 
     fn any_schema(&mut self, it: &'a mut AnySchema) {
-        object_type_parts!(self, it, mut);
-        any_schema_parts!(self, it, mut);
+        self.map("properties/", &mut it.properties);
+        if let Some(AdditionalProperties::Schema(it)) = &mut it.additional_properties {
+            self.one("additionalProperties", it);
+        }
+        self.some("items", &mut it.items);
+        self.list("oneOf/", &mut it.one_of);
+        self.list("allOf/", &mut it.all_of);
+        self.list("anyOf/", &mut it.any_of);
+        self.some("not", &mut it.not);
     }
 
     fn schema(&mut self, it: &'a mut Schema) {
-        schema_parts!(self, it.schema_kind, mut);
+        match &mut it.schema_kind {
+            SchemaKind::Typed(Type::Object(it)) => self.object_type(it),
+            SchemaKind::Typed(Type::Array(it)) => self.some("items", &mut it.items),
+            SchemaKind::Typed(_) => {}
+            SchemaKind::OneOf { one_of } => self.list("oneOf/", one_of),
+            SchemaKind::AllOf { all_of } => self.list("allOf/", all_of),
+            SchemaKind::AnyOf { any_of } => self.list("anyOf/", any_of),
+            SchemaKind::Not { not } => self.one("not", not),
+            SchemaKind::Any(it) => self.any_schema(it),
+        }
     }
 
     /// Adds the parts of a part, in the order of its fields.

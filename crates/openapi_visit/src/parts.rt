@@ -1,20 +1,18 @@
 //! What is inside each part.
-use crate::part::{AsPart, Part};
-use indexmap::IndexMap;
+use crate::part::Part;
 use openapi_documents::{Components, Operation, PathItem};
 use openapi_map::OrderedMap;
-use openapi_media_types::ParameterSchemaOrContent;
+use openapi_media_types::{Content, MediaType, ParameterSchemaOrContent};
 use openapi_metadata::Example;
 use openapi_node::ReferenceToken;
-use openapi_responses::Response;
 use openapi_schema::{AdditionalProperties, AnySchema, Schema, SchemaKind, Type};
-use openapi_values::{ReferenceOr, StatusCode};
+use openapi_values::ReferenceOr;
 use std::alloc::{AllocError, Global};
 
 /// The parts inside one part, each with its location, a JSON Pointer.
 #[derive(Drop)]
 pub(crate) struct Parts<P> {
-    pub alloc: Global,
+    alloc: Global,
     pub location: String,
     pub found: Vec<(String, P)>,
     /// An error if an allocation failed. Nothing is added afterwards.
@@ -56,71 +54,118 @@ impl<P: Drop> Parts<P> {
     }
 }
 
-impl<'a> Parts<Part<'a>> {
-    /// Adds the value of a field that has one.
-    fn some<T: AsPart>(&mut self, path: &str, value: &'a Option<T>) {
-        if let Some(value) = value {
-            self.add(path, value.as_part());
+/// Makes a part of a value, or of the reference in its place.
+macro_rules! part {
+    ($value:expr, $kind:ident) => {
+        match $value {
+            ReferenceOr::Reference { reference } => Part::Reference(reference),
+            ReferenceOr::Item(item) => Part::$kind(item),
         }
-    }
+    };
+}
 
-    /// Adds each value of a map. The path is what comes before the names.
-    fn map<T: AsPart>(&mut self, path: &str, values: &'a OrderedMap<T>) {
-        for (name, value) in values.iter() {
-            self.entry(
-                format!(in self.alloc; "{path}{}", ReferenceToken(name)),
-                value.as_part(),
+/// Adds the value of a field that has one.
+macro_rules! add_some {
+    ($parts:ident, $path:literal, $value:expr, $kind:ident) => {
+        if let Some(value) = &$value {
+            $parts.add($path, Part::$kind(value));
+        }
+    };
+}
+
+/// Adds each value of a map, or the reference in its place. The path is what comes before the names.
+macro_rules! add_map {
+    ($parts:ident, $path:literal, $values:expr, $kind:ident) => {
+        for (name, value) in $values.iter() {
+            $parts.entry(
+                format!(in $parts.alloc; "{}{}", $path, ReferenceToken(name)),
+                part!(value, $kind),
             );
         }
-    }
+    };
+}
 
-    /// Adds each response of a status code.
-    fn codes(&mut self, path: &str, values: &'a IndexMap<StatusCode, ReferenceOr<Response>>) {
-        for (code, value) in values.iter() {
-            self.entry(format!(in self.alloc; "{path}{code}"), value.as_part());
+/// Adds each value of a list, or the reference in its place.
+macro_rules! add_list {
+    ($parts:ident, $path:literal, $values:expr, $kind:ident) => {
+        for (index, value) in $values.iter().enumerate() {
+            $parts.entry(format!(in $parts.alloc; "{}{index}", $path), part!(value, $kind));
         }
-    }
+    };
+}
 
-    /// Adds each value of a list.
-    fn list<T: AsPart>(&mut self, path: &str, values: &'a [T]) {
-        for (index, value) in values.iter().enumerate() {
-            self.entry(format!(in self.alloc; "{path}{index}"), value.as_part());
-        }
-    }
-
+impl<'a> Parts<Part<'a>> {
     /// Adds the components of a document.
     fn components(&mut self, it: &'a Components) {
-        self.map("schemas/", &it.schemas);
-        self.map("responses/", &it.responses);
-        self.map("parameters/", &it.parameters);
-        self.map("examples/", &it.examples);
-        self.map("requestBodies/", &it.request_bodies);
-        self.map("headers/", &it.headers);
-        self.map("securitySchemes/", &it.security_schemes);
-        self.map("links/", &it.links);
-        self.map("callbacks/", &it.callbacks);
+        add_map!(self, "schemas/", it.schemas, Schema);
+        add_map!(self, "responses/", it.responses, Response);
+        add_map!(self, "parameters/", it.parameters, Parameter);
+        add_map!(self, "examples/", it.examples, Example);
+        add_map!(self, "requestBodies/", it.request_bodies, RequestBody);
+        add_map!(self, "headers/", it.headers, Header);
+        add_map!(
+            self,
+            "securitySchemes/",
+            it.security_schemes,
+            SecurityScheme
+        );
+        add_map!(self, "links/", it.links, Link);
+        add_map!(self, "callbacks/", it.callbacks, Callback);
     }
 
     /// Adds the parameters and the operations of a path item.
     fn path_item(&mut self, it: &'a PathItem) {
-        self.list("parameters/", &it.parameters);
-        self.some("get", &it.get);
-        self.some("put", &it.put);
-        self.some("post", &it.post);
-        self.some("delete", &it.delete);
-        self.some("options", &it.options);
-        self.some("head", &it.head);
-        self.some("patch", &it.patch);
-        self.some("trace", &it.trace);
+        add_list!(self, "parameters/", it.parameters, Parameter);
+        add_some!(self, "get", it.get, Operation);
+        add_some!(self, "put", it.put, Operation);
+        add_some!(self, "post", it.post, Operation);
+        add_some!(self, "delete", it.delete, Operation);
+        add_some!(self, "options", it.options, Operation);
+        add_some!(self, "head", it.head, Operation);
+        add_some!(self, "patch", it.patch, Operation);
+        add_some!(self, "trace", it.trace, Operation);
     }
 
     /// Adds the parts of an operation.
     fn operation_fields(&mut self, it: &'a Operation) {
-        self.list("parameters/", &it.parameters);
-        self.some("requestBody", &it.request_body);
-        self.some("responses/default", &it.responses.default);
-        self.codes("responses/", &it.responses.responses);
-        self.map("callbacks/", &it.callbacks);
+        add_list!(self, "parameters/", it.parameters, Parameter);
+        if let Some(it) = &it.request_body {
+            self.add("requestBody", part!(it, RequestBody));
+        }
+        if let Some(it) = &it.responses.default {
+            self.add("responses/default", part!(it, Response));
+        }
+        for (code, value) in it.responses.responses.iter() {
+            self.entry(
+                format!(in self.alloc; "responses/{code}"),
+                part!(value, Response),
+            );
+        }
+        add_map!(self, "callbacks/", it.callbacks, Callback);
+    }
+
+    /// Adds the media types of a body, a parameter or a header.
+    fn content(&mut self, it: &'a Content) {
+        for (name, value) in it.iter() {
+            self.entry(
+                format!(in self.alloc; "content/{}", ReferenceToken(name)),
+                Part::MediaType(value),
+            );
+        }
+    }
+
+    /// Adds the parts of a media type.
+    fn media_type(&mut self, it: &'a MediaType) {
+        if let Some(it) = &it.schema {
+            self.add("schema", part!(it, Schema));
+        }
+        add_map!(self, "examples/", it.examples, Example);
+        for (name, value) in it.encoding.iter() {
+            self.entry(
+                format!(in self.alloc; "encoding/{}", ReferenceToken(name)),
+                Part::Encoding(value),
+            );
+        }
     }
 
     /// Adds the parts of a parameter or a header.
@@ -130,10 +175,10 @@ impl<'a> Parts<Part<'a>> {
         examples: &'a OrderedMap<ReferenceOr<Example>>,
     ) {
         match format {
-            ParameterSchemaOrContent::Schema(it) => self.add("schema", it.as_part()),
-            ParameterSchemaOrContent::Content(it) => self.map("content/", it),
+            ParameterSchemaOrContent::Schema(it) => self.add("schema", part!(it, Schema)),
+            ParameterSchemaOrContent::Content(it) => self.content(it),
         }
-        self.map("examples/", examples);
+        add_map!(self, "examples/", examples, Example);
     }
 
     /// Adds the schemas of the properties of an object.
@@ -142,9 +187,9 @@ impl<'a> Parts<Part<'a>> {
         properties: &'a OrderedMap<ReferenceOr<Box<Schema>>>,
         additional: &'a Option<AdditionalProperties>,
     ) {
-        self.map("properties/", properties);
+        add_map!(self, "properties/", properties, Schema);
         if let Some(AdditionalProperties::Schema(it)) = additional {
-            self.add("additionalProperties", it.as_part());
+            self.add("additionalProperties", part!(&**it, Schema));
         }
     }
 
@@ -154,12 +199,16 @@ impl<'a> Parts<Part<'a>> {
             SchemaKind::Typed(Type::Object(it)) => {
                 self.properties(&it.properties, &it.additional_properties)
             }
-            SchemaKind::Typed(Type::Array(it)) => self.some("items", &it.items),
+            SchemaKind::Typed(Type::Array(it)) => {
+                if let Some(it) = &it.items {
+                    self.add("items", part!(it, Schema));
+                }
+            }
             SchemaKind::Typed(_) => {}
-            SchemaKind::OneOf { one_of } => self.list("oneOf/", one_of),
-            SchemaKind::AllOf { all_of } => self.list("allOf/", all_of),
-            SchemaKind::AnyOf { any_of } => self.list("anyOf/", any_of),
-            SchemaKind::Not { not } => self.add("not", not.as_part()),
+            SchemaKind::OneOf { one_of } => add_list!(self, "oneOf/", one_of, Schema),
+            SchemaKind::AllOf { all_of } => add_list!(self, "allOf/", all_of, Schema),
+            SchemaKind::AnyOf { any_of } => add_list!(self, "anyOf/", any_of, Schema),
+            SchemaKind::Not { not } => self.add("not", part!(&**not, Schema)),
             SchemaKind::Any(it) => self.any_schema(it),
         }
     }
@@ -167,19 +216,23 @@ impl<'a> Parts<Part<'a>> {
     /// Adds the schemas inside a schema of no kind.
     fn any_schema(&mut self, it: &'a AnySchema) {
         self.properties(&it.properties, &it.additional_properties);
-        self.some("items", &it.items);
-        self.list("oneOf/", &it.one_of);
-        self.list("allOf/", &it.all_of);
-        self.list("anyOf/", &it.any_of);
-        self.some("not", &it.not);
+        if let Some(it) = &it.items {
+            self.add("items", part!(it, Schema));
+        }
+        add_list!(self, "oneOf/", it.one_of, Schema);
+        add_list!(self, "allOf/", it.all_of, Schema);
+        add_list!(self, "anyOf/", it.any_of, Schema);
+        if let Some(it) = &it.not {
+            self.add("not", part!(&**it, Schema));
+        }
     }
 
     /// Adds the parts of a part, in the order of its fields.
     pub(crate) fn inside(&mut self, part: Part<'a>) {
         match part {
             Part::Document(it) => {
-                self.map("paths/", &it.paths.paths);
-                self.some("components", &it.components);
+                add_map!(self, "paths/", it.paths.paths, PathItem);
+                add_some!(self, "components", it.components, Components);
             }
             Part::Components(it) => self.components(it),
             Part::PathItem(it) => self.path_item(it),
@@ -188,20 +241,23 @@ impl<'a> Parts<Part<'a>> {
                 let it = it.parameter_data_ref();
                 self.described(&it.format, &it.examples)
             }
-            Part::RequestBody(it) => self.map("content/", &it.content),
+            Part::RequestBody(it) => self.content(&it.content),
             Part::Response(it) => {
-                self.map("headers/", &it.headers);
-                self.map("content/", &it.content);
-                self.map("links/", &it.links);
+                add_map!(self, "headers/", it.headers, Header);
+                self.content(&it.content);
+                add_map!(self, "links/", it.links, Link);
             }
             Part::Header(it) => self.described(&it.format, &it.examples),
-            Part::MediaType(it) => {
-                self.some("schema", &it.schema);
-                self.map("examples/", &it.examples);
-                self.map("encoding/", &it.encoding);
+            Part::MediaType(it) => self.media_type(it),
+            Part::Encoding(it) => add_map!(self, "headers/", it.headers, Header),
+            Part::Callback(it) => {
+                for (name, value) in it.paths.iter() {
+                    self.entry(
+                        format!(in self.alloc; "{}", ReferenceToken(name)),
+                        Part::PathItem(value),
+                    );
+                }
             }
-            Part::Encoding(it) => self.map("headers/", &it.headers),
-            Part::Callback(it) => self.map("", &it.paths),
             Part::Schema(it) => self.schema(it),
             Part::Example(_) | Part::Link(_) | Part::SecurityScheme(_) | Part::Reference(_) => {}
         }

@@ -28,10 +28,8 @@ its name, a hash of what the verdict rests on, and the reason, in one of these w
 - `limit`: the prover met a limit of its own, or its search did at each goal.
 - `shape`: the mutation adds a function or a loop. So what is not proved may be what the contract of that function leaves out, or
   need an invariant that the loop has not.
-The last three are no refusals: the mutation is rewritten, or gets a twin. A verdict without a reason was kept before reasons
-were, or written by hand for a mutation that was not tried on the text as it is. It decides nothing: the mutation is tried again
-when its crate is. `--compare` fails for `proof`, `limit` and `shape`, and for a mutation that has no verdict on the text. Those
-without a reason are undecided, and count neither as passed nor as failed.
+The last three are no refusals: the mutation is rewritten, or gets a twin. `--compare` fails for them, and for a mutation that has
+no verdict on the text as it is.
 
 Mutations are expensive, so each is tried when what its verdict rests on has changed. The second line of `edits/verdicts` is that
 of `rt version`. The verdicts hold for each release of the kit that has the same logic, which that line names too.
@@ -76,8 +74,6 @@ VERDICTS = f"{TOP}/edits/verdicts"
 HEAD = "# The kit, and for each mutation the hash of what its verdict rests on, and the reason.\n"
 # The first words of the reasons that make a mutation refused.
 REFUSED = ("goal", "lemma", "twin")
-# Why a mutation is tried again whose verdict was kept before reasons were.
-NO_REASON = "no reason"
 # The crates that `--draw` draws from if none is named: the lowest, so that few proofs are needed if none are kept.
 LOWEST = ("openapi_json", "openapi_map", "openapi_node", "openapi_tables", "openapi_values")
 # A line of a source that no proof sees: a comment, or a hint on inlining.
@@ -351,7 +347,7 @@ def verdicts(kit):
             before, *lines = [line.strip() for line in it if line.strip() and not line.startswith("#")] or [""]
         if logic_of(before) == logic_of(kit):
             words = [it.split(" ", 2) for it in lines]
-            return before, {name: (whole, *reason) for name, whole, *reason in words}
+            return before, {it[0]: (it[1], it[2]) for it in words if len(it) == 3}
     return kit, {}
 
 
@@ -378,34 +374,31 @@ def is_refusal(reason):
 
 def due_of(crate, found):
     """Returns the names of the crate's mutations. For each that has no verdict of a refusal on the text as it is, it returns why:
-    another text, no reason, or a reason that is none."""
+    another text, or a reason that is none."""
     sources, due = Sources(crate), {}
     edits = edits_of(crate)
     for it in edits:
-        whole, *reason = found.get(it.name, ("",))
+        whole, reason = found.get(it.name, ("", ""))
         if whole != sources.hash_of(it) or it.applied(sources.files) is None:
             due[it.name] = "no verdict on this text"
-        elif not reason or not is_refusal(*reason):
-            due[it.name] = reason[0] if reason else NO_REASON
+        elif not is_refusal(reason):
+            due[it.name] = reason
     return [it.name for it in edits], due
 
 
 def compare():
-    """Prints for each crate with mutations which of them were not refused on its text as it is. Those with a verdict on that text
-    that decides nothing yet count neither as passed nor as failed."""
-    found, edits, undecided, failed = verdicts(version())[1], [], 0, 0
+    """Prints for each crate with mutations which of them were not refused on its text as it is."""
+    found, many, failed = verdicts(version())[1], 0, 0
     for crate in crates_with_edits():
-        own, left = due_of(crate, found)
-        due = {name: why for name, why in left.items() if why != NO_REASON}
-        edits, undecided, failed = edits + own, undecided + len(left) - len(due), failed + len(due)
+        own, due = due_of(crate, found)
+        many, failed = many + len(own), failed + len(due)
         if due:
             print(f"mutations of {crate}: FAILED: {len(due)} of {len(own)} are due; run tests/edits.py {crate}")
             for why, names in itertools.groupby(sorted(due, key=due.get), due.get):
                 print(f"    {why}: {' '.join(it.partition('/')[2] for it in names)}")
         else:
-            print(f"mutations of {crate}: {len(own) - len(left)} were refused at a clause, {len(left)} are undecided")
-    print(f"{undecided} of {len(edits)} are undecided: {NO_REASON}")
-    print(f"{len(edits) - undecided - failed} passed, {failed} failed")
+            print(f"mutations of {crate}: {len(own)} were refused at a clause")
+    print(f"{many - failed} passed, {failed} failed")
     return 1 if failed else 0
 
 
@@ -591,13 +584,12 @@ class Trial:
         self.crate, self.at_most, self.line, self.lock = crate, together, line, threading.Lock()
         self.sources, self.edits, self.is_drawn = Sources(crate), drawn or edits_of(crate), drawn is not None
         self.hashes = {it: self.sources.hash_of(it) for it in self.edits}
-        found = {} if self.is_drawn else {(name, whole): reason for name, (whole, *reason) in verdicts(line)[1].items()}
-        self.known = {it: found[it.name, whole] for it, whole in self.hashes.items() if (it.name, whole) in found}
-        self.came = {it: reason[0] for it, reason in self.known.items() if reason}
+        found = {} if self.is_drawn else {(name, whole): reason for name, (whole, reason) in verdicts(line)[1].items()}
+        self.came = {it: found[it.name, whole] for it, whole in self.hashes.items() if (it.name, whole) in found}
 
     def left(self):
-        """Returns the mutations that are to be tried, those first that have no verdict at all on the text as it is."""
-        return sorted((it for it in self.edits if it not in self.came), key=self.known.__contains__)
+        """Returns the mutations that are to be tried."""
+        return [it for it in self.edits if it not in self.came]
 
     def failed(self):
         return [it for it in self.edits if not is_refusal(self.came.get(it, ""))]

@@ -54,42 +54,45 @@ impl<P: Drop> Parts<P> {
     }
 }
 
-/// Makes a part of a value, or of the reference in its place.
+/// Makes a part of a value. What comes before the name of the part is how it is held, as in the type of the value: in a
+/// `Box`, or by a `ReferenceOr`.
 macro_rules! part {
-    ($value:expr, $kind:ident) => {
+    ($value:expr, Box $($held:ident)+) => { part!(&**$value, $($held)+) };
+    ($value:expr, ReferenceOr $kind:ident) => {
         match $value {
             ReferenceOr::Reference { reference } => Part::Reference(reference),
             ReferenceOr::Item(item) => Part::$kind(item),
         }
     };
+    ($value:expr, $kind:ident) => { Part::$kind($value) };
 }
 
 /// Adds the value of a field that has one.
 macro_rules! add_some {
-    ($parts:ident, $path:literal, $value:expr, $kind:ident) => {
+    ($parts:ident, $path:literal, $value:expr, $($held:ident)+) => {
         if let Some(value) = &$value {
-            $parts.add($path, Part::$kind(value));
+            $parts.add($path, part!(value, $($held)+));
         }
     };
 }
 
-/// Adds each value of a map, or the reference in its place. The path is what comes before the names.
+/// Adds each value of a map. The path is what comes before the names.
 macro_rules! add_map {
-    ($parts:ident, $path:literal, $values:expr, $kind:ident) => {
+    ($parts:ident, $path:literal, $values:expr, $($held:ident)+) => {
         for (name, value) in $values.iter() {
             $parts.entry(
                 format!(in $parts.alloc; "{}{}", $path, ReferenceToken(name)),
-                part!(value, $kind),
+                part!(value, $($held)+),
             );
         }
     };
 }
 
-/// Adds each value of a list, or the reference in its place.
+/// Adds each value of a list.
 macro_rules! add_list {
-    ($parts:ident, $path:literal, $values:expr, $kind:ident) => {
+    ($parts:ident, $path:literal, $values:expr, $($held:ident)+) => {
         for (index, value) in $values.iter().enumerate() {
-            $parts.entry(format!(in $parts.alloc; "{}{index}", $path), part!(value, $kind));
+            $parts.entry(format!(in $parts.alloc; "{}{index}", $path), part!(value, $($held)+));
         }
     };
 }
@@ -97,25 +100,20 @@ macro_rules! add_list {
 impl<'a> Parts<Part<'a>> {
     /// Adds the components of a document.
     fn components(&mut self, it: &'a Components) {
-        add_map!(self, "schemas/", it.schemas, Schema);
-        add_map!(self, "responses/", it.responses, Response);
-        add_map!(self, "parameters/", it.parameters, Parameter);
-        add_map!(self, "examples/", it.examples, Example);
-        add_map!(self, "requestBodies/", it.request_bodies, RequestBody);
-        add_map!(self, "headers/", it.headers, Header);
-        add_map!(
-            self,
-            "securitySchemes/",
-            it.security_schemes,
-            SecurityScheme
-        );
-        add_map!(self, "links/", it.links, Link);
-        add_map!(self, "callbacks/", it.callbacks, Callback);
+        add_map!(self, "schemas/", it.schemas, ReferenceOr Schema);
+        add_map!(self, "responses/", it.responses, ReferenceOr Response);
+        add_map!(self, "parameters/", it.parameters, ReferenceOr Parameter);
+        add_map!(self, "examples/", it.examples, ReferenceOr Example);
+        add_map!(self, "requestBodies/", it.request_bodies, ReferenceOr RequestBody);
+        add_map!(self, "headers/", it.headers, ReferenceOr Header);
+        add_map!(self, "securitySchemes/", it.security_schemes, ReferenceOr SecurityScheme);
+        add_map!(self, "links/", it.links, ReferenceOr Link);
+        add_map!(self, "callbacks/", it.callbacks, ReferenceOr Callback);
     }
 
     /// Adds the parameters and the operations of a path item.
     fn path_item(&mut self, it: &'a PathItem) {
-        add_list!(self, "parameters/", it.parameters, Parameter);
+        add_list!(self, "parameters/", it.parameters, ReferenceOr Parameter);
         add_some!(self, "get", it.get, Operation);
         add_some!(self, "put", it.put, Operation);
         add_some!(self, "post", it.post, Operation);
@@ -128,44 +126,28 @@ impl<'a> Parts<Part<'a>> {
 
     /// Adds the parts of an operation.
     fn operation_fields(&mut self, it: &'a Operation) {
-        add_list!(self, "parameters/", it.parameters, Parameter);
-        if let Some(it) = &it.request_body {
-            self.add("requestBody", part!(it, RequestBody));
-        }
-        if let Some(it) = &it.responses.default {
-            self.add("responses/default", part!(it, Response));
-        }
+        add_list!(self, "parameters/", it.parameters, ReferenceOr Parameter);
+        add_some!(self, "requestBody", it.request_body, ReferenceOr RequestBody);
+        add_some!(self, "responses/default", it.responses.default, ReferenceOr Response);
         for (code, value) in it.responses.responses.iter() {
             self.entry(
                 format!(in self.alloc; "responses/{code}"),
-                part!(value, Response),
+                part!(value, ReferenceOr Response),
             );
         }
-        add_map!(self, "callbacks/", it.callbacks, Callback);
+        add_map!(self, "callbacks/", it.callbacks, ReferenceOr Callback);
     }
 
     /// Adds the media types of a body, a parameter or a header.
     fn content(&mut self, it: &'a Content) {
-        for (name, value) in it.iter() {
-            self.entry(
-                format!(in self.alloc; "content/{}", ReferenceToken(name)),
-                Part::MediaType(value),
-            );
-        }
+        add_map!(self, "content/", it, MediaType);
     }
 
     /// Adds the parts of a media type.
     fn media_type(&mut self, it: &'a MediaType) {
-        if let Some(it) = &it.schema {
-            self.add("schema", part!(it, Schema));
-        }
-        add_map!(self, "examples/", it.examples, Example);
-        for (name, value) in it.encoding.iter() {
-            self.entry(
-                format!(in self.alloc; "encoding/{}", ReferenceToken(name)),
-                Part::Encoding(value),
-            );
-        }
+        add_some!(self, "schema", it.schema, ReferenceOr Schema);
+        add_map!(self, "examples/", it.examples, ReferenceOr Example);
+        add_map!(self, "encoding/", it.encoding, Encoding);
     }
 
     /// Adds the parts of a parameter or a header.
@@ -175,10 +157,13 @@ impl<'a> Parts<Part<'a>> {
         examples: &'a OrderedMap<ReferenceOr<Example>>,
     ) {
         match format {
-            ParameterSchemaOrContent::Schema(it) => self.add("schema", part!(it, Schema)),
+            ParameterSchemaOrContent::Schema(it) => self.add(
+                "schema",
+                part!(it, ReferenceOr Schema),
+            ),
             ParameterSchemaOrContent::Content(it) => self.content(it),
         }
-        add_map!(self, "examples/", examples, Example);
+        add_map!(self, "examples/", examples, ReferenceOr Example);
     }
 
     /// Adds the schemas of the properties of an object.
@@ -187,9 +172,9 @@ impl<'a> Parts<Part<'a>> {
         properties: &'a OrderedMap<ReferenceOr<Box<Schema>>>,
         additional: &'a Option<AdditionalProperties>,
     ) {
-        add_map!(self, "properties/", properties, Schema);
+        add_map!(self, "properties/", properties, ReferenceOr Schema);
         if let Some(AdditionalProperties::Schema(it)) = additional {
-            self.add("additionalProperties", part!(&**it, Schema));
+            self.add("additionalProperties", part!(it, Box ReferenceOr Schema));
         }
     }
 
@@ -200,15 +185,13 @@ impl<'a> Parts<Part<'a>> {
                 self.properties(&it.properties, &it.additional_properties)
             }
             SchemaKind::Typed(Type::Array(it)) => {
-                if let Some(it) = &it.items {
-                    self.add("items", part!(it, Schema));
-                }
+                add_some!(self, "items", it.items, ReferenceOr Schema);
             }
             SchemaKind::Typed(_) => {}
-            SchemaKind::OneOf { one_of } => add_list!(self, "oneOf/", one_of, Schema),
-            SchemaKind::AllOf { all_of } => add_list!(self, "allOf/", all_of, Schema),
-            SchemaKind::AnyOf { any_of } => add_list!(self, "anyOf/", any_of, Schema),
-            SchemaKind::Not { not } => self.add("not", part!(&**not, Schema)),
+            SchemaKind::OneOf { one_of } => add_list!(self, "oneOf/", one_of, ReferenceOr Schema),
+            SchemaKind::AllOf { all_of } => add_list!(self, "allOf/", all_of, ReferenceOr Schema),
+            SchemaKind::AnyOf { any_of } => add_list!(self, "anyOf/", any_of, ReferenceOr Schema),
+            SchemaKind::Not { not } => self.add("not", part!(not, Box ReferenceOr Schema)),
             SchemaKind::Any(it) => self.any_schema(it),
         }
     }
@@ -216,22 +199,18 @@ impl<'a> Parts<Part<'a>> {
     /// Adds the schemas inside a schema of no kind.
     fn any_schema(&mut self, it: &'a AnySchema) {
         self.properties(&it.properties, &it.additional_properties);
-        if let Some(it) = &it.items {
-            self.add("items", part!(it, Schema));
-        }
-        add_list!(self, "oneOf/", it.one_of, Schema);
-        add_list!(self, "allOf/", it.all_of, Schema);
-        add_list!(self, "anyOf/", it.any_of, Schema);
-        if let Some(it) = &it.not {
-            self.add("not", part!(&**it, Schema));
-        }
+        add_some!(self, "items", it.items, ReferenceOr Schema);
+        add_list!(self, "oneOf/", it.one_of, ReferenceOr Schema);
+        add_list!(self, "allOf/", it.all_of, ReferenceOr Schema);
+        add_list!(self, "anyOf/", it.any_of, ReferenceOr Schema);
+        add_some!(self, "not", it.not, Box ReferenceOr Schema);
     }
 
     /// Adds the parts of a part, in the order of its fields.
     pub(crate) fn inside(&mut self, part: Part<'a>) {
         match part {
             Part::Document(it) => {
-                add_map!(self, "paths/", it.paths.paths, PathItem);
+                add_map!(self, "paths/", it.paths.paths, ReferenceOr PathItem);
                 add_some!(self, "components", it.components, Components);
             }
             Part::Components(it) => self.components(it),
@@ -243,20 +222,15 @@ impl<'a> Parts<Part<'a>> {
             }
             Part::RequestBody(it) => self.content(&it.content),
             Part::Response(it) => {
-                add_map!(self, "headers/", it.headers, Header);
+                add_map!(self, "headers/", it.headers, ReferenceOr Header);
                 self.content(&it.content);
-                add_map!(self, "links/", it.links, Link);
+                add_map!(self, "links/", it.links, ReferenceOr Link);
             }
             Part::Header(it) => self.described(&it.format, &it.examples),
             Part::MediaType(it) => self.media_type(it),
-            Part::Encoding(it) => add_map!(self, "headers/", it.headers, Header),
+            Part::Encoding(it) => add_map!(self, "headers/", it.headers, ReferenceOr Header),
             Part::Callback(it) => {
-                for (name, value) in it.paths.iter() {
-                    self.entry(
-                        format!(in self.alloc; "{}", ReferenceToken(name)),
-                        Part::PathItem(value),
-                    );
-                }
+                add_map!(self, "", it.paths, PathItem);
             }
             Part::Schema(it) => self.schema(it),
             Part::Example(_) | Part::Link(_) | Part::SecurityScheme(_) | Part::Reference(_) => {}

@@ -1,4 +1,5 @@
-//! The rows of an object, one to a line: the field, the call that reads or writes its row, and the name of the row.
+//! The rows of an object, one to a line: the field, the call that reads or writes its row, and the name of the row. Also
+//! values made of results, one for each field.
 
 /// Reads a value whose fields are those of a table, each by the call that its line names:
 /// [`required`](crate::required), [`optional`](crate::optional), [`nullable`](crate::nullable) or
@@ -38,4 +39,34 @@ macro_rules! write_rows {
         $($crate::$put($alloc, $object, $out, $name, $field)?;)*
         $crate::put_extensions($alloc, $object, $out, $extensions)
     }};
+}
+
+/// Makes a value of results, one for each field. It evaluates to the value, or to the first error in the order in which the
+/// fields are listed. The results are [joined](crate::join), so that no value is held where a result may be an error. What
+/// is large comes last, since each value is moved by all joins behind it.
+#[macro_export]
+macro_rules! from_joined {
+    ($($value:ident)::+ { $($field:ident: $result:expr),+ $(,)? }) => {
+        match $crate::joined!($($result),+) {
+            Ok(joined) => {
+                let $crate::nested!($($field),+) = joined;
+                Ok($($value)::+ { $($field),+ })
+            }
+            Err(error) => Err(error),
+        }
+    };
+}
+
+/// Joins results, from the first one on.
+#[macro_export]
+macro_rules! joined {
+    ($result:expr) => { $result };
+    ($first:expr, $second:expr $(, $rest:expr)*) => { $crate::joined!($crate::join($first, $second) $(, $rest)*) };
+}
+
+/// The pattern of what [`joined!`](crate::joined) joins.
+#[macro_export]
+macro_rules! nested {
+    ($value:tt) => { $value };
+    ($first:tt, $second:ident $(, $rest:ident)*) => { $crate::nested!(($first, $second) $(, $rest)*) };
 }

@@ -7,7 +7,7 @@ use crate::authorization_code_flow::AuthorizationCodeOAuth2Flow;
 use crate::client_credentials_flow::ClientCredentialsOAuth2Flow;
 use crate::implicit_flow::ImplicitOAuth2Flow;
 use crate::password_flow::PasswordOAuth2Flow;
-use openapi_fields::{Object, Record, extensions, join, optional, write_rows};
+use openapi_fields::{Object, Record, extensions, from_joined, optional, write_rows};
 use openapi_node::{Members, Node, OrderedMap, Result, Steps};
 use std::alloc::Global;
 
@@ -53,21 +53,12 @@ impl Object for OAuth2Flows {
 
 impl Record for OAuth2Flows {
     fn from_members(alloc: Global, members: &Members, steps: &mut Steps) -> Result<Self> {
-        let implicit = optional::<Self, _>(alloc, members, "implicit", steps);
-        let password = optional::<Self, _>(alloc, members, "password", steps);
-        let client = optional::<Self, _>(alloc, members, "clientCredentials", steps);
-        let code = optional::<Self, _>(alloc, members, "authorizationCode", steps);
-        let flows = join(join(implicit, password), join(client, code));
-        let (((implicit, password), (client_credentials, authorization_code)), extensions) = join(
-            flows,
-            extensions::<Self>(alloc, members, steps),
-        )?;
-        Ok(OAuth2Flows {
-            implicit,
-            password,
-            client_credentials,
-            authorization_code,
-            extensions,
+        from_joined!(OAuth2Flows {
+            implicit: optional::<Self, _>(alloc, members, "implicit", steps),
+            password: optional::<Self, _>(alloc, members, "password", steps),
+            client_credentials: optional::<Self, _>(alloc, members, "clientCredentials", steps),
+            authorization_code: optional::<Self, _>(alloc, members, "authorizationCode", steps),
+            extensions: extensions::<Self>(alloc, members, steps),
         })
     }
 

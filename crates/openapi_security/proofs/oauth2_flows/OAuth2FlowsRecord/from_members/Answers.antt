@@ -1,23 +1,30 @@
+use Rattle.openapi_node.specs.Tree.{members_of}
+use Rattle.openapi_tables.specs.Kind.{by, oauth2_flows}
 use Rattle.openapi_tables.specs.Tables.{final_tables, tables_with}
-use Rattle.openapi_fields.proofs.Joining.{joined_ok}
+use Rattle.openapi_fields.proofs.Joining.{row_first, row_joined}
 use Rattle.openapi_security.proofs.oauth2_flows.OAuth2FlowsRecord.from_members.Goals as goal
 
-pub returns-clause-reads : goal.returns-clause-reads
+pub returns-in-Ok-from_joined-clause-reads : goal.returns-in-Ok-from_joined-clause-reads
 unfolding final_tables tables_with
-returns-clause-reads c =
-    let all = joined_ok c.join-3.ensures c.in_ok-implicit.was in
-    let flows = joined_ok c.join-flows.ensures all.0 in
-    let first = joined_ok c.join.ensures flows.0 in
-    let last = joined_ok c.join-2.ensures flows.1 in (
-      rw first.0 at c.optional-implicit.ensures.reads,
-      (
-        rw first.1 at c.optional-password.ensures.reads,
-        (
-          rw last.0 at c.optional-client.ensures.reads,
-          (
-            rw last.1 at c.optional-code.ensures.reads,
-            (rw all.1 at c.extensions.ensures.reads, tt),
-          ),
-        ),
-      ),
-    )
+returns-in-Ok-from_joined-clause-reads c =
+    let k = by oauth2_flows in
+    let ms = members_of c.args.members.now in
+    let one = row_first _ _ k _ ms c.optional.ensures.reads in
+    let two = row_joined _ _ _ _ _ k _ _ ms c.from_joined-join.ensures one c.optional-2.ensures.reads in
+    let three = row_joined _ _ _ _ _ k _ _ ms c.from_joined-join-2.ensures two c.optional-3.ensures.reads in
+    let four = row_joined _ _ _ _ _ k _ _ ms c.from_joined-join-3.ensures three c.optional-4.ensures.reads in
+    let five = row_joined _ _ _ _ _ k _ _ ms c.from_joined-join-4.ensures four c.extensions.ensures.reads in
+    let all = rw c.in-Ok-from_joined.is at five in
+    (all.1.1.1.1.0, (all.1.1.1.0, (all.1.1.0, (all.1.0, (all.0, tt)))))
+
+pub returns-in-Err-from_joined-clause-reads : goal.returns-in-Err-from_joined-clause-reads
+unfolding final_tables tables_with
+returns-in-Err-from_joined-clause-reads c =
+    let k = by oauth2_flows in
+    let ms = members_of c.args.members.now in
+    let one = row_first _ _ k _ ms c.optional.ensures.reads in
+    let two = row_joined _ _ _ _ _ k _ _ ms c.from_joined-join.ensures one c.optional-2.ensures.reads in
+    let three = row_joined _ _ _ _ _ k _ _ ms c.from_joined-join-2.ensures two c.optional-3.ensures.reads in
+    let four = row_joined _ _ _ _ _ k _ _ ms c.from_joined-join-3.ensures three c.optional-4.ensures.reads in
+    let five = row_joined _ _ _ _ _ k _ _ ms c.from_joined-join-4.ensures four c.extensions.ensures.reads in
+    rw c.in-Err-from_joined.is at five

@@ -20,7 +20,6 @@ pub mod Joining
 pub mod Appending
 pub mod RecursiveReading
 pub mod RecursiveWriting
-pub mod CloneForms
 pub mod EntryReading
 pub mod FormSizes
 pub mod JoinedRows

@@ -1,10 +1,8 @@
--- The rows of a kind or a type of schema, where it is known which one it is: their size, what is written of them, and what a
--- clone has.
-use Rattle.std.proofs.Common.{◌≡◌, ◌∙◌, List, Result, sym, ap, subst}
+-- The rows of a kind or a type of schema, where it is known which one it is: their size, and what is written of them.
+use Rattle.std.proofs.Common.{◌≡◌, ◌∙◌, Result, sym, ap, subst}
 use Rattle.openapi_map.specs.Entries.{Entries}
 use Rattle.openapi_node.specs.Tree.{Tree}
 use Rattle.openapi_node.specs.declared.fault.Fault.{Fault}
-use Rattle.openapi_tables.specs.Prelude.{Form, Sort}
 use Rattle.openapi_fields.specs.Writing.{RowsWritten}
 use Rattle.openapi_fields.proofs.FormSizes.{rows_size}
 use Rattle.openapi_schema.specs.SchemaForms.{Sorted}
@@ -20,8 +18,3 @@ module _ {X : Type 0} (rows : X → Sorted) where
       → RowsWritten (untagged (sorted_slots s)) w → RowsWritten (untagged (sorted_slots (rows x))) w
   rows_given w e h = subst (λ ss. RowsWritten ss w)
       (sym (ap (λ z. untagged (sorted_slots (rows z))) e ∙ ap (λ (r : Sorted). untagged (sorted_slots r)) h))
-
-  -- a clone of the one that it is has its rows
-  pub clone_given : {x y z : X} {s : Sort} {fs gs : List Form} → rows z ≡ (s, gs) → gs ≡ fs → rows y ≡ (s, fs) → x ≡ y
-      → rows z ≡ rows x
-  clone_given {s = s} h e g i = h ∙ ap (λ l. (s, l)) e ∙ sym g ∙ sym (ap rows i)

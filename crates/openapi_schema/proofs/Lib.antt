@@ -17,7 +17,6 @@ pub mod SortSlots
 pub mod TaggedRows
 pub mod TaggedSlots
 pub mod ToldSorts
-pub mod TypeClones
 pub mod TypeLaws
 pub mod WholeSchemas
 pub mod WrittenForms

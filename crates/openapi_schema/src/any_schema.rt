@@ -13,12 +13,14 @@ use std::alloc::Global;
 
 /// A schema that is of none of the other kinds: any combination of their members.
 #[cycle(schema)]
-#[derive(Debug, PartialEq, Drop)]
+#[derive(Clone, Debug, PartialEq, Drop)]
 pub struct AnySchema {
     /// `type`: any string.
     pub typ: Option<String>,
     /// A regular expression (ECMA 262) that a string has to match.
     pub pattern: Option<String>,
+    /// The format of a string or a number.
+    pub format: Option<String>,
     /// A number has to be a multiple of this.
     pub multiple_of: Option<Whole>,
     /// Whether `minimum` itself is excluded.
@@ -29,40 +31,38 @@ pub struct AnySchema {
     pub minimum: Option<Whole>,
     /// The greatest number that is allowed.
     pub maximum: Option<Whole>,
-    /// The schemas of the properties of an object, by their names.
-    pub properties: OrderedMap<ReferenceOr<Box<Schema>>>,
-    /// The names of the required properties of an object.
-    pub required: Vec<String>,
-    /// `additionalProperties`: whether an object may have other properties, or their schema.
-    pub additional_properties: Option<AdditionalProperties>,
     /// The least number of properties of an object.
     pub min_properties: Option<usize>,
     /// The greatest number of properties of an object.
     pub max_properties: Option<usize>,
-    /// The schema of the items of an array.
-    pub items: Option<ReferenceOr<Box<Schema>>>,
     /// The least number of items of an array.
     pub min_items: Option<usize>,
     /// The greatest number of items of an array.
     pub max_items: Option<usize>,
     /// Whether no two items of an array may be equal.
     pub unique_items: Option<bool>,
-    /// `enum`: the values that are allowed. Empty if any value is.
-    pub enumeration: Vec<Node>,
-    /// The format of a string or a number.
-    pub format: Option<String>,
     /// The least number of characters of a string.
     pub min_length: Option<usize>,
     /// The greatest number of characters of a string.
     pub max_length: Option<usize>,
+    /// The names of the required properties of an object.
+    pub required: Vec<String>,
+    /// `enum`: the values that are allowed. Empty if any value is.
+    pub enumeration: Vec<Node>,
+    /// `additionalProperties`: whether an object may have other properties, or their schema.
+    pub additional_properties: Option<AdditionalProperties>,
+    /// This schema must not match.
+    pub not: Option<Box<ReferenceOr<Schema>>>,
+    /// The schema of the items of an array.
+    pub items: Option<ReferenceOr<Box<Schema>>>,
     /// `oneOf`: exactly one of these schemas has to match.
     pub one_of: Vec<ReferenceOr<Schema>>,
     /// `allOf`: all of these schemas have to match.
     pub all_of: Vec<ReferenceOr<Schema>>,
     /// `anyOf`: at least one of these schemas has to match.
     pub any_of: Vec<ReferenceOr<Schema>>,
-    /// This schema must not match.
-    pub not: Option<Box<ReferenceOr<Schema>>>,
+    /// The schemas of the properties of an object, by their names.
+    pub properties: OrderedMap<ReferenceOr<Box<Schema>>>,
 }
 
 impl AnySchema {

@@ -12,7 +12,7 @@ use std::alloc::Global;
 
 /// A schema of `type` `object` (OpenAPI 3.0.3, section 4.7.24).
 #[cycle(schema)]
-#[derive(Debug, PartialEq, Drop)]
+#[derive(Clone, Debug, PartialEq, Drop)]
 pub struct ObjectType {
     /// The schemas of the properties, by their names.
     pub properties: OrderedMap<ReferenceOr<Box<Schema>>>,
@@ -49,7 +49,7 @@ impl ObjectType {
 
 /// A schema of `type` `array` (OpenAPI 3.0.3, section 4.7.24).
 #[cycle(schema)]
-#[derive(Debug, PartialEq, Drop)]
+#[derive(Clone, Debug, PartialEq, Drop)]
 pub struct ArrayType {
     /// The schema of the items. OpenAPI requires it; here it may be missing, as in the Rust crate.
     pub items: Option<ReferenceOr<Box<Schema>>>,

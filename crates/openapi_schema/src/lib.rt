@@ -3,7 +3,6 @@
 mod any_names;
 mod any_schema;
 mod boxes;
-mod clone;
 mod composite_types;
 mod from_node;
 mod joined;

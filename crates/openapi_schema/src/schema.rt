@@ -10,7 +10,7 @@ use std::alloc::Global;
 
 /// The Schema Object (OpenAPI 3.0.3, section 4.7.24): which values are allowed, in the vocabulary of JSON Schema.
 #[cycle(schema)]
-#[derive(Debug, PartialEq, Drop)]
+#[derive(Clone, Debug, PartialEq, Drop)]
 pub struct Schema {
     /// The annotations, which every kind of schema can have.
     pub schema_data: SchemaData,
@@ -35,7 +35,7 @@ impl Schema {
 
 /// The kinds of schemas, distinguished by the members of a Schema Object.
 #[cycle(schema)]
-#[derive(Debug, PartialEq, Drop)]
+#[derive(Clone, Debug, PartialEq, Drop)]
 pub enum SchemaKind {
     /// A schema with a `type`, and no member that belongs to another type.
     Typed(SchemaType),
@@ -53,7 +53,7 @@ pub enum SchemaKind {
 
 /// The `type` of a schema, with the members that belong to it.
 #[cycle(schema)]
-#[derive(Debug, PartialEq, Drop)]
+#[derive(Clone, Debug, PartialEq, Drop)]
 pub enum SchemaType {
     /// `string`
     String(StringType),
@@ -74,7 +74,7 @@ pub type Type = SchemaType;
 
 /// `additionalProperties` (OpenAPI 3.0.3, section 4.7.24): the properties of an object that its schema does not name.
 #[cycle(schema)]
-#[derive(Debug, PartialEq, Drop)]
+#[derive(Clone, Debug, PartialEq, Drop)]
 pub enum AdditionalProperties {
     /// Whether other properties, of any schema, are allowed.
     Any(bool),

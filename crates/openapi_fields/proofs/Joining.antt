@@ -1,4 +1,4 @@
--- Results that are joined: taken apart, and what they say of the rows of an object.
+-- What results that are joined say of the rows of an object.
 use Rattle.std.proofs.Common.{◌≡◌, List, [], ◌∷◌, Result, Ok, Err, subst, sym}
 use Rattle.openapi_node.specs.Tree.{Members}
 use Rattle.openapi_node.specs.declared.fault.Fault.{Fault}
@@ -7,13 +7,6 @@ use Rattle.openapi_tables.specs.Kind.{Kind, Row}
 use Rattle.openapi_fields.specs.Joined.{joined}
 use Rattle.openapi_fields.specs.Reading.{PartReadAs}
 use Rattle.openapi_fields.specs.Returned.{RowReadAs}
-
--- where both values are there, each is that of its result
-pub joined_ok : {X Y E : Type 0} {r : Result X E} {s : Result Y E} {t : Result (X × Y) E} {v : X × Y} → t ≡ joined r s
-    → t ≡ Ok v → (r ≡ Ok v.0) × (s ≡ Ok v.1)
-joined_ok {r = Ok x} {s = Ok y} h g = (cc, cc)
-joined_ok {r = Ok x} {s = Err e} h g = cc
-joined_ok {r = Err e} h g = cc
 
 -- what one row gives is what a list of one row gives
 pub row_first : {X : Type 0} (view : X → Form) (r : Result X Fault) (k : Kind) (w : Row) (ms : Members)

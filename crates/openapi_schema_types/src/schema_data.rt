@@ -6,7 +6,7 @@ ghost use Rattle.openapi_schema_types.specs.PartForms.{schema_data_rows};
 use crate::discriminator::Discriminator;
 use crate::external_documentation::ExternalDocumentation;
 use crate::xml::Xml;
-use openapi_fields::{Object, Record, extensions, join, optional, or_implied, write_rows};
+use openapi_fields::{Object, Record, extensions, from_joined, optional, or_implied, write_rows};
 use openapi_node::{Members, Node, OrderedMap, Result, Steps};
 use std::alloc::Global;
 
@@ -83,38 +83,19 @@ impl Object for SchemaData {
 #[tactic(auto, unfolding(openapi_tables::specs::Tables::final_tables, openapi_tables::specs::Tables::tables_with))]
 impl Record for SchemaData {
     fn from_members(alloc: Global, members: &Members, steps: &mut Steps) -> Result<Self> {
-        let nullable = or_implied::<Self, _>(alloc, members, "nullable", steps)?;
-        let read_only = or_implied::<Self, _>(alloc, members, "readOnly", steps)?;
-        let write_only = or_implied::<Self, _>(alloc, members, "writeOnly", steps)?;
-        let deprecated = or_implied::<Self, _>(alloc, members, "deprecated", steps)?;
-        let docs = optional::<Self, _>(alloc, members, "externalDocs", steps);
-        let shown = join(docs, optional::<Self, _>(alloc, members, "example", steps));
-        let title = optional::<Self, _>(alloc, members, "title", steps);
-        let texts = join(
-            title,
-            optional::<Self, _>(alloc, members, "description", steps),
-        );
-        let told = optional::<Self, _>(alloc, members, "discriminator", steps);
-        let assumed = join(told, optional::<Self, _>(alloc, members, "default", steps));
-        let xml = optional::<Self, _>(alloc, members, "xml", steps);
-        let rest = join(xml, extensions::<Self>(alloc, members, steps));
-        let (
-            ((external_docs, example), (title, description)),
-            ((discriminator, default), (xml, extensions)),
-        ) = join(join(shown, texts), join(assumed, rest))?;
-        Ok(SchemaData {
-            nullable,
-            read_only,
-            write_only,
-            deprecated,
-            external_docs,
-            example,
-            title,
-            description,
-            discriminator,
-            default,
-            xml,
-            extensions,
+        from_joined!(SchemaData {
+            nullable: or_implied::<Self, _>(alloc, members, "nullable", steps),
+            read_only: or_implied::<Self, _>(alloc, members, "readOnly", steps),
+            write_only: or_implied::<Self, _>(alloc, members, "writeOnly", steps),
+            deprecated: or_implied::<Self, _>(alloc, members, "deprecated", steps),
+            external_docs: optional::<Self, _>(alloc, members, "externalDocs", steps),
+            example: optional::<Self, _>(alloc, members, "example", steps),
+            title: optional::<Self, _>(alloc, members, "title", steps),
+            description: optional::<Self, _>(alloc, members, "description", steps),
+            discriminator: optional::<Self, _>(alloc, members, "discriminator", steps),
+            default: optional::<Self, _>(alloc, members, "default", steps),
+            xml: optional::<Self, _>(alloc, members, "xml", steps),
+            extensions: extensions::<Self>(alloc, members, steps),
         })
     }
 

@@ -1,47 +1,44 @@
+use Rattle.openapi_node.specs.Tree.{members_of}
+use Rattle.openapi_tables.specs.Kind.{by, schema_data}
 use Rattle.openapi_tables.specs.Tables.{final_tables, tables_with}
-use Rattle.openapi_fields.proofs.Joining.{joined_ok}
+use Rattle.openapi_fields.proofs.Joining.{row_first, row_joined}
 use Rattle.openapi_schema_types.proofs.schema_data.SchemaDataRecord.from_members.Goals as goal
 
-pub returns-clause-reads : goal.returns-clause-reads
+pub returns-in-Ok-from_joined-clause-reads : goal.returns-in-Ok-from_joined-clause-reads
 unfolding final_tables tables_with
-returns-clause-reads c =
-    let all = joined_ok c.join-3.ensures c.in_ok-external_docs.was in
-    let front = joined_ok c.join.ensures all.0 in
-    let back = joined_ok c.join-2.ensures all.1 in
-    let shown = joined_ok c.join-shown.ensures front.0 in
-    let texts = joined_ok c.join-texts.ensures front.1 in
-    let assumed = joined_ok c.join-assumed.ensures back.0 in
-    let rest = joined_ok c.join-rest.ensures back.1 in (
-      c.in_ok-nullable.ensures.reads,
-      (
-        c.in_ok-read_only.ensures.reads,
-        (
-          c.in_ok-write_only.ensures.reads,
-          (
-            c.in_ok-deprecated.ensures.reads,
-            (
-              rw shown.0 at c.optional-docs.ensures.reads,
-              (
-                rw shown.1 at c.optional.ensures.reads,
-                (
-                  rw texts.0 at c.optional-title.ensures.reads,
-                  (
-                    rw texts.1 at c.optional-2.ensures.reads,
-                    (
-                      rw assumed.0 at c.optional-told.ensures.reads,
-                      (
-                        rw assumed.1 at c.optional-3.ensures.reads,
-                        (
-                          rw rest.0 at c.optional-xml.ensures.reads,
-                          (rw rest.1 at c.extensions.ensures.reads, tt),
-                        ),
-                      ),
-                    ),
-                  ),
-                ),
-              ),
-            ),
-          ),
-        ),
-      ),
-    )
+returns-in-Ok-from_joined-clause-reads c =
+    let k = by schema_data in
+    let ms = members_of c.args.members.now in
+    let one = row_first _ _ k _ ms c.or_implied.ensures.reads in
+    let two = row_joined _ _ _ _ _ k _ _ ms c.from_joined-join.ensures one c.or_implied-2.ensures.reads in
+    let three = row_joined _ _ _ _ _ k _ _ ms c.from_joined-join-2.ensures two c.or_implied-3.ensures.reads in
+    let four = row_joined _ _ _ _ _ k _ _ ms c.from_joined-join-3.ensures three c.or_implied-4.ensures.reads in
+    let five = row_joined _ _ _ _ _ k _ _ ms c.from_joined-join-4.ensures four c.optional.ensures.reads in
+    let six = row_joined _ _ _ _ _ k _ _ ms c.from_joined-join-5.ensures five c.optional-2.ensures.reads in
+    let seven = row_joined _ _ _ _ _ k _ _ ms c.from_joined-join-6.ensures six c.optional-3.ensures.reads in
+    let eight = row_joined _ _ _ _ _ k _ _ ms c.from_joined-join-7.ensures seven c.optional-4.ensures.reads in
+    let nine = row_joined _ _ _ _ _ k _ _ ms c.from_joined-join-8.ensures eight c.optional-5.ensures.reads in
+    let ten = row_joined _ _ _ _ _ k _ _ ms c.from_joined-join-9.ensures nine c.optional-6.ensures.reads in
+    let eleven = row_joined _ _ _ _ _ k _ _ ms c.from_joined-join-10.ensures ten c.optional-7.ensures.reads in
+    let twelve = row_joined _ _ _ _ _ k _ _ ms c.from_joined-join-11.ensures eleven c.extensions.ensures.reads in
+    let all = rw c.in-Ok-from_joined.is at twelve in
+    (all.1.1.1.1.1.1.1.1.1.1.1.0, (all.1.1.1.1.1.1.1.1.1.1.0, (all.1.1.1.1.1.1.1.1.1.0, (all.1.1.1.1.1.1.1.1.0, (all.1.1.1.1.1.1.1.0, (all.1.1.1.1.1.1.0, (all.1.1.1.1.1.0, (all.1.1.1.1.0, (all.1.1.1.0, (all.1.1.0, (all.1.0, (all.0, tt))))))))))))
+
+pub returns-in-Err-from_joined-clause-reads : goal.returns-in-Err-from_joined-clause-reads
+unfolding final_tables tables_with
+returns-in-Err-from_joined-clause-reads c =
+    let k = by schema_data in
+    let ms = members_of c.args.members.now in
+    let one = row_first _ _ k _ ms c.or_implied.ensures.reads in
+    let two = row_joined _ _ _ _ _ k _ _ ms c.from_joined-join.ensures one c.or_implied-2.ensures.reads in
+    let three = row_joined _ _ _ _ _ k _ _ ms c.from_joined-join-2.ensures two c.or_implied-3.ensures.reads in
+    let four = row_joined _ _ _ _ _ k _ _ ms c.from_joined-join-3.ensures three c.or_implied-4.ensures.reads in
+    let five = row_joined _ _ _ _ _ k _ _ ms c.from_joined-join-4.ensures four c.optional.ensures.reads in
+    let six = row_joined _ _ _ _ _ k _ _ ms c.from_joined-join-5.ensures five c.optional-2.ensures.reads in
+    let seven = row_joined _ _ _ _ _ k _ _ ms c.from_joined-join-6.ensures six c.optional-3.ensures.reads in
+    let eight = row_joined _ _ _ _ _ k _ _ ms c.from_joined-join-7.ensures seven c.optional-4.ensures.reads in
+    let nine = row_joined _ _ _ _ _ k _ _ ms c.from_joined-join-8.ensures eight c.optional-5.ensures.reads in
+    let ten = row_joined _ _ _ _ _ k _ _ ms c.from_joined-join-9.ensures nine c.optional-6.ensures.reads in
+    let eleven = row_joined _ _ _ _ _ k _ _ ms c.from_joined-join-10.ensures ten c.optional-7.ensures.reads in
+    let twelve = row_joined _ _ _ _ _ k _ _ ms c.from_joined-join-11.ensures eleven c.extensions.ensures.reads in
+    rw c.in-Err-from_joined.is at twelve

@@ -3,4 +3,3 @@ pub mod Documents
 pub mod Opened
 pub mod PartRows
 pub mod PresentForms
-pub mod Refused

@@ -176,6 +176,20 @@ path_item_fields-roll d =
     ∙ fold-roll-PathItem (List Form) (List Form) (List Form) callback_step operation_step path_item_step d
     ∙ path_item_step-level d
 
+-- what is read as the fields of one level is read as those of the operation that is made of it
+pub operation_read : (d : AnOperation) (ms : Members)
+    → AreRows final_tables (final_tables operation) (operation_parts d) ms
+    → AreRows final_tables (final_tables operation) (operation_fields (roll-Operation d)) ms
+operation_read d ms h =
+    subst (λ fs. AreRows final_tables (final_tables operation) fs ms) (sym (operation_fields-roll d)) h
+
+-- what is read as the fields of one level is read as those of the path item that is made of it
+pub path_item_read : (d : APathItem) (ms : Members)
+    → AreRows final_tables (final_tables path_item) (path_item_parts d) ms
+    → AreRows final_tables (final_tables path_item) (path_item_fields (roll-PathItem d)) ms
+path_item_read d ms h =
+    subst (λ fs. AreRows final_tables (final_tables path_item) fs ms) (sym (path_item_fields-roll d)) h
+
 -- each as an object
 pub callback_same : callback_fields ≡ callback_rows
 callback_same i x = sym (callback_rows-out x) i

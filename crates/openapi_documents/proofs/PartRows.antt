@@ -1,9 +1,8 @@
--- The rows of operations and path items, by those of their parts.
-use Rattle.std.proofs.Common.{◌≡◌, ◌+◌, [], ◌∷◌, Option, Result, Ok, Err, arith, codes}
+-- The rows of path items, by those of their parts.
+use Rattle.std.proofs.Common.{◌≡◌, ◌+◌, [], ◌∷◌, Option, Result, Ok, Err, arith}
 use Rattle.openapi_node.specs.Tree.{Members}
 use Rattle.openapi_node.specs.declared.fault.Fault.{Fault}
-use Rattle.openapi_tables.specs.Prelude.{RowGives, row_weight, rows_asked, rows_weight, Form, any_tree, by, class}
-use Rattle.openapi_tables.specs.Prelude.{extensions, listed, map_of, operation, path_item, row, callback_ref}
+use Rattle.openapi_tables.specs.Prelude.{RowGives, rows_asked, rows_weight, Form, by, operation, path_item}
 use Rattle.openapi_tables.specs.Prelude.{final_tables, tables_with}
 use Rattle.openapi_tables.specs.Rows.{optional_row}
 use Rattle.openapi_fields.specs.Forms.{optional_form}
@@ -11,7 +10,7 @@ use Rattle.openapi_fields.specs.Returned.{RowReadAs}
 use Rattle.openapi_fields.specs.Reading.{PartReadAs}
 use Rattle.openapi_documents.specs.OperationForms.{operation_form}
 use Rattle.openapi_documents.specs.declared.operation.Operation.{Operation}
-use Rattle.openapi_documents.specs.Parts.{beside_rows, message_rows, method_rows, setting_rows, text_rows}
+use Rattle.openapi_documents.specs.Parts.{beside_rows, method_rows}
 
 -- how much the parts weigh
 pub path_item_weight : (ms : Members)
@@ -19,14 +18,6 @@ pub path_item_weight : (ms : Members)
     ≡ rows_weight (rows_asked final_tables (by path_item)) ms
 unfolding final_tables tables_with
 path_item_weight ms = omega arith
-
-pub operation_weight : (ms : Members)
-    → rows_weight text_rows ms + rows_weight setting_rows ms
-    + row_weight (row (codes "callbacks") listed (map_of callback_ref)) ms + row_weight (class extensions any_tree) ms
-    + rows_weight message_rows ms
-    ≡ rows_weight (rows_asked final_tables (by operation)) ms
-unfolding final_tables tables_with
-operation_weight ms = omega arith
 
 -- the operations of a path item, by what was read under each method, of which the last may be refused
 pub methods_read : (r : Result (Unit {0}) Fault) (last : Option Operation) (ms : Members) {a b c d e f g : Form}

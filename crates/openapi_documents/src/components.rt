@@ -5,7 +5,7 @@ ghost use Rattle.openapi_tables.specs.Kind as kinds;
 ghost use Rattle.openapi_documents.specs.Documents.{components_rows};
 
 use crate::callback::Callback;
-use openapi_fields::{Object, Record, extensions, join, or_implied, write_rows};
+use openapi_fields::{Object, Record, extensions, from_joined, or_implied, write_rows};
 use openapi_media_types::Header;
 use openapi_metadata::{Example, Link};
 use openapi_node::{Members, Node, OrderedMap, Result, Steps};
@@ -79,34 +79,17 @@ impl Object for Components {
 
 impl Record for Components {
     fn from_members(alloc: Global, members: &Members, steps: &mut Steps) -> Result<Self> {
-        let schemas = or_implied::<Self, _>(alloc, members, "schemas", steps);
-        let responses = or_implied::<Self, _>(alloc, members, "responses", steps);
-        let parameters = or_implied::<Self, _>(alloc, members, "parameters", steps);
-        let examples = or_implied::<Self, _>(alloc, members, "examples", steps);
-        let ((schemas, responses), (parameters, examples)) = join(
-            join(schemas, responses),
-            join(parameters, examples),
-        )?;
-        let bodies = or_implied::<Self, _>(alloc, members, "requestBodies", steps);
-        let headers = or_implied::<Self, _>(alloc, members, "headers", steps);
-        let schemes = or_implied::<Self, _>(alloc, members, "securitySchemes", steps);
-        let links = or_implied::<Self, _>(alloc, members, "links", steps);
-        let callbacks = or_implied::<Self, _>(alloc, members, "callbacks", steps);
-        let extensions = extensions::<Self>(alloc, members, steps);
-        let named = join(join(bodies, headers), join(schemes, links));
-        let (((request_bodies, headers), (security_schemes, links)), (callbacks, extensions)) =
-            join(named, join(callbacks, extensions))?;
-        Ok(Components {
-            schemas,
-            responses,
-            parameters,
-            examples,
-            request_bodies,
-            headers,
-            security_schemes,
-            links,
-            callbacks,
-            extensions,
+        from_joined!(Components {
+            schemas: or_implied::<Self, _>(alloc, members, "schemas", steps),
+            responses: or_implied::<Self, _>(alloc, members, "responses", steps),
+            parameters: or_implied::<Self, _>(alloc, members, "parameters", steps),
+            examples: or_implied::<Self, _>(alloc, members, "examples", steps),
+            request_bodies: or_implied::<Self, _>(alloc, members, "requestBodies", steps),
+            headers: or_implied::<Self, _>(alloc, members, "headers", steps),
+            security_schemes: or_implied::<Self, _>(alloc, members, "securitySchemes", steps),
+            links: or_implied::<Self, _>(alloc, members, "links", steps),
+            callbacks: or_implied::<Self, _>(alloc, members, "callbacks", steps),
+            extensions: extensions::<Self>(alloc, members, steps),
         })
     }
 

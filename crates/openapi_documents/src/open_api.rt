@@ -6,7 +6,7 @@ ghost use Rattle.openapi_documents.specs.Documents.{open_api_rows};
 use crate::components::Components;
 use crate::paths::Paths;
 use openapi_fields::{
-    Object, Record, extensions, join, optional, or_implied, required, write_rows,
+    Object, Record, extensions, from_joined, optional, or_implied, required, write_rows,
 };
 use openapi_metadata::{Info, Server, Tag};
 use openapi_node::{Members, Node, OrderedMap, Result, Steps};
@@ -81,30 +81,16 @@ impl Object for OpenAPI {
 #[tactic(auto, unfolding(openapi_tables::specs::Tables::final_tables, openapi_tables::specs::Tables::tables_with))]
 impl Record for OpenAPI {
     fn from_members(alloc: Global, members: &Members, steps: &mut Steps) -> Result<Self> {
-        let openapi = required::<Self, _>(alloc, members, "openapi", steps)?;
-        let info = required::<Self, _>(alloc, members, "info", steps);
-        let servers = or_implied::<Self, _>(alloc, members, "servers", steps);
-        let tags = or_implied::<Self, _>(alloc, members, "tags", steps);
-        let docs = optional::<Self, _>(alloc, members, "externalDocs", steps);
-        let ((info, servers), (tags, external_docs)) = join(join(info, servers), join(tags, docs))?;
-        let security = optional::<Self, _>(alloc, members, "security", steps);
-        let extensions = extensions::<Self>(alloc, members, steps);
-        let paths = required::<Self, _>(alloc, members, "paths", steps);
-        let components = optional::<Self, _>(alloc, members, "components", steps);
-        let ((security, extensions), (paths, components)) = join(
-            join(security, extensions),
-            join(paths, components),
-        )?;
-        Ok(OpenAPI {
-            openapi,
-            info,
-            servers,
-            paths,
-            components,
-            security,
-            tags,
-            external_docs,
-            extensions,
+        from_joined!(OpenAPI {
+            openapi: required::<Self, _>(alloc, members, "openapi", steps),
+            info: required::<Self, _>(alloc, members, "info", steps),
+            servers: or_implied::<Self, _>(alloc, members, "servers", steps),
+            tags: or_implied::<Self, _>(alloc, members, "tags", steps),
+            external_docs: optional::<Self, _>(alloc, members, "externalDocs", steps),
+            security: optional::<Self, _>(alloc, members, "security", steps),
+            extensions: extensions::<Self>(alloc, members, steps),
+            paths: required::<Self, _>(alloc, members, "paths", steps),
+            components: optional::<Self, _>(alloc, members, "components", steps),
         })
     }
 

@@ -10,10 +10,9 @@ ghost use Rattle.openapi_tables.specs.ByRow.{is_named, row_where, row_weight, ro
 ghost use Rattle.openapi_tables.specs.Kind as kinds;
 ghost use Rattle.openapi_tables.specs.Tables.{callback_ref, final_tables};
 ghost use Rattle.openapi_fields.specs.Forms.{map_form, optional_form};
-ghost use Rattle.openapi_fields.specs.Returned.{ReadAs, RowReadAs, RowsReadAs, RisesBelow, RisesBy};
+ghost use Rattle.openapi_fields.specs.Returned.{ReadAs, RowReadAs, RisesBelow, RisesBy};
 ghost use Rattle.openapi_values.specs.Reference.{reference_form};
 ghost use Rattle.openapi_fields.specs.Reading.{PartReadAs};
-ghost use Rattle.openapi_documents.specs.Fields.{callback_fields, operation_fields, path_item_fields};
 ghost use Rattle.openapi_documents.specs.OperationForms.{callback_form, operation_form, path_item_form};
 ghost use Rattle.openapi_documents.specs.Parts.{method_forms, method_rows};
 ghost use Rattle.openapi_documents.specs.Present.{NoneStands};
@@ -21,35 +20,26 @@ ghost use Rattle.openapi_documents.specs.Present.{NoneStands};
 use crate::callback::Callback;
 use crate::methods::Methods;
 use crate::operation::Operation;
-use crate::parts::{joined_operation, path_item_with, read_messages, read_settings, read_texts};
+use crate::parts::path_item_with;
 use crate::path_item::PathItem;
 use openapi_fields::{
-    Extensions, Names, as_item, as_member, at_name, extensions, members_at, members_shown,
-    present_view, put_read, read_reference,
+    Extensions, Names, as_item, as_member, at_name, extensions, from_joined, members_at,
+    members_shown, optional, or_implied, present_view, put_read, read_reference, required,
 };
 use openapi_node::{Members, Node, OrderedMap, Result, Steps, View};
 use openapi_values::ReferenceOr;
 use std::alloc::Global;
 
-/// Reads a path item.
+/// Reads a path item, its operations first.
 #[cycle(read)]
 pub(crate) fn read_path_item(alloc: Global, view: &View<'_>, steps: &mut Steps) -> Result<PathItem>
     ensures reads { ReadAs path_item_form result (kinds.by kinds.path_item) (shown view.now) }
     ensures count { RisesBelow steps.old steps.new (3 * size_of (shown view.now)) }
 {
-    match members_shown(alloc, view) {
-        Ok(members) => path_item_of(alloc, members, steps),
-        Err(fault) => Err(fault),
-    }
-}
-
-/// Reads a path item among the members of an object, its operations first.
-#[cycle(read)]
-fn path_item_of(alloc: Global, members: &Members, steps: &mut Steps) -> Result<PathItem>
-    ensures reads { RowsReadAs path_item_fields result (kinds.by kinds.path_item) (members_of members.now) }
-    ensures count { RisesBy steps.old steps.new
-        (3 * rows_weight (rows_asked final_tables (kinds.by kinds.path_item)) (members_of members.now)) }
-{
+    let members = match members_shown(alloc, view) {
+        Ok(members) => members,
+        Err(fault) => return Err(fault),
+    };
     let mut methods = Methods::none();
     match read_methods(alloc, members, &mut methods, steps) {
         Ok(()) => path_item_with(alloc, members, methods, steps),
@@ -120,25 +110,23 @@ pub(crate) fn read_operation(alloc: Global, view: &View<'_>, steps: &mut Steps) 
     ensures count { RisesBelow steps.old steps.new (3 * size_of (shown view.now)) }
 {
     match members_shown(alloc, view) {
-        Ok(members) => operation_of(alloc, members, steps),
+        Ok(members) => from_joined!(Operation {
+            deprecated: or_implied::<Operation, _>(alloc, members, "deprecated", steps),
+            tags: or_implied::<Operation, _>(alloc, members, "tags", steps),
+            summary: optional::<Operation, _>(alloc, members, "summary", steps),
+            description: optional::<Operation, _>(alloc, members, "description", steps),
+            operation_id: optional::<Operation, _>(alloc, members, "operationId", steps),
+            security: optional::<Operation, _>(alloc, members, "security", steps),
+            servers: or_implied::<Operation, _>(alloc, members, "servers", steps),
+            external_docs: optional::<Operation, _>(alloc, members, "externalDocs", steps),
+            callbacks: read_callbacks(alloc, members, steps),
+            extensions: extensions::<Operation>(alloc, members, steps),
+            parameters: or_implied::<Operation, _>(alloc, members, "parameters", steps),
+            request_body: optional::<Operation, _>(alloc, members, "requestBody", steps),
+            responses: required::<Operation, _>(alloc, members, "responses", steps),
+        }),
         Err(fault) => Err(fault),
     }
-}
-
-/// Reads an operation among the members of an object, what is large last.
-#[cycle(read)]
-#[tactic(auto, using(crate::proofs::PartRows::operation_weight), unfolding(openapi_tables::specs::Tables::final_tables, openapi_tables::specs::Tables::tables_with))]
-fn operation_of(alloc: Global, members: &Members, steps: &mut Steps) -> Result<Operation>
-    ensures reads { RowsReadAs operation_fields result (kinds.by kinds.operation) (members_of members.now) }
-    ensures count { RisesBy steps.old steps.new
-        (3 * rows_weight (rows_asked final_tables (kinds.by kinds.operation)) (members_of members.now)) }
-{
-    let texts = read_texts(alloc, members, steps)?;
-    let settings = read_settings(alloc, members, steps)?;
-    let callbacks = read_callbacks(alloc, members, steps)?;
-    let extensions = extensions::<Operation>(alloc, members, steps)?;
-    let messages = read_messages(alloc, members, steps)?;
-    Ok(joined_operation(texts, settings, callbacks, extensions, messages))
 }
 
 /// Reads the callbacks of an operation, by their names; there are none if `callbacks` is missing.
@@ -212,21 +200,12 @@ pub(crate) fn read_callback(alloc: Global, view: &View<'_>, steps: &mut Steps) -
     ensures count { RisesBelow steps.old steps.new (3 * size_of (shown view.now)) }
 {
     match members_shown(alloc, view) {
-        Ok(members) => callback_of(alloc, members, steps),
+        Ok(members) => from_joined!(Callback {
+            paths: read_requests(alloc, members, steps),
+            extensions: extensions::<Callback>(alloc, members, steps),
+        }),
         Err(fault) => Err(fault),
     }
-}
-
-/// Reads a callback among the members of an object.
-#[cycle(read)]
-fn callback_of(alloc: Global, members: &Members, steps: &mut Steps) -> Result<Callback>
-    ensures reads { RowsReadAs callback_fields result (kinds.by kinds.callback_object) (members_of members.now) }
-    ensures count { RisesBy steps.old steps.new
-        (3 * rows_weight (rows_asked final_tables (kinds.by kinds.callback_object)) (members_of members.now)) }
-{
-    let paths = read_requests(alloc, members, steps)?;
-    let extensions = extensions::<Callback>(alloc, members, steps)?;
-    Ok(Callback { paths, extensions })
 }
 
 /// Reads the path items of a callback: the members whose names do not begin with `x-`, in order.

@@ -16,29 +16,242 @@ use Rattle.openapi_fields.proofs.RowReading.{weight_of_name}
 use Rattle.openapi_fields.proofs.RecursiveReading.{all_so_far, map_at, next_refused, next_so_far, no_map, no_map_at}
 use Rattle.openapi_fields.proofs.RecursiveReading.{none_so_far, object_read}
 use Rattle.openapi_fields.proofs.EntryReading.{name_unread}
+use Rattle.openapi_fields.proofs.Joining.{row_first, row_joined}
 use Rattle.openapi_fields.proofs.PresentRows.{row_gone, row_read}
 use Rattle.openapi_fields.proofs.Taking.{looked_into, name_untaken, none_yet, passed_over, taken_all, taken_next, taken_refused}
 use Rattle.openapi_documents.specs.OperationForms.{callback_form, callback_rows, operation_form, operation_rows}
 use Rattle.openapi_documents.specs.OperationForms.{path_item_form, path_item_rows}
 use Rattle.openapi_documents.specs.Fields.{callback_fields, operation_fields, path_item_fields}
-use Rattle.openapi_documents.proofs.Opened.{callback_same, callback_read, operation_same, path_item_same}
+use Rattle.openapi_documents.specs.declared.callback.Callback.{roll-Callback}
+use Rattle.openapi_documents.specs.declared.operation.Operation.{roll-Operation}
+use Rattle.openapi_documents.proofs.Opened.{callback_read, callback_same, operation_read, operation_same, path_item_same}
 use Rattle.openapi_documents.proofs.PartRows.{methods_read, path_item_weight}
 use Rattle.openapi_documents.proofs.read.+read.Goals as goal
 
-pub read_path_item-returns-in-Ok : goal.read_path_item-returns-in-Ok
-read_path_item-returns-in-Ok t c =
-    object_read path_item_fields path_item_rows path_item_same path_item c.path_item_of.result (members_of c.in-Ok.members.now) (shown c.args.view.now) _ _
-    c.in-Ok.ensures c.path_item_of.ensures
+pub read_path_item-path_item_with-requires : goal.read_path_item-path_item_with-requires
+read_path_item-path_item_with-requires t c = rw c.in-Ok-read_methods.is at c.read_methods.ensures.reads
 
-pub read_operation-returns-in-Ok : goal.read_operation-returns-in-Ok
-read_operation-returns-in-Ok t c =
-    object_read operation_fields operation_rows operation_same operation c.operation_of.result (members_of c.in-Ok.members.now) (shown c.args.view.now) _ _
-    c.in-Ok.ensures c.operation_of.ensures
+pub read_path_item-returns-in-Ok-read_methods : goal.read_path_item-returns-in-Ok-read_methods
+read_path_item-returns-in-Ok-read_methods t c =
+    let ms = members_of c.in-Ok.members.now in
+    object_read path_item_fields path_item_rows path_item_same path_item c.path_item_with.result ms (shown c.args.view.now) _ _
+    c.in-Ok.ensures (record {
+      reads = c.path_item_with.ensures.reads;
+      count = (
+        omega (arith, c.path_item_with.ensures.count.0, c.read_methods.ensures.count.0),
+        omega (arith, path_item_weight ms, c.path_item_with.ensures.count.1, c.read_methods.ensures.count.1),
+      );
+    })
 
-pub read_callback-returns-in-Ok : goal.read_callback-returns-in-Ok
-read_callback-returns-in-Ok t c =
-    object_read callback_fields callback_rows callback_same callback_object c.callback_of.result (members_of c.in-Ok.members.now) (shown c.args.view.now) _ _
-    c.in-Ok.ensures c.callback_of.ensures
+pub read_path_item-returns-in-Err-read_methods : goal.read_path_item-returns-in-Err-read_methods
+read_path_item-returns-in-Err-read_methods t c =
+    let ms = members_of c.in-Ok.members.now in
+    object_read path_item_fields path_item_rows path_item_same path_item (Err c.in-Err-read_methods.fault) ms
+    (shown c.args.view.now) _ _ c.in-Ok.ensures (record {
+      reads = rw c.in-Err-read_methods.is at c.read_methods.ensures.reads;
+      count = (
+        omega (arith, c.read_methods.ensures.count.0),
+        omega (arith, path_item_weight ms, c.read_methods.ensures.count.1),
+      );
+    })
+
+pub read_operation-read_callbacks-requires : goal.read_operation-read_callbacks-requires
+read_operation-read_callbacks-requires t c = (omega (arith, ap size_of c.in-Ok.ensures, c.decreases), tt)
+
+pub read_callback-read_requests-requires : goal.read_callback-read_requests-requires
+read_callback-read_requests-requires t c = (omega (arith, ap size_of c.in-Ok.ensures, c.decreases), tt)
+
+pub read_operation-returns-in-Ok-from_joined : goal.read_operation-returns-in-Ok-from_joined
+unfolding final_tables tables_with
+read_operation-returns-in-Ok-from_joined t c =
+    let k = by operation in
+    let ms = members_of c.in-Ok.members.now in
+    let one = row_first _ _ k _ ms c.or_implied.ensures.reads in
+    let two = row_joined _ _ _ _ _ k _ _ ms c.from_joined-join.ensures one c.or_implied-in-Ok.ensures.reads in
+    let three = row_joined _ _ _ _ _ k _ _ ms c.from_joined-join-in-Ok.ensures two c.optional.ensures.reads in
+    let four = row_joined _ _ _ _ _ k _ _ ms c.from_joined-join-in-Ok-2.ensures three c.optional-in-Ok.ensures.reads in
+    let five = row_joined _ _ _ _ _ k _ _ ms c.from_joined-join-in-Ok-3.ensures four c.optional-in-Ok-2.ensures.reads in
+    let six = row_joined _ _ _ _ _ k _ _ ms c.from_joined-join-in-Ok-4.ensures five c.optional-in-Ok-3.ensures.reads in
+    let seven = row_joined _ _ _ _ _ k _ _ ms c.from_joined-join-in-Ok-5.ensures six c.or_implied-in-Ok-2.ensures.reads in
+    let eight = row_joined _ _ _ _ _ k _ _ ms c.from_joined-join-in-Ok-6.ensures seven c.optional-in-Ok-4.ensures.reads in
+    let nine = row_joined _ _ _ _ _ k _ _ ms c.from_joined-join-in-Ok-7.ensures eight c.read_callbacks.ensures.reads in
+    let ten = row_joined _ _ _ _ _ k _ _ ms c.from_joined-join-in-Ok-8.ensures nine c.extensions.ensures.reads in
+    let eleven = row_joined _ _ _ _ _ k _ _ ms c.from_joined-join-in-Ok-9.ensures ten c.or_implied-in-Ok-3.ensures.reads in
+    let twelve = row_joined _ _ _ _ _ k _ _ ms c.from_joined-join-in-Ok-10.ensures eleven c.optional-in-Ok-5.ensures.reads in
+    let thirteen = row_joined _ _ _ _ _ k _ _ ms c.from_joined-join-in-Ok-11.ensures twelve c.required.ensures.reads in
+    let all = rw c.in-Ok-from_joined.is at thirteen in
+    object_read operation_fields operation_rows operation_same operation (Ok (roll-Operation (record {
+      tags = c.in-Ok-from_joined.field-0.0.0.0.0.0.0.0.0.0.0.0.1;
+      summary = c.in-Ok-from_joined.field-0.0.0.0.0.0.0.0.0.0.0.1;
+      description = c.in-Ok-from_joined.field-0.0.0.0.0.0.0.0.0.0.1;
+      external_docs = c.in-Ok-from_joined.field-0.0.0.0.0.0.1;
+      operation_id = c.in-Ok-from_joined.field-0.0.0.0.0.0.0.0.0.1;
+      parameters = c.in-Ok-from_joined.field-0.0.0.1;
+      request_body = c.in-Ok-from_joined.field-0.0.1;
+      responses = c.in-Ok-from_joined.field-0.1;
+      callbacks = c.in-Ok-from_joined.field-0.0.0.0.0.1;
+      deprecated = c.in-Ok-from_joined.field-0.0.0.0.0.0.0.0.0.0.0.0.0;
+      security = c.in-Ok-from_joined.field-0.0.0.0.0.0.0.0.1;
+      servers = c.in-Ok-from_joined.field-0.0.0.0.0.0.0.1;
+      extensions = c.in-Ok-from_joined.field-0.0.0.0.1;
+    }))) ms
+    (shown c.args.view.now) _ _ c.in-Ok.ensures (record {
+      reads = operation_read (record {
+        tags = c.in-Ok-from_joined.field-0.0.0.0.0.0.0.0.0.0.0.0.1;
+        summary = c.in-Ok-from_joined.field-0.0.0.0.0.0.0.0.0.0.0.1;
+        description = c.in-Ok-from_joined.field-0.0.0.0.0.0.0.0.0.0.1;
+        external_docs = c.in-Ok-from_joined.field-0.0.0.0.0.0.1;
+        operation_id = c.in-Ok-from_joined.field-0.0.0.0.0.0.0.0.0.1;
+        parameters = c.in-Ok-from_joined.field-0.0.0.1;
+        request_body = c.in-Ok-from_joined.field-0.0.1;
+        responses = c.in-Ok-from_joined.field-0.1;
+        callbacks = c.in-Ok-from_joined.field-0.0.0.0.0.1;
+        deprecated = c.in-Ok-from_joined.field-0.0.0.0.0.0.0.0.0.0.0.0.0;
+        security = c.in-Ok-from_joined.field-0.0.0.0.0.0.0.0.1;
+        servers = c.in-Ok-from_joined.field-0.0.0.0.0.0.0.1;
+        extensions = c.in-Ok-from_joined.field-0.0.0.0.1;
+      }) ms
+          (all.1.1.1.1.1.1.1.1.1.1.1.0, (all.1.1.1.1.1.1.1.1.1.1.0, (all.1.1.1.1.1.1.1.1.1.0, (all.1.1.1.1.1.0, (all.1.1.1.1.1.1.1.1.0, (all.1.1.0, (all.1.0, (all.0, (all.1.1.1.1.0, (all.1.1.1.1.1.1.1.1.1.1.1.1.0, (all.1.1.1.1.1.1.1.0, (all.1.1.1.1.1.1.0, (all.1.1.1.0, tt)))))))))))));
+      count = (
+        omega (
+          arith,
+          c.or_implied.ensures.rises,
+          c.or_implied-in-Ok.ensures.rises,
+          c.optional.ensures.rises,
+          c.optional-in-Ok.ensures.rises,
+          c.optional-in-Ok-2.ensures.rises,
+          c.optional-in-Ok-3.ensures.rises,
+          c.or_implied-in-Ok-2.ensures.rises,
+          c.optional-in-Ok-4.ensures.rises,
+          c.read_callbacks.ensures.count.0,
+          c.extensions.ensures.rises,
+          c.or_implied-in-Ok-3.ensures.rises,
+          c.optional-in-Ok-5.ensures.rises,
+          c.required.ensures.rises,
+        ),
+        omega (
+          arith,
+          c.or_implied.ensures.count,
+          c.or_implied-in-Ok.ensures.count,
+          c.optional.ensures.count,
+          c.optional-in-Ok.ensures.count,
+          c.optional-in-Ok-2.ensures.count,
+          c.optional-in-Ok-3.ensures.count,
+          c.or_implied-in-Ok-2.ensures.count,
+          c.optional-in-Ok-4.ensures.count,
+          c.read_callbacks.ensures.count.1,
+          c.extensions.ensures.count,
+          c.or_implied-in-Ok-3.ensures.count,
+          c.optional-in-Ok-5.ensures.count,
+          c.required.ensures.count,
+        ),
+      );
+    })
+
+pub read_operation-returns-in-Err-from_joined : goal.read_operation-returns-in-Err-from_joined
+unfolding final_tables tables_with
+read_operation-returns-in-Err-from_joined t c =
+    let k = by operation in
+    let ms = members_of c.in-Ok.members.now in
+    let one = row_first _ _ k _ ms c.or_implied.ensures.reads in
+    let two = row_joined _ _ _ _ _ k _ _ ms c.from_joined-join.ensures one c.or_implied-in-Ok.ensures.reads in
+    let three = row_joined _ _ _ _ _ k _ _ ms c.from_joined-join-in-Ok.ensures two c.optional.ensures.reads in
+    let four = row_joined _ _ _ _ _ k _ _ ms c.from_joined-join-in-Ok-2.ensures three c.optional-in-Ok.ensures.reads in
+    let five = row_joined _ _ _ _ _ k _ _ ms c.from_joined-join-in-Ok-3.ensures four c.optional-in-Ok-2.ensures.reads in
+    let six = row_joined _ _ _ _ _ k _ _ ms c.from_joined-join-in-Ok-4.ensures five c.optional-in-Ok-3.ensures.reads in
+    let seven = row_joined _ _ _ _ _ k _ _ ms c.from_joined-join-in-Ok-5.ensures six c.or_implied-in-Ok-2.ensures.reads in
+    let eight = row_joined _ _ _ _ _ k _ _ ms c.from_joined-join-in-Ok-6.ensures seven c.optional-in-Ok-4.ensures.reads in
+    let nine = row_joined _ _ _ _ _ k _ _ ms c.from_joined-join-in-Ok-7.ensures eight c.read_callbacks.ensures.reads in
+    let ten = row_joined _ _ _ _ _ k _ _ ms c.from_joined-join-in-Ok-8.ensures nine c.extensions.ensures.reads in
+    let eleven = row_joined _ _ _ _ _ k _ _ ms c.from_joined-join-in-Ok-9.ensures ten c.or_implied-in-Ok-3.ensures.reads in
+    let twelve = row_joined _ _ _ _ _ k _ _ ms c.from_joined-join-in-Ok-10.ensures eleven c.optional-in-Ok-5.ensures.reads in
+    let thirteen = row_joined _ _ _ _ _ k _ _ ms c.from_joined-join-in-Ok-11.ensures twelve c.required.ensures.reads in
+    object_read operation_fields operation_rows operation_same operation (Err c.in-Err-from_joined.field-0) ms
+    (shown c.args.view.now) _ _ c.in-Ok.ensures (record {
+      reads = rw c.in-Err-from_joined.is at thirteen;
+      count = (
+        omega (
+          arith,
+          c.or_implied.ensures.rises,
+          c.or_implied-in-Ok.ensures.rises,
+          c.optional.ensures.rises,
+          c.optional-in-Ok.ensures.rises,
+          c.optional-in-Ok-2.ensures.rises,
+          c.optional-in-Ok-3.ensures.rises,
+          c.or_implied-in-Ok-2.ensures.rises,
+          c.optional-in-Ok-4.ensures.rises,
+          c.read_callbacks.ensures.count.0,
+          c.extensions.ensures.rises,
+          c.or_implied-in-Ok-3.ensures.rises,
+          c.optional-in-Ok-5.ensures.rises,
+          c.required.ensures.rises,
+        ),
+        omega (
+          arith,
+          c.or_implied.ensures.count,
+          c.or_implied-in-Ok.ensures.count,
+          c.optional.ensures.count,
+          c.optional-in-Ok.ensures.count,
+          c.optional-in-Ok-2.ensures.count,
+          c.optional-in-Ok-3.ensures.count,
+          c.or_implied-in-Ok-2.ensures.count,
+          c.optional-in-Ok-4.ensures.count,
+          c.read_callbacks.ensures.count.1,
+          c.extensions.ensures.count,
+          c.or_implied-in-Ok-3.ensures.count,
+          c.optional-in-Ok-5.ensures.count,
+          c.required.ensures.count,
+        ),
+      );
+    })
+
+pub read_callback-returns-in-Ok-from_joined : goal.read_callback-returns-in-Ok-from_joined
+unfolding final_tables tables_with
+read_callback-returns-in-Ok-from_joined t c =
+    let k = by callback_object in
+    let ms = members_of c.in-Ok.members.now in
+    let one = row_first _ _ k _ ms c.read_requests.ensures.reads in
+    let two = row_joined _ _ _ _ _ k _ _ ms c.from_joined-join.ensures one c.extensions.ensures.reads in
+    let all = rw c.in-Ok-from_joined.is at two in
+    object_read callback_fields callback_rows callback_same callback_object (Ok (roll-Callback (record {
+      paths = c.in-Ok-from_joined.field-0.0;
+      extensions = c.in-Ok-from_joined.field-0.1;
+    }))) ms
+    (shown c.args.view.now) _ _ c.in-Ok.ensures (record {
+      reads = callback_read (record {
+        paths = c.in-Ok-from_joined.field-0.0;
+        extensions = c.in-Ok-from_joined.field-0.1;
+      }) ms
+          (all.1.0, (all.0, tt));
+      count = (
+        omega (arith, c.read_requests.ensures.count.0, c.extensions.ensures.rises),
+        omega (
+          arith,
+          c.read_requests.ensures.count.1,
+          c.extensions.ensures.count,
+        ),
+      );
+    })
+
+pub read_callback-returns-in-Err-from_joined : goal.read_callback-returns-in-Err-from_joined
+unfolding final_tables tables_with
+read_callback-returns-in-Err-from_joined t c =
+    let k = by callback_object in
+    let ms = members_of c.in-Ok.members.now in
+    let one = row_first _ _ k _ ms c.read_requests.ensures.reads in
+    let two = row_joined _ _ _ _ _ k _ _ ms c.from_joined-join.ensures one c.extensions.ensures.reads in
+    object_read callback_fields callback_rows callback_same callback_object (Err c.in-Err-from_joined.field-0) ms
+    (shown c.args.view.now) _ _ c.in-Ok.ensures (record {
+      reads = rw c.in-Err-from_joined.is at two;
+      count = (
+        omega (arith, c.read_requests.ensures.count.0, c.extensions.ensures.rises),
+        omega (
+          arith,
+          c.read_requests.ensures.count.1,
+          c.extensions.ensures.count,
+        ),
+      );
+    })
 
 pub callbacks_of-loop-i-init : goal.callbacks_of-loop-i-init
 callbacks_of-loop-i-init t c = none_so_far (reference_form callback_form) callback_ref c.args.members.now c.args.steps.now c.new-values.result c.new-values.ensures
@@ -58,20 +271,11 @@ callbacks_of-returns t c =
     all_so_far (reference_form callback_form) callback_ref c.args.members.now c.args.steps.now c.loop-i.i c.loop-i.values c.loop-i.steps (omega arith)
     c.loop-i.invariant
 
-pub read_path_item-path_item_of-requires : goal.read_path_item-path_item_of-requires
-read_path_item-path_item_of-requires t c = (omega (arith, ap size_of c.in-Ok.ensures, c.decreases), tt)
-
 pub read_path_item-returns-in-Err-clause-reads : goal.read_path_item-returns-in-Err-clause-reads
 read_path_item-returns-in-Err-clause-reads t c = c.in-Err.ensures (by path_item) refl
 
-pub read_operation-operation_of-requires : goal.read_operation-operation_of-requires
-read_operation-operation_of-requires t c = (omega (arith, ap size_of c.in-Ok.ensures, c.decreases), tt)
-
 pub read_operation-returns-in-Err-clause-reads : goal.read_operation-returns-in-Err-clause-reads
 read_operation-returns-in-Err-clause-reads t c = c.in-Err.ensures (by operation) refl
-
-pub read_callback-callback_of-requires : goal.read_callback-callback_of-requires
-read_callback-callback_of-requires t c = (omega (arith, ap size_of c.in-Ok.ensures, c.decreases), tt)
 
 pub read_callback-returns-in-Err-clause-reads : goal.read_callback-returns-in-Err-clause-reads
 read_callback-returns-in-Err-clause-reads t c = c.in-Err.ensures (by callback_object) refl
@@ -208,46 +412,6 @@ read_requests-returns t c =
     (Ok c.loop-i.values) (by callback_object) c.args.members.now refl
     (taken_all (in_class callback_names) path_item_form (by path_item) c.args.members.now c.args.steps.now c.loop-i.i c.loop-i.values
     c.loop-i.steps (omega arith) c.loop-i.invariant)
-
-pub callback_of-returns-clause-reads : goal.callback_of-returns-clause-reads
-unfolding final_tables tables_with
-callback_of-returns-clause-reads t c =
-    callback_read (record { paths = c.in_ok-paths.paths; extensions = c.in_ok-extensions.extensions })
-    (members_of c.args.members.now) (c.in_ok-paths.ensures.reads, (c.in_ok-extensions.ensures.reads, tt))
-
-pub path_item_of-path_item_with-requires : goal.path_item_of-path_item_with-requires
-path_item_of-path_item_with-requires t c = rw c.in-Ok.is at c.read_methods.ensures.reads
-
-pub operation_of-returns-clause-reads : goal.operation_of-returns-clause-reads
-unfolding final_tables tables_with
-operation_of-returns-clause-reads t c =
-    let ms = members_of c.args.members.now in
-    let texts = c.in_ok-texts.ensures.reads in
-    let settings = c.in_ok-settings.ensures.reads in
-    let messages = c.in_ok-messages.ensures.reads in
-    subst (λ fs. AreRows final_tables (final_tables operation) fs ms) (sym c.joined_operation.ensures)
-    (texts.0, (texts.1.0, (texts.1.1.0, (settings.0, (texts.1.1.1.0, (messages.0, (messages.1.0, (messages.1.1.0, (c.in_ok-callbacks.ensures.reads, (texts.1.1.1.1.0, (settings.1.0, (settings.1.1.0, (c.in_ok-extensions.ensures.reads, tt)))))))))))))
-
-pub path_item_of-returns-in-Ok-clause-count : goal.path_item_of-returns-in-Ok-clause-count
-path_item_of-returns-in-Ok-clause-count t c = (
-  omega (arith, c.path_item_with.ensures.count.0, c.read_methods.ensures.count.0),
-  omega (
-    arith,
-    path_item_weight (members_of c.args.members.now),
-    c.path_item_with.ensures.count.1,
-    c.read_methods.ensures.count.1,
-  ),
-)
-
-pub path_item_of-returns-in-Err-clause-count : goal.path_item_of-returns-in-Err-clause-count
-path_item_of-returns-in-Err-clause-count t c = (
-  omega (arith, c.read_methods.ensures.count.0),
-  omega (
-    arith,
-    path_item_weight (members_of c.args.members.now),
-    c.read_methods.ensures.count.1,
-  ),
-)
 
 pub read_callback_ref-returns-in-Ok-Some-clause-reads : goal.read_callback_ref-returns-in-Ok-Some-clause-reads
 read_callback_ref-returns-in-Ok-Some-clause-reads t c =

@@ -12,9 +12,6 @@ use Rattle.openapi_documents.proofs.read.+read.Given as goal
 abbrev pub decreases-read_path_item : goal.decreases-read_path_item
 decreases-read_path_item l = view_left l.view.now 0
 
-abbrev pub decreases-path_item_of : goal.decreases-path_item_of
-decreases-path_item_of l = members_left l.members.now 5
-
 abbrev pub decreases-read_methods : goal.decreases-read_methods
 decreases-read_methods l = members_left l.members.now 4
 
@@ -23,9 +20,6 @@ decreases-read_method l = members_left l.members.now 3
 
 abbrev pub decreases-read_operation : goal.decreases-read_operation
 decreases-read_operation l = view_left l.view.now 0
-
-abbrev pub decreases-operation_of : goal.decreases-operation_of
-decreases-operation_of l = members_left l.members.now 5
 
 abbrev pub decreases-read_callbacks : goal.decreases-read_callbacks
 decreases-read_callbacks l = members_left l.members.now 4
@@ -38,9 +32,6 @@ decreases-read_callback_ref l = view_left l.view.now 1
 
 abbrev pub decreases-read_callback : goal.decreases-read_callback
 decreases-read_callback l = view_left l.view.now 0
-
-abbrev pub decreases-callback_of : goal.decreases-callback_of
-decreases-callback_of l = members_left l.members.now 5
 
 abbrev pub decreases-read_requests : goal.decreases-read_requests
 decreases-read_requests l = members_left l.members.now 4

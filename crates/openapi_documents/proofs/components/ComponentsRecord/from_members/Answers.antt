@@ -1,16 +1,40 @@
+use Rattle.openapi_node.specs.Tree.{members_of}
+use Rattle.openapi_tables.specs.Kind.{by, components}
 use Rattle.openapi_tables.specs.Tables.{final_tables, tables_with}
-use Rattle.openapi_fields.proofs.Joining.{joined_ok}
+use Rattle.openapi_fields.proofs.Joining.{row_first, row_joined}
 use Rattle.openapi_documents.proofs.components.ComponentsRecord.from_members.Goals as goal
 
-pub returns-clause-reads : goal.returns-clause-reads
+pub returns-in-Ok-from_joined-clause-reads : goal.returns-in-Ok-from_joined-clause-reads
 unfolding final_tables tables_with
-returns-clause-reads c =
-    let first = joined_ok c.join-3.ensures c.in_ok-schemas.was in
-    let answers = joined_ok c.join.ensures first.0 in
-    let samples = joined_ok c.join-2.ensures first.1 in
-    let last = joined_ok c.join-7.ensures c.in_ok-request_bodies.was in
-    let named = joined_ok c.join-named.ensures last.0 in
-    let sent = joined_ok c.join-4.ensures named.0 in
-    let linked = joined_ok c.join-5.ensures named.1 in
-    let rest = joined_ok c.join-6.ensures last.1 in
-    (rw answers.0 at c.or_implied-schemas.ensures.reads, (rw answers.1 at c.or_implied-responses.ensures.reads, (rw samples.0 at c.or_implied-parameters.ensures.reads, (rw samples.1 at c.or_implied-examples.ensures.reads, (rw sent.0 at c.or_implied-bodies.ensures.reads, (rw sent.1 at c.or_implied-headers.ensures.reads, (rw linked.0 at c.or_implied-schemes.ensures.reads, (rw linked.1 at c.or_implied-links.ensures.reads, (rw rest.0 at c.or_implied-callbacks.ensures.reads, (rw rest.1 at c.extensions-extensions.ensures.reads, tt))))))))))
+returns-in-Ok-from_joined-clause-reads c =
+    let k = by components in
+    let ms = members_of c.args.members.now in
+    let one = row_first _ _ k _ ms c.or_implied.ensures.reads in
+    let two = row_joined _ _ _ _ _ k _ _ ms c.from_joined-join.ensures one c.or_implied-2.ensures.reads in
+    let three = row_joined _ _ _ _ _ k _ _ ms c.from_joined-join-2.ensures two c.or_implied-3.ensures.reads in
+    let four = row_joined _ _ _ _ _ k _ _ ms c.from_joined-join-3.ensures three c.or_implied-4.ensures.reads in
+    let five = row_joined _ _ _ _ _ k _ _ ms c.from_joined-join-4.ensures four c.or_implied-5.ensures.reads in
+    let six = row_joined _ _ _ _ _ k _ _ ms c.from_joined-join-5.ensures five c.or_implied-6.ensures.reads in
+    let seven = row_joined _ _ _ _ _ k _ _ ms c.from_joined-join-6.ensures six c.or_implied-7.ensures.reads in
+    let eight = row_joined _ _ _ _ _ k _ _ ms c.from_joined-join-7.ensures seven c.or_implied-8.ensures.reads in
+    let nine = row_joined _ _ _ _ _ k _ _ ms c.from_joined-join-8.ensures eight c.or_implied-9.ensures.reads in
+    let ten = row_joined _ _ _ _ _ k _ _ ms c.from_joined-join-9.ensures nine c.extensions.ensures.reads in
+    let all = rw c.in-Ok-from_joined.is at ten in
+    (all.1.1.1.1.1.1.1.1.1.0, (all.1.1.1.1.1.1.1.1.0, (all.1.1.1.1.1.1.1.0, (all.1.1.1.1.1.1.0, (all.1.1.1.1.1.0, (all.1.1.1.1.0, (all.1.1.1.0, (all.1.1.0, (all.1.0, (all.0, tt))))))))))
+
+pub returns-in-Err-from_joined-clause-reads : goal.returns-in-Err-from_joined-clause-reads
+unfolding final_tables tables_with
+returns-in-Err-from_joined-clause-reads c =
+    let k = by components in
+    let ms = members_of c.args.members.now in
+    let one = row_first _ _ k _ ms c.or_implied.ensures.reads in
+    let two = row_joined _ _ _ _ _ k _ _ ms c.from_joined-join.ensures one c.or_implied-2.ensures.reads in
+    let three = row_joined _ _ _ _ _ k _ _ ms c.from_joined-join-2.ensures two c.or_implied-3.ensures.reads in
+    let four = row_joined _ _ _ _ _ k _ _ ms c.from_joined-join-3.ensures three c.or_implied-4.ensures.reads in
+    let five = row_joined _ _ _ _ _ k _ _ ms c.from_joined-join-4.ensures four c.or_implied-5.ensures.reads in
+    let six = row_joined _ _ _ _ _ k _ _ ms c.from_joined-join-5.ensures five c.or_implied-6.ensures.reads in
+    let seven = row_joined _ _ _ _ _ k _ _ ms c.from_joined-join-6.ensures six c.or_implied-7.ensures.reads in
+    let eight = row_joined _ _ _ _ _ k _ _ ms c.from_joined-join-7.ensures seven c.or_implied-8.ensures.reads in
+    let nine = row_joined _ _ _ _ _ k _ _ ms c.from_joined-join-8.ensures eight c.or_implied-9.ensures.reads in
+    let ten = row_joined _ _ _ _ _ k _ _ ms c.from_joined-join-9.ensures nine c.extensions.ensures.reads in
+    rw c.in-Err-from_joined.is at ten

@@ -292,7 +292,7 @@ def slug_of(*words):
 def index_of(all_pages):
     lines = ["# The library, item by item", "",
              "These pages are made from the sources by `bin/api.py`. Each has the public items of a section of OpenAPI 3.0.3 (the number is",
-             "that of the section) or of one purpose, with their contracts folded.", ""]
+             "that of the section) or of one purpose, with their contracts folded. [How to read a contract](../CONTRACTS.md).", ""]
     for page in all_pages:
         names = ", ".join(f"[`{name}`]({page.file}#{slug_of(name)})" for _, name in page.names)
         lines.append(f"- [{page.title}]({page.file}): {names}")

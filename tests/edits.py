@@ -52,8 +52,8 @@ its cycle, at a goal of its own). One that is not refused so is tried by itself,
 the prover can't read, or that breaks a rule of the language, is not refused. A verdict is kept when it is known, so that a run
 that was ended continues where it stopped. The last line is `N passed, M failed`, and counts mutations.
 
-Lines of a source that are a comment count for no hash. Nor do those that only state how a function is to be inlined: they are
-hints to the compiler that makes a program of what is proved. No proof sees either.
+Lines that are a comment count for no hash, in sources, specs and proofs. Nor do those that only state how a function is to be
+inlined: they are hints to the compiler that makes a program of what is proved. No proof sees either.
 """
 import argparse
 import fcntl
@@ -78,6 +78,8 @@ REFUSED = ("goal", "lemma", "twin")
 LOWEST = ("openapi_json", "openapi_map", "openapi_node", "openapi_tables", "openapi_values")
 # A line of a source that no proof sees: a comment, or a hint on inlining.
 UNSEEN = re.compile(r"\s*(?://.*|#\[(?:inline(?:\((?:never|always)\))?|cold)\])?\s*")
+# Likewise of a file of definitions or proofs.
+UNSEEN_IN_PROOFS = re.compile(r"\s*(?:--.*)?")
 # A function or a loop.
 SHAPE = re.compile(r"\bfn \w+|\bfor [^{;]* in |\bwhile |\bloop \{")
 # How an item of a source begins, behind its attributes: what it is, and its name.
@@ -166,6 +168,11 @@ def hash_of_texts(texts):
 def lines_of(text):
     """Returns the lines of a source that a proof may see, each with its number."""
     return [(number, line) for number, line in enumerate(text.split("\n"), 1) if not UNSEEN.fullmatch(line)]
+
+
+def seen_in_proofs(text):
+    """Returns what a proof may see of a file of definitions or proofs."""
+    return "\n".join(it for it in text.split("\n") if not UNSEEN_IN_PROOFS.fullmatch(it))
 
 
 def cut(lines, indent):
@@ -260,7 +267,8 @@ class Sources:
         self.crate, self.files, self.rests = crate, {}, {}
         self.read(f"{TOP}/crates/{crate}")
         lines = {it: lines_of(text) for it, text in self.files.items() if it.endswith(".rt")}
-        self.seen = self.files | {file: "\n".join(it for _, it in lines[file]) for file in lines}
+        self.seen = {it: seen_in_proofs(text) for it, text in self.files.items()}
+        self.seen |= {file: "\n".join(it for _, it in lines[file]) for file in lines}
         found = [Item(file, it) for file in lines for it in cut(lines[file], "")]
         self.uses = [(it.file, it.brings()) for it in found if it.kind == "use"]
         # A line that only names a module does not show what is in it.

@@ -105,7 +105,7 @@ impl NameIndex {
         None
     }
 
-    /// Takes a place out. Those behind it move up by one.
+    /// Removes a place. Those after it are reduced by one.
     pub(crate) fn unlink(&mut self, place: usize)
         requires { place < vec_len self.old.next }
         ensures { (names : List (List ℕ)) → IsIndex names self.old → IsIndex (remove names place) self.new }

@@ -36,7 +36,8 @@ mod no_elements;
 mod retain;
 mod traits;
 
-/// The contents of a map that has or had an entry. The value at a place belongs to the name at the same place.
+/// The contents of a map that has or had an entry, or a requested capacity. The value at a place belongs to the name at the
+/// same place.
 ///
 /// Names and values are two lists, so that the values can be borrowed mutably while the names stay as they are.
 #[derive(Clone, Drop)]
@@ -347,7 +348,8 @@ impl<V> OrderedMap<V> {
 
     /// Removes the entry of a name and returns its value, or `None` if the map lacks the name.
     ///
-    /// The entries behind it move up and keep their order. This takes time in proportion to the length of the map.
+    /// The entries after it are shifted to the left and keep their order. This takes time in proportion to the length of the
+    /// map.
     pub fn shift_remove(&mut self, name: &str) -> Option<V>
         ensures old { result ≡ get name.now self.old }
         ensures entries { self.new ≡ remove_entry name.now self.old }

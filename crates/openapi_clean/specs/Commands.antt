@@ -25,8 +25,8 @@ abbrev pub IsCommandOf : List ℕ → Result Command (Unit {0}) → Type 0
 IsCommandOf word (Ok c) = word ≡ word_of c
 IsCommandOf word (Err e) = (c : Command) → word ≢ word_of c
 
--- the words of a command line, of which the first is the name of the program: behind it stands the word of the command
--- and no other word; or they are the words of no command
+-- the words of a command line are the name of the program, the word of the command and no other word; or they are the words
+-- of no command
 abbrev pub AreWordsOf : List (List ℕ) → Option Command → Type 0
 AreWordsOf words (Some c) = (program : List ℕ) × (words ≡ program ∷ word_of c ∷ [])
 AreWordsOf words None = (c : Command) (program : List ℕ) → words ≢ program ∷ word_of c ∷ []

@@ -1,4 +1,4 @@
--- What the program writes for its input, and the exit status of each end of a run.
+-- What the program writes for its input, and the exit status of each outcome of a run.
 use Rattle.std.specs.Prelude.{◌≡◌, ℕ, List, [], ◌∷◌, ◌++◌, true}
 use Rattle.openapi_node.specs.Tree.{Tree}
 use Rattle.openapi_tables.specs.Conforms.{conforms}
@@ -25,7 +25,7 @@ abbrev pub lines_of : List Operation → List ℕ
 lines_of [] = []
 lines_of (o ∷ os) = operation_line o.path o.method ++ lines_of os
 
--- what a command writes for a tree: a line of compact JSON, with members by name, or the lines of the operations
+-- what a command writes for a node: a line of compact JSON, with members by name, or the lines of the operations
 abbrev pub text_for : Command → Tree → List ℕ
 text_for Tag t = text_in ByName (rewritten rewriting.Tag t)
 text_for Schema t = text_in ByName (rewritten rewriting.Schema t)
@@ -33,7 +33,7 @@ text_for Document t = text_in ByName (rewritten rewriting.Document t)
 text_for Settle t = text_in ByName (rewritten rewriting.Settle t)
 text_for Operations t = lines_of (ops (form final_tables (by open_api) t))
 
--- the bytes are JSON whose tree conforms to the kind of the command, and the text is what the command writes for it
+-- the bytes are JSON whose node conforms to the kind of the command, and the text is what the command writes for that node
 abbrev pub IsAnswer : Command → List ℕ → List ℕ → Type 0
 IsAnswer c bytes text = IsTextOf ByName bytes (λ t. (conforms final_tables (kind_of c) t ≡ true) × (text ≡ text_for c t))
 

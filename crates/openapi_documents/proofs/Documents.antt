@@ -1,4 +1,4 @@
--- What was read of a tree, and what is read of what it is written as.
+-- What was read from a node, and what is read from the node that it is written as.
 use Rattle.std.proofs.Common.{◌≡◌, ◌↔◌, true, refl, sym, ap, ◌∙◌, subst, []}
 use Rattle.openapi_node.specs.Tree.{Tree}
 use Rattle.openapi_tables.specs.Prelude.{again, print, clean, form, sound, stays, final_tables, tables_with, unwritable}
@@ -17,7 +17,7 @@ pub document_sound : sound final_tables document ≡ true
 unfolding final_tables tables_with
 document_sound = refl
 
--- nothing in a document that was read of a tree is unwritable
+-- nothing in a document that was read from a node is unwritable
 pub can_be_written : (t : Tree) (x : OpenAPI) → IsReadOf x t
     → unwritable final_tables document (document_form x) ≡ []
 can_be_written t x r =
@@ -25,12 +25,12 @@ can_be_written t x r =
     ((writable.0 final_tables document (form final_tables document t)).0
     (read_proper final_tables final_sound t document document_sound r.0)).1
 
--- of the cleaned tree is read what is read again of what was read first
+-- the form that is read from the normalized node is that of the first document, written and read again
 reads_again : (t : Tree) (x y : OpenAPI) → IsReadOf x t → IsReadOf y (clean final_tables document t)
     → again final_tables document (document_form x) ≡ document_form y
 reads_again t x y r h = ap (again final_tables document) (sym r.1) ∙ h.1
 
--- what is read of the cleaned tree has the same form once it is written and read again
+-- a document that is read from the normalized node has the same form after it is written and read again
 pub is_settled : (t : Tree) (x y z : OpenAPI) → IsReadOf x t → IsReadOf y (clean final_tables document t)
     → IsReadOf z (print final_tables document (document_form y)) → document_form z ≡ document_form y
 is_settled t x y z r h g =
@@ -40,7 +40,7 @@ is_settled t x y z r h g =
     (read_proper final_tables final_sound t document document_sound r.0) in
     sym g.1 ∙ sym (ap (again final_tables document) h.1) ∙ s ∙ h.1
 
--- and it has the form that was read first exactly where that form stays
+-- and it has the form that was read first if and only if `stays` holds for that form
 pub is_first : (t : Tree) (x y : OpenAPI) → IsReadOf x t → IsReadOf y (clean final_tables document t)
     → (document_form y ≡ document_form x) ↔ (stays final_tables document (document_form x) ≡ true)
 is_first t x y r h =

@@ -30,7 +30,7 @@ use Rattle.openapi_documents.specs.declared.callback.Callback.TheFolds.{fold_out
 use Rattle.openapi_documents.specs.declared.callback.Callback.TheFolds.{map-Callback, map-Operation, map-PathItem}
 use Rattle.openapi_documents.specs.declared.callback.Callback.TheOpen.{Callback-F, Operation-F, PathItem-F}
 
--- one level of each type, and the same with what stands inside seen as forms
+-- one level of each type, and the same with the values inside replaced with their forms
 abbrev pub ACallback : Type 0
 ACallback = Callback-F the_data the_data-1 the_data-2
 
@@ -68,7 +68,7 @@ requests_level d ((n, x) ∷ es) =
 callback_step-level : (d : ACallback) → callback_step (callback_level d) ≡ callback_parts d
 callback_step-level d = λ i. named (named_of (requests_level d d.paths i)) ∷ extensions_form d.extensions ∷ []
 
--- the rows of a callback are the forms of its fields
+-- the forms that the fold gives for a callback are those of its fields
 pub callback_rows-out : (x : Callback) → callback_rows x ≡ callback_fields x
 callback_rows-out x =
     fold_out-Callback (List Form) (List Form) (List Form) callback_step operation_step path_item_step x
@@ -119,7 +119,7 @@ operation_step-level d =
     ∷ flag_form d.deprecated ∷ optional_form (list_form security_requirement_form) d.security
     ∷ list_form server_form d.servers ∷ extensions_form d.extensions ∷ [])
 
--- the rows of an operation are the forms of its fields
+-- the forms that the fold gives for an operation are those of its fields
 pub operation_rows-out : (x : Operation) → operation_rows x ≡ operation_fields x
 operation_rows-out x =
     fold_out-Operation (List Form) (List Form) (List Form) callback_step operation_step path_item_step x
@@ -163,7 +163,7 @@ path_item_step-level d =
     ∷ method_level d d.head i ∷ method_level d d.patch i ∷ method_level d d.trace i ∷ list_form server_form d.servers
     ∷ list_form parameter_ref_form d.parameters ∷ extensions_form d.extensions ∷ [])
 
--- the rows of a path item are the forms of its fields
+-- the forms that the fold gives for a path item are those of its fields
 pub path_item_rows-out : (x : PathItem) → path_item_rows x ≡ path_item_fields x
 path_item_rows-out x =
     fold_out-PathItem (List Form) (List Form) (List Form) callback_step operation_step path_item_step x
@@ -190,14 +190,14 @@ pub path_item_read : (d : APathItem) (ms : Members)
 path_item_read d ms h =
     subst (λ fs. AreRows final_tables (final_tables path_item) fs ms) (sym (path_item_fields-roll d)) h
 
--- each as an object
+-- for callbacks, the forms of the fields and those of the fold are one function
 pub callback_same : callback_fields ≡ callback_rows
 callback_same i x = sym (callback_rows-out x) i
 
--- for operations, the forms of the fields and the rows are one function
+-- for operations, the forms of the fields and those of the fold are one function
 pub operation_same : operation_fields ≡ operation_rows
 operation_same i x = sym (operation_rows-out x) i
 
--- for path items, the forms of the fields and the rows are one function
+-- for path items, the forms of the fields and those of the fold are one function
 pub path_item_same : path_item_fields ≡ path_item_rows
 path_item_same i x = sym (path_item_rows-out x) i

@@ -12,7 +12,7 @@ use Rattle.openapi_documents.specs.OperationForms.{operation_form}
 use Rattle.openapi_documents.specs.declared.operation.Operation.{Operation}
 use Rattle.openapi_documents.specs.Parts.{beside_rows, method_rows}
 
--- how much the parts weigh
+-- the weights of both parts add up to that of the rows of a path item
 pub path_item_weight : (ms : Members)
     → rows_weight beside_rows ms + rows_weight method_rows ms
     ≡ rows_weight (rows_asked final_tables (by path_item)) ms

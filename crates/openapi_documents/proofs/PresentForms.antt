@@ -1,4 +1,4 @@
--- The operations of a path item that are there: what lends them, and their forms.
+-- The operations that are present in a path item: the borrows of them, and their forms.
 use Rattle.std.proofs.Common.{◌≡◌, ℕ, List, [], ◌∷◌, Option, Some, None, drop, take, refl, sym, ap, ◌∙◌}
 use Rattle.std.specs.Borrow.{Bor}
 use Rattle.std.specs.Option.{option_copied}
@@ -12,7 +12,7 @@ use Rattle.openapi_documents.specs.declared.path_item.PathItem.{PathItem}
 use Rattle.openapi_documents.specs.Fields.{path_item_fields}
 use Rattle.openapi_documents.proofs.Opened.{path_item_rows-out}
 
--- what is lent is what is there
+-- the values that the present borrows refer to are the values that are present
 pub lent_held : {X : Type 0} (ns : List (List ℕ)) (os : List (Option (Bor X)))
     → lent (those_held ns os) ≡ those_held ns (each option_copied os)
 lent_held [] os = refl
@@ -26,7 +26,7 @@ Fits [] os = Unit {0}
 Fits (n ∷ ns) [] = ⊥
 Fits (n ∷ ns) (o ∷ os) = Fits ns os
 
--- the forms of those that are there are the slots that are there
+-- the forms of the operations that are present are the forms that are present
 forms_held : (ns : List (List ℕ)) (os : List (Option Operation)) (rest : List Form) → Fits ns os
     → forms_under operation_form (those_held ns os)
     ≡ those_there ns (forms_of (join (each (optional_form operation_form) os) rest))

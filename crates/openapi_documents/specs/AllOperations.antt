@@ -1,5 +1,5 @@
--- The operations of a document, each with its path and its method, and what an iterator over them has left. Their
--- forms are `ops` of Operations in openapi_tables.
+-- The operations of a document, each with its path and its method, and those that an iterator has not returned yet.
+-- Their forms are `ops` of Operations in openapi_tables.
 use Rattle.std.specs.Prelude.{ℕ, List, [], ◌∷◌, Option, Some, None}
 use Rattle.std.specs.Borrow.{Bor}
 use Rattle.openapi_map.specs.Entries.{Entries}
@@ -36,15 +36,15 @@ operations_under (e ∷ es) = join (operations_at e.0 e.1) (operations_under es)
 abbrev pub document_operations : OpenAPI → List Placed
 document_operations x = operations_under x.paths.paths
 
--- what is lent of an operation is its path, its method and itself
+-- the path, the method and the operation that three borrows refer to
 abbrev pub lent_operation : Bor (List ℕ) × Bor (List ℕ) × Bor Operation → Placed
 lent_operation e = (e.0.now, (e.1.now, e.2.now))
 
--- what an iterator has left of the path that it stands at
+-- the operations under the current path of an iterator that it has not returned yet; none for `None`
 abbrev pub left_under : List ℕ → Option (Entries Operation) → List Placed
 left_under p None = []
 left_under p (Some es) = under_path p es
 
--- operations by their forms
+-- the operations with their paths and methods, each operation replaced with its form
 abbrev pub placed_forms : List Placed → List tables.Operation
 placed_forms es = each (λ e. record { path = e.0; method = e.1.0; value = operation_form e.1.1 }) es

@@ -19,7 +19,7 @@ method_word methods.Head = codes "head"
 method_word methods.Patch = codes "patch"
 method_word methods.Trace = codes "trace"
 
--- the operation under a method, where there is one
+-- the operation under a method, if there is one
 abbrev pub operation_under : Method → PathItem → Option Operation
 operation_under methods.Get x = (out-PathItem x).get
 operation_under methods.Put x = (out-PathItem x).put
@@ -30,7 +30,7 @@ operation_under methods.Head x = (out-PathItem x).head
 operation_under methods.Patch x = (out-PathItem x).patch
 operation_under methods.Trace x = (out-PathItem x).trace
 
--- the path item with an operation under a method, and all else as it is
+-- the path item with a given operation under a method, and all other fields unchanged
 abbrev pub with_operation : Method → PathItem → Operation → PathItem
 with_operation methods.Get x o = roll-PathItem (record (out-PathItem x) { get = Some o })
 with_operation methods.Put x o = roll-PathItem (record (out-PathItem x) { put = Some o })
@@ -41,6 +41,7 @@ with_operation methods.Head x o = roll-PathItem (record (out-PathItem x) { head 
 with_operation methods.Patch x o = roll-PathItem (record (out-PathItem x) { patch = Some o })
 with_operation methods.Trace x o = roll-PathItem (record (out-PathItem x) { trace = Some o })
 
--- a path item whose operation under a method is borrowed by r has the last one written through r, and is as it was at `None`
+-- when the mutable borrow `r` of the operation under a method ends, the path item holds the operation last written
+-- through `r`, and its other fields are unchanged. at `None` the whole path item is unchanged
 abbrev pub lends_operation : MutBor PathItem → Method → Option (MutBor Operation) → Fml
 lends_operation m method r = LendsIf path_item.the_row operation.the_row m r (with_operation method m.now) m.now

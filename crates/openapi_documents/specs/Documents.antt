@@ -1,4 +1,4 @@
--- The forms of the fields of a document and of its components, in the order of the rows of their tables.
+-- The forms of the fields of a document and of its components, in the order of their field tables.
 use Rattle.std.specs.Prelude.{List, [], ◌∷◌}
 use Rattle.openapi_tables.specs.Form.{Form}
 use Rattle.openapi_values.specs.Reference.{reference_form}
@@ -45,6 +45,6 @@ open_api_rows x =
     ∷ extensions_form x.extensions
     ∷ []
 
--- a whole document
+-- the form of a whole document
 abbrev pub document_form : OpenAPI → Form
 document_form = record_form open_api_rows

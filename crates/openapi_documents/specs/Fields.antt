@@ -1,4 +1,4 @@
--- The forms of the fields of operations, path items, callbacks and paths, in the order of the rows of their tables.
+-- The forms of the fields of operations, path items, callbacks and paths, in the order of their field tables.
 use Rattle.std.specs.Prelude.{List, [], ◌∷◌}
 use Rattle.openapi_tables.specs.Kind.{callback_object, operation, path_item}
 use Rattle.openapi_tables.specs.Form.{Form}
@@ -80,7 +80,7 @@ paths_rows x =
     ∷ extensions_form x.extensions
     ∷ []
 
--- the slots of the first three
+-- the slots of operations, path items and callbacks
 abbrev pub operation_slots : Operation → List Slot
 operation_slots = record_slots operation operation_fields
 

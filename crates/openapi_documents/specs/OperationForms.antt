@@ -1,4 +1,4 @@
--- The forms of operations, path items and callbacks: a fold over the types that hold one another.
+-- The forms of operations, path items and callbacks: a fold over these mutually recursive types.
 use Rattle.std.specs.Prelude.{List, [], ◌∷◌}
 use Rattle.openapi_tables.specs.Form.{Form}
 use Rattle.openapi_values.specs.Reference.{reference_form}
@@ -28,7 +28,7 @@ use Rattle.openapi_documents.specs.declared.path_item.PathItem.{PathItem}
 use Rattle.openapi_documents.specs.declared.callback.Callback.TheOpen.{Callback-F, Operation-F, PathItem-F}
 use Rattle.openapi_documents.specs.declared.callback.Callback.TheFolds.{fold-Callback, fold-Operation, fold-PathItem}
 
--- what stands in an operation or a path item and holds none itself
+-- the forms of those parts of an operation or a path item that contain no operation and no path item
 abbrev pub docs_form : ExternalDocumentation → Form
 docs_form = record_form external_documentation_rows
 
@@ -41,7 +41,7 @@ parameter_ref_form = reference_form parameter_form
 abbrev pub body_ref_form : ReferenceOr RequestBody → Form
 body_ref_form = reference_form (record_form request_body_rows)
 
--- one level of each type, with what stands inside seen as its forms already
+-- the forms of the fields of one level of each type, given those of the callbacks, operations and path items inside
 abbrev pub callback_step : Callback-F (List Form) (List Form) (List Form) → List Form
 callback_step x =
     map_form of_rows x.paths
@@ -82,7 +82,7 @@ path_item_step x =
     ∷ extensions_form x.extensions
     ∷ []
 
--- the rows of a callback, of an operation and of a path item
+-- the forms of the fields of a callback, of an operation and of a path item
 abbrev pub callback_rows : Callback → List Form
 callback_rows = fold-Callback (List Form) (List Form) (List Form) callback_step operation_step path_item_step
 
@@ -92,7 +92,7 @@ operation_rows = fold-Operation (List Form) (List Form) (List Form) callback_ste
 abbrev pub path_item_rows : PathItem → List Form
 path_item_rows = fold-PathItem (List Form) (List Form) (List Form) callback_step operation_step path_item_step
 
--- and each as an object
+-- the form of each as an object
 abbrev pub callback_form : Callback → Form
 callback_form = record_form callback_rows
 

@@ -1,5 +1,5 @@
--- The operations of a path item that are there, each under its method. Their forms are `present_ops` of Operations in
--- openapi_tables.
+-- The operations that are present in a path item, each under its method. Their forms are `present_ops` of Operations
+-- in openapi_tables.
 use Rattle.std.specs.Prelude.{◌≡◌, ℕ, List, [], ◌∷◌, Option, Some, None}
 use Rattle.std.specs.Borrow.{Bor}
 use Rattle.openapi_map.specs.Entries.{Entries}
@@ -11,18 +11,18 @@ use Rattle.openapi_documents.specs.declared.methods.Methods.{Methods}
 use Rattle.openapi_documents.specs.declared.operation.Operation.{Operation}
 use Rattle.openapi_documents.specs.declared.path_item.PathItem.{PathItem, out-PathItem}
 
--- the values that are there, each under its name
+-- the values that are present, each under its name
 abbrev pub those_held : {X : Type 0} → List (List ℕ) → List (Option X) → Entries X
 those_held [] os = []
 those_held (n ∷ ns) [] = []
 those_held (n ∷ ns) (None ∷ os) = those_held ns os
 those_held (n ∷ ns) (Some x ∷ os) = (n, x) ∷ those_held ns os
 
--- what stands under the methods, in their order
+-- the optional value of each method, in the order of the methods
 abbrev pub under_methods : {X : Type 0} → Methods X → List (Option X)
 under_methods m = m.get ∷ m.put ∷ m.post ∷ m.delete ∷ m.options ∷ m.head ∷ m.patch ∷ m.trace ∷ []
 
--- nothing stands under any method
+-- no method has a value
 pub record NoneStands {X : Type 0} (m : Methods X) : Type 0 where
   pub get : m.get ≡ None
   pub put : m.put ≡ None
@@ -33,7 +33,7 @@ pub record NoneStands {X : Type 0} (m : Methods X) : Type 0 where
   pub patch : m.patch ≡ None
   pub trace : m.trace ≡ None
 
--- what stands under the methods of a path item, in their order
+-- the optional operation of each method of a path item, in the order of the methods
 abbrev pub operations_in : PathItem → List (Option Operation)
 operations_in x =
     (out-PathItem x).get
@@ -46,18 +46,18 @@ operations_in x =
     ∷ (out-PathItem x).trace
     ∷ []
 
--- the operations of a path item that are there
+-- the operations that are present in a path item, each under its method
 abbrev pub present_operations : PathItem → Entries Operation
 present_operations x = those_held methods (operations_in x)
 
--- what values that are lent are
+-- the entries with the values that their borrows refer to
 abbrev pub lent : {X : Type 0} → Entries (Bor X) → Entries X
 lent es = each (λ e. (e.0, e.1.now)) es
 
--- a method, which is the same text at all times, beside what stands under it
+-- a method and the value under it, with the method, a borrow of a constant text, replaced with that text
 abbrev pub owned_method : {K X : Type 0} → Bor K × X → K × X
 owned_method e = (e.0.now, e.1)
 
--- entries by the forms of their values
+-- the entries with each value replaced with its form
 abbrev pub forms_under : {X : Type 0} → (X → Form) → Entries X → List (Entry Form)
 forms_under view es = each (λ e. record { name = e.0; value = view e.1 }) es

@@ -1,4 +1,5 @@
--- A callback, in whose place a reference may stand, writes no text under `$ref`: what stands there is a path item.
+-- A callback, which a reference may replace, is written without a text under `$ref`: the value of each of its names,
+-- also of this one, is a path item.
 use Rattle.std.proofs.Common.{◌≡◌, true, refl}
 use Rattle.openapi_tables.specs.Kind.{by, callback_object}
 use Rattle.openapi_tables.specs.Sound.{under_ref}

@@ -1,4 +1,4 @@
--- What an object misses: its tag, and what a row of a table requires.
+-- The causes for members that an object lacks: its tag, and what a row of a table requires.
 use Rattle.std.proofs.Common.{◌≡◌, ℕ, List, [], ◌∷◌, Some, None, slice_get, refl, sym, ap, ◌∙◌, codes}
 use Rattle.std.specs.Borrow.{Bor}
 use Rattle.openapi_map.specs.Entries.{Entries}
@@ -49,13 +49,13 @@ module _ (tag : Tag) (n : List ℕ) (name : n ≡ tag_name tag) (v : View) (m : 
       ∙ missing_here tag (members_of m.now) (ap (λ x. find x (members_of m.now)) (sym name) ∙ sym h)
       ∙ ap (λ x. missing x ∷ []) (sym name)
 
--- ---- what a row misses
+-- ---- the causes of a row
 
 listed : (es : Entries Tree) → members_list (members_of es) ≡ each (λ e. entry e.0 e.1) es
 listed [] = refl
 listed (e ∷ es) = ap (λ l. entry e.0 e.1 ∷ l) (listed es)
 
--- what a row takes of members
+-- the members that a row takes are the entries whose names it takes
 pub own_chosen : (w : Row) (es : Entries Tree)
     → own w (members_list (members_of es)) ≡ each (λ e. entry e.0 e.1) (chosen (takes w) es)
 own_chosen w es =

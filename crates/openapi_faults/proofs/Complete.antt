@@ -1,4 +1,4 @@
--- What is told is what is broken.
+-- `told` contains exactly the causes that are broken.
 use Rattle.std.proofs.Common.{◌≡◌, ◌⊎◌, ℕ, true, ◌&&◌, List, [], ◌∷◌, Some, refl, sym, ap, ◌∙◌, subst, inl, inr, codes}
 use Rattle.openapi_node.specs.Fault.{place_of}
 use Rattle.openapi_node.specs.Place.{Place}
@@ -131,7 +131,7 @@ told_broken k t p c h =
 pub all_told : AllTold
 all_told k t p c = (broken_told k t p c, told_broken k t p c)
 
--- ---- a refusal of a reader
+-- ---- the error of a reader
 
 pub refusal_told : RefusalTold
 refusal_told f k t h = go f.cause (place_of f) h

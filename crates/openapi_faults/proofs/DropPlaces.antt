@@ -1,4 +1,4 @@
--- Where members are dropped: of an object itself, and below its members.
+-- The locations of dropped members: those of an object itself, and those below its members.
 use Rattle.std.proofs.Common.{◌≡◌, ◌⊎◌, ℕ, Bool, true, false, cond, ◌||◌, List, [], ◌∷◌, ◌++◌, Option, Some, None}
 use Rattle.std.proofs.Common.{refl, sym, ap, ◌∙◌, subst, inl, inr}
 use Rattle.std.proofs.lemmas.Bool.{both_ways, not-true, or_left, or_right}
@@ -15,11 +15,11 @@ use Rattle.openapi_faults.specs.declared.dropped.DropReason.{DropReason}
 use Rattle.openapi_faults.proofs.Gather.{Moves, gather, one_below}
 use Rattle.openapi_faults.proofs.Locations.{inside_join, left, root_join, stays, trimmed}
 
--- the locations of what is gathered
+-- the locations in a list of dropped members
 abbrev pub places : List (Place × DropReason) → List Place
 places l = each (λ d. d.0) l
 
--- what is dropped of members, by their names
+-- the members that are dropped, where `g` gives the reason to drop the member of a name
 abbrev pub lost : Place → (List ℕ → Option DropReason) → List (Entry Tree) → List (Place × DropReason)
 lost p g es = flat (each (λ e. dropped_if (p ++ (named e.name ∷ [])) (g e.name)) es)
 
@@ -68,7 +68,7 @@ one_kept n m (Some r) h = go (same_text n m) h
     go true f = let x = f refl in cc
     go false f = refl
 
--- a name that is not dropped
+-- if `g` gives no reason for a name, no location of a dropped member begins with it
 pub kept_name : (g : List ℕ → Option DropReason) (n : List ℕ) → g n ≡ None → (es : List (Entry Tree))
     → inside (named n) (places (lost [] g es)) ≡ []
 kept_name g n h [] = refl
@@ -78,7 +78,7 @@ kept_name g n h (e ∷ es) =
     (one_kept n e.name (g e.name) (λ q. subst (λ m. g m ≡ None) (same_text_eq n e.name q) h))
     ∙ kept_name g n h es
 
--- a name that is dropped
+-- there is no reason to drop a member, or its location is among those of the dropped members
 abbrev IsLost : (List ℕ → Option DropReason) → List (Entry Tree) → Entry Tree → Type 0
 IsLost g es e = (g e.name ≡ None) ⊎ (has_root (inside (named e.name) (places (lost [] g es))) ≡ true)
 
@@ -113,7 +113,7 @@ each_lost g (e ∷ es) = (go (g e.name) refl, each_under later es (each_lost g e
         (has_root (inside (named d.name) (places (lost [] g es)))) q
         )
 
--- of what stays no name is dropped
+-- there is no reason to drop a member that stays
 pub stays_named : (g : List ℕ → Option DropReason) (es : List (Entry Tree)) (ps qs : List Place)
     → ps ≡ join (places (lost [] g es)) qs → Each (λ (e : Entry Tree). stays ps e ≡ true → g e.name ≡ None) es
 stays_named g es ps qs is = each_under kept es (each_lost g es)
@@ -128,7 +128,7 @@ stays_named g es ps qs is = each_under kept es (each_lost g es)
         ∙ or_left (has_root (inside (named e.name) (places (lost [] g es)))) (has_root (inside (named e.name) qs)) q in
         absurd (both_ways (has_root (inside (named e.name) ps)) (not-true (has_root (inside (named e.name) ps)) h) found)
 
--- what holds of the names that stay holds of what is left
+-- what holds for the names of the members that stay holds for those of the members that are left
 pub of_left : (P : List ℕ → Type 0) (ps : List Place) (es : List (Entry Tree))
     → Each (λ (e : Entry Tree). stays ps e ≡ true → P e.name) es → Each (λ (e : Entry Tree). P e.name) (left ps es)
 of_left P ps [] h = tt
@@ -139,7 +139,7 @@ of_left P ps (e ∷ es) h = go (of_left P ps es h.1) (stays ps e) h.0
     go more true f = (f refl, more)
     go more false f = more
 
--- ---- no value itself is dropped
+-- ---- the location of a value itself is not that of a dropped member
 
 end_no_root : (p : Place) (s : Step) → is_root (p ++ (s ∷ [])) ≡ false
 end_no_root [] s = refl

@@ -1,4 +1,4 @@
--- The members that an asking drops, one after another.
+-- The members that are dropped under one required kind, one after another.
 use Rattle.std.proofs.Common.{◌≡◌, ℕ, ◌+◌, ◌<◌, Bool, true, false, not, ◌&&◌, ◌||◌, List, [], ◌∷◌, ◌++◌, Option, Some, None, is_some, get_or, length, map, take, slice_get, refl, sym, ap, ◌∙◌, subst}
 use Rattle.std.proofs.lemmas.List.{map_more}
 use Rattle.std.proofs.lemmas.List.Folds.{list_any-append, list_any_at}
@@ -42,7 +42,7 @@ module _ (p : Row → Bool) (rows : List declared.Row) (i : ℕ) (d : declared.R
       ∙ list_any-append p (map row_of (take i rows)) (row_of (get_or rows i d) ∷ [])
       ∙ ap (λ b. b || (p (row_of (get_or rows i d)) || false)) h ∙ ap (λ b. b || false) g
 
-  -- a row passes
+  -- if a row passes, one of the rows does
   pub any_found : p (row_of (get_or rows i d)) ≡ true → true ≡ list_any p (map row_of rows)
   any_found h = sym (any-map p rows ∙ list_any_at (λ w. p (row_of w)) rows i d within h)
 
@@ -92,7 +92,7 @@ module _ (p : Place) (k : Kind) (ms : Members) (es : Entries Tree) where
   abbrev drop_of : Entry Tree → List (Place × DropReason)
   drop_of e = dropped_if (p ++ (named e.name ∷ [])) (why_dropped k ms e.name)
 
-  -- what is dropped of the members before an index
+  -- the members before an index that are dropped
   abbrev pub dropped_before : ℕ → List (Place × DropReason)
   dropped_before i = flat (each drop_of (members_list (members_of (take i es))))
 
@@ -112,7 +112,7 @@ module _ (p : Place) (k : Kind) (ms : Members) (es : Entries Tree) where
         (adds_then dropped_of xs ys zs (dropped_before i) (drop_of (entry n t)) before
         (subst (λ w. Adds dropped_of ys zs (dropped_if (p ++ (named n ∷ [])) w)) e now))
 
--- a reference is there where its text is
+-- an optional borrow is `Some` if and only if its copy is
 pub is_some-copied : {T : Type 0} → (o : Option (Bor T)) → is_some o ≡ is_some (option_copied o)
 is_some-copied None = refl
 is_some-copied (Some x) = refl

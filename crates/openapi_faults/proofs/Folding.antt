@@ -27,7 +27,7 @@ moved_below p s (a ∷ as') =
     ∙ ap (λ l. record { place = (p ++ (s ∷ [])) ++ a.place; kind = a.kind; tree = a.tree } ∷ l) (moved_below p s as')
 
 module _ {V : Type 0} (R : V → Asking → V → Type 0) where
-  -- what was visited first, and what was visited then
+  -- a walk that visits one list and afterwards another visits both, joined
   pub visits_then : (as' bs : List Asking) (old mid new : Walk V) → Visits R as' old mid → Visits R bs mid new
       → Visits R (join as' bs) old new
   visits_then as' bs old mid new f g =
@@ -38,11 +38,11 @@ module _ {V : Type 0} (R : V → Asking → V → Type 0) where
         back = g.back ∙ f.back;
       }
 
-  -- nothing was visited
+  -- a walk that is unchanged visits the empty list
   pub visits_none : (old : Walk V) → Visits R [] old old
   visits_none old = record { visits = refl; back = refl }
 
-  -- what was visited one step below
+  -- a walk that visits a list one step below visits it with that step before each location
   pub visits_below : (s : Step) (as' : List Asking) (old down up new : Walk V) → down.visitor ≡ old.visitor
       → place_in down ≡ place_in old ++ (s ∷ []) → Visits R as' down up → new.visitor ≡ up.visitor
       → place_in new ≡ place_in old → Visits R (below s as') old new
@@ -69,7 +69,7 @@ visits_one R k t old new h back =
       back = back;
     }
 
--- a list of which the last was taken is what it was before that came
+-- a list without its last element is as it was before that element was appended
 pub popped : {X Y : Type 0} → (f : X → Y) (n : ℕ) (xs zs : List X) (ps : List Y) (p : Y) → length xs ≡ n
     → map f xs ≡ ps ++ (p ∷ []) → zs ≡ take (n - 1) xs → map f zs ≡ ps
 popped f n xs zs ps p w e h =

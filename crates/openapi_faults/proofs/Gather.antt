@@ -1,4 +1,4 @@
--- What is gathered of all that is asked: of each value what it gives at its own location, one after another.
+-- What is gathered for all that is required: for each value what it gives at its own location, one after another.
 use Rattle.std.proofs.Common.{◌≡◌, ◌≤◌, ℕ, suc, Bool, true, false, cond, ◌&&◌, List, [], ◌∷◌, refl, sym, ap, ◌∙◌, subst, inl, inr, arith}
 use Rattle.std.proofs.lemmas.Bool.{both_ways}
 use Rattle.openapi_node.specs.Place.{Place, Step, named, indexed}
@@ -16,7 +16,7 @@ use Rattle.openapi_tables.proofs.ListLaws.{Each, Each-only, each-join, every_eac
 use Rattle.openapi_tables.proofs.RowLaws.{TakesAll, apart_takes}
 use Rattle.openapi_faults.proofs.Complete.{from_each, from_join}
 
--- what rows give, one after another, where what one gives no other can
+-- what one row gives is not given by rows apart from it
 pub later : {A : Type 0} → (f : Row → List A) (P : Row → A → Type 0) → ((w : Row) (x : A) → Among x (f w) → P w x)
     → ((v w : Row) (x : A) → apart v w ≡ true → P v x → P w x → ⊥) → (v : Row) (ws : List Row) (x : A)
     → Each (λ w. apart v w ≡ true) ws → P v x → Among x (flat (each f ws)) → ⊥
@@ -35,7 +35,7 @@ flat_gives f Q gives (w ∷ ws) x h =
 
 -- ---- what is gathered
 
--- what each value gives
+-- what is gathered for a required kind of a value
 abbrev pub Gives : Type 0 → Type 0
 Gives X = Asking → List (Place × X)
 
@@ -45,7 +45,7 @@ gather f as' = flat (each f as')
 abbrev pub one_below : {X : Type 0} → Step → Place × X → Place × X
 one_below s x = (s ∷ x.0, x.1)
 
--- a value that is a step deeper gives the same a step deeper
+-- what is gathered for a value one step deeper is the same, one step deeper
 abbrev pub Moves : {X : Type 0} → Gives X → Type 0
 Moves f = (s : Step) (a : Asking) → f (record { place = s ∷ a.place; kind = a.kind; tree = a.tree }) ≡ each (one_below s) (f a)
 
@@ -66,9 +66,9 @@ gather_below f m s (a ∷ as') =
     ∙ ap (λ l. join (each (one_below s) (f a)) l) (gather_below f m s as')
     ∙ sym (each-join (one_below s) (f a) (gather f as'))
 
--- ---- where it is gathered
+-- ---- the locations of what is gathered
 
--- a location begins with such a step
+-- a location begins with a step for which `S` holds
 abbrev pub Begins : (Step → Type 0) → Place → Type 0
 Begins S [] = ⊥
 Begins S (s ∷ p) = S s
@@ -76,12 +76,12 @@ Begins S (s ∷ p) = S s
 abbrev pub AnyStep : Step → Type 0
 AnyStep s = Unit {0}
 
--- the name of a member that a row takes
+-- a step is a name that a row takes
 abbrev pub TakenStep : Row → Step → Type 0
 TakenStep w (named n) = takes w n ≡ true
 TakenStep w (indexed i) = ⊥
 
--- a name that is the same as another, or is not
+-- a step is a name, and `b` is whether it is the name `n`
 abbrev pub NameIs : Bool → List ℕ → Step → Type 0
 NameIs b n (named m) = same_text n m ≡ b
 NameIs b n (indexed i) = ⊥
@@ -122,7 +122,7 @@ index_weaker i (named m) h = h
 index_weaker i (indexed j) h = omega arith
 
 module _ {X : Type 0} (f : Gives X) (moves : Moves f) (T : Tables) where
-  -- of some values all is gathered at locations that begin with such a step
+  -- all that is gathered for a list is at locations that begin with such a step
   abbrev AllBegin : (Step → Type 0) → List Asking → Type 0
   AllBegin S as' = (x : Place × X) → Among x (gather f as') → Begins S x.0
 
@@ -172,7 +172,7 @@ module _ {X : Type 0} (f : Gives X) (moves : Moves f) (T : Tables) where
   own_begins (constant n v) (e ∷ l) h x m = absurd m
 
   module _ (es : List (Entry Tree)) where
-    -- what is gathered of a row
+    -- what is gathered for a row
     abbrev of_row : Row → List (Place × X)
     of_row w = gather f (asks_row (askeds T es) w)
 

@@ -1,4 +1,4 @@
--- What is dropped counts for nothing.
+-- Without its dropped members a value is read as before, and nothing more is dropped.
 use Rattle.std.proofs.Common.{◌≡◌, true}
 use Rattle.std.proofs.Common.{refl, sym, ap, ◌∙◌, subst}
 use Rattle.std.proofs.lemmas.Bool.{and_parts}
@@ -37,7 +37,7 @@ use Rattle.openapi_faults.proofs.IgnoredValues.{list_alike, map_alike, no_reason
 use Rattle.openapi_faults.proofs.IgnoredReferences.{object_ref}
 use Rattle.openapi_faults.proofs.IgnoredTags.{tag_alike}
 
--- a tree that is no object
+-- a node that is no object
 abbrev pub NotObject : Tree → Type 0
 NotObject (object ms) = ⊥
 NotObject t = Unit {0}

@@ -1,4 +1,4 @@
--- What is dropped counts for nothing: references.
+-- Dropped members do not count: references.
 use Rattle.std.proofs.Common.{◌≡◌, ℕ, Bool, true, false, cond, List, [], ◌∷◌, Option, Some, None}
 use Rattle.std.proofs.Common.{refl, sym, ap, ◌∙◌, subst, codes}
 use Rattle.std.proofs.lemmas.Bool.{both_ways}
@@ -57,7 +57,7 @@ module _ (k : Kind) where
   pub ref_verdict : (ms : Members) (s : List ℕ) → ref_text (object ms) ≡ Some s → conforms final_tables (ref_to k) (object ms) ≡ true
   ref_verdict ms s q = ap (λ x. reference_or x (conforms final_tables k (object ms))) (reference_of (root_conforms final_tables) ms ∙ q)
 
-  -- a value that is no reference
+  -- two objects without a reference are alike under a kind with references if they are alike under the kind itself
   pub no_reference : (ms : Members) (u : Members) → ref_text (object ms) ≡ None → ref_text (object u) ≡ None
       → Alike k (object ms) (object u) → Alike (ref_to k) (object ms) (object u)
   no_reference ms u q r a =
@@ -68,7 +68,7 @@ module _ (k : Kind) where
         plain = λ h. cc;
       }
 
--- the text under `$ref` of what is left
+-- if there is no text under `$ref`, there is none in what is left
 pub ref_left : (n : List ℕ) (ps : List Place) (l : List (Entry Tree)) → TakesAll (constant n []) l → Differ l
     → text_in (first_tree l) ≡ None → text_in (first_tree (left ps l)) ≡ None
 ref_left n ps [] t d h = refl
@@ -82,7 +82,7 @@ ref_left n ps (e ∷ c ∷ l) t d h =
     let b : n ≡ c.name = same_text_eq n c.name t.1.0 in
     absurd (both_ways (same_text e.name c.name) d.0.0 (subst (λ x. same_text e.name x ≡ true) (sym a ∙ b) (same_text-refl e.name)))
 
--- an object that is no reference is none without what is dropped
+-- an object that is no reference is none without its dropped members
 pub still_none : (ps : List Place) (es : List (Entry Tree)) → Differ es → ref_text (object (members_of es)) ≡ None
     → ref_text (object (members_of (left ps es))) ≡ None
 still_none ps es d q =

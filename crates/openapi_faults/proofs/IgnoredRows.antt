@@ -1,4 +1,4 @@
--- What is dropped counts for nothing: rows of an object, and the names that they take.
+-- Dropped members do not count: rows of an object, and the names that they take.
 use Rattle.std.proofs.Common.{◌≡◌, ℕ, Bool, true, false, not, cond, ◌&&◌, ◌||◌, List, [], ◌∷◌, Option, None}
 use Rattle.std.proofs.Common.{refl, sym, ap, ◌∙◌, subst}
 use Rattle.std.proofs.lemmas.Bool.{and_parts, both_ways, or_left, or_right}
@@ -35,7 +35,7 @@ use Rattle.openapi_faults.proofs.Locations.{without_none}
 use Rattle.openapi_faults.proofs.Picked.{At, Picked, dropping, rows_picked, under}
 use Rattle.openapi_faults.proofs.Trimmed.{and_false, Alike, Fine, Stays, none_asked}
 
--- ---- kinds whose tags are known to the tables that they lead to
+-- ---- kinds with tags whose tables have that tag
 
 abbrev pub tags_known : Kind → Bool
 tags_known (tagged n cs) = every (λ (c : Case). is_tag (tag_of_table c.table) n) cs
@@ -57,14 +57,14 @@ Good k = (sound final_tables k ≡ true) × (tags_known k ≡ true)
 abbrev pub GoodRow : Row → Type 0
 GoodRow w = (row_sound final_tables w ≡ true) × (row_known w ≡ true)
 
--- of a value nothing counts that is dropped
+-- the dropped members of a value do not count: without them it is alike under each such kind
 abbrev pub Ignores : Tree → Type 0
 Ignores t = (k : Kind) → Good k → Alike k t (without (dropped_places k t) t)
 
 abbrev pub ValuesIgnore : List (Entry Tree) → Type 0
 ValuesIgnore es = Each (λ (e : Entry Tree). Ignores e.value) es
 
--- nothing is dropped at all
+-- if nothing is dropped from a value, it is alike without its dropped members
 pub unchanged : (k : Kind) (t : Tree) → dropped_in k t ≡ [] → Alike k t (without (dropped_places k t) t)
 unchanged k t h =
     let e : without (dropped_places k t) t ≡ t = ap (λ l. without (places l) t) h ∙ without_none t in
@@ -77,12 +77,12 @@ unchanged k t h =
 
 -- ---- rows of an object
 
--- of a row of two names the first member that it takes has the name
+-- the first member that a row of two names takes has the name; always true for other rows
 abbrev pub FirstOf : List (Entry Tree) → Row → List ℕ → Type 0
 FirstOf es (either a j b k) n = is_first (own (either a j b k) es) n ≡ true
 FirstOf es w n = Unit {0}
 
--- what a row reads is not dropped
+-- there is no reason to drop what a row reads
 abbrev pub NotLost : (List ℕ → Option DropReason) → List (Entry Tree) → Row → Type 0
 NotLost g es w = (n : List ℕ) → takes w n ≡ true → FirstOf es w n → g n ≡ None
 
@@ -248,7 +248,7 @@ module _ (k : Kind) (ws : List Row) (g : List (Entry Tree) → List ℕ → Opti
         (stays_named (g es) es gone (places (dropping (asks_rows (askeds final_tables es) ws))) gone_is))))
         ∙ none_asked gone es ws object_fine
 
--- what is left of the members of an object, as an object
+-- an object is alike without its dropped members if the object of its members as a list is
 pub as_object : (k : Kind) (ms : Members)
     → Alike k (object (members_of (members_list ms)))
     (object (members_of (left (dropped_places k (object (members_of (members_list ms)))) (members_list ms))))

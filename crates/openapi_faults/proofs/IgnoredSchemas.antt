@@ -1,4 +1,4 @@
--- What is dropped counts for nothing: schemas.
+-- Dropped members do not count: schemas.
 use Rattle.std.proofs.Common.{◌≡◌, ℕ, Bool, true, false, ◌||◌, List, [], ◌∷◌, Option}
 use Rattle.std.proofs.Common.{refl, sym, ap, ◌∙◌, subst, codes}
 use Rattle.openapi_node.specs.Place.{Place, named}
@@ -64,7 +64,7 @@ taken_optional (either a j b k ∷ ws) n = ap (λ c. takes (either a j b k) n ||
 taken_optional (class c k ∷ ws) n = ap (λ b. takes (class c k) n || b) (taken_optional ws n)
 taken_optional (constant a u ∷ ws) n = ap (λ b. takes (constant a u) n || b) (taken_optional ws n)
 
--- all that a schema may have, or its kind alone
+-- rows followed by those of the kind names, each made optional
 abbrev pub open_rows : List Row → List Row
 open_rows pre = join pre (each made_optional any_rows)
 
@@ -82,7 +82,7 @@ module _ (ps : List Place) (es : List (Entry Tree)) where
   abbrev pub SameSlot : Row → Type 0
   SameSlot w = slot_in final_tables (left ps es) w ≡ slot_in final_tables es w
 
-  -- what an optional row of a name and a kind reads stays
+  -- what an optional row of a name and a kind reads stays and is alike
   abbrev pub NameFine : List ℕ → Kind → Type 0
   NameFine n k = Fine ps (row n optional k) (own (row n optional k) es)
 

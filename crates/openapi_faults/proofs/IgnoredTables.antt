@@ -1,4 +1,4 @@
--- What is dropped counts for nothing: objects by a table.
+-- Dropped members do not count: objects of a table.
 use Rattle.std.proofs.Common.{◌≡◌, ℕ, true, cond, List, [], ◌∷◌, Some, None}
 use Rattle.std.proofs.Common.{refl, sym, ap, ◌∙◌}
 use Rattle.std.proofs.lemmas.Bool.{and_parts}

@@ -1,4 +1,4 @@
--- What is dropped counts for nothing: objects with a tag.
+-- Dropped members do not count: objects with a tag.
 use Rattle.std.proofs.Common.{◌≡◌, ℕ, Bool, true, false, cond, ◌&&◌, ◌||◌, List, [], ◌∷◌, Option, Some, None}
 use Rattle.std.proofs.Common.{refl, sym, ap, ◌∙◌, subst}
 use Rattle.std.proofs.lemmas.Bool.{and_parts}
@@ -88,7 +88,7 @@ module _ (n : List ℕ) (cs : List Case) (o : Good (tagged n cs)) where
       ∙ ap (λ l. dropping (asks_tag final_tables n cs (askeds final_tables es) (tag_choice cs (held n l)))) (seen_members (root_asks final_tables) es)
 
   module _ (es : List (Entry Tree)) (d : Differ es) (v : ValuesIgnore es) where
-    -- without a tag that is known nothing is dropped
+    -- if the tag selects no table, nothing is dropped
     pub untagged : tag_choice cs (held n es) ≡ None → dropped_in (tagged n cs) (object (members_of es)) ≡ []
     untagged h = tag_drops es ∙ ap (λ c. dropping (asks_tag final_tables n cs (askeds final_tables es) c)) h
 

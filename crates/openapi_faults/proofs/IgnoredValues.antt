@@ -1,4 +1,4 @@
--- What is dropped counts for nothing: maps and lists.
+-- Dropped members do not count: maps and lists.
 use Rattle.std.proofs.Common.{◌≡◌, ℕ, suc, Bool, true, ◌&&◌, List, [], ◌∷◌, None}
 use Rattle.std.proofs.Common.{refl, sym, ap, ◌∙◌, subst}
 use Rattle.openapi_node.specs.Place.{Place, indexed}
@@ -31,7 +31,7 @@ use Rattle.openapi_faults.proofs.Picked.{ItemsAt, dropping, items_picked, member
 use Rattle.openapi_faults.proofs.Trimmed.{Alike, Stays, all_fine, below_none, none_below, pairs_fine}
 use Rattle.openapi_faults.proofs.IgnoredRows.{Good, Ignores, ValuesIgnore, all_stay}
 
--- ---- nothing is dropped of an object itself
+-- ---- objects none of whose own members is dropped
 
 pub no_reason : (es : List (Entry Tree)) → lost [] (λ n. None) es ≡ []
 no_reason es = none_lost [] (λ n. None) es (each_all (λ e. refl) es)
@@ -72,7 +72,7 @@ module _ (k : Kind) (o : Good k) (es : List (Entry Tree)) (d : Differ es) (v : V
 -- ---- lists
 
 module _ (k : Kind) (o : Good k) where
-  -- an item is read alike without what is dropped below its index
+  -- an item is alike without the members dropped below its index
   pub item_alike : (ps : List Place) (i : ℕ) (t : Tree) → Ignores t → inside (indexed i) ps ≡ dropped_places k t
       → Alike k t (without (inside (indexed i) ps) t)
   item_alike ps i t v h = subst (λ l. Alike k t (without l t)) (sym h) (v k o)

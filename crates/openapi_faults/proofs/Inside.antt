@@ -1,4 +1,4 @@
--- What is asked of a tree: its kind, and then what is asked inside, by its kind.
+-- What is required of a node: its kind, and then what its kind requires inside.
 use Rattle.std.proofs.Common.{◌≡◌, ℕ, suc, Bool, true, false, cond, List, [], ◌∷◌, Option, None, Some, ◌≤◌, refl, sym, ap, ◌∙◌, map, arith}
 use Rattle.openapi_map.specs.Entries.{Entries}
 use Rattle.openapi_node.specs.Place.{indexed, named}
@@ -22,7 +22,7 @@ use Rattle.openapi_faults.specs.Walk.{asked_entries, asked_inside, asked_items, 
 use Rattle.openapi_faults.specs.Walk.{accesses, accesses_inside, asked_row, reference_text, rows_as}
 use Rattle.openapi_faults.specs.declared.row.Row as declared
 
--- the first that is asked is the kind of the tree itself
+-- what is required first is the kind of the node itself
 root_first : (s : Shape Asks) (k : Kind) → root_asks final_tables s k ≡ here k s ∷ behind_first (root_asks final_tables s k)
 root_first s (ref_to k) = refl
 root_first (a_list xs) (list_of k) = refl
@@ -106,7 +106,7 @@ inside_reference (ref_to k) (object ms) s h =
     ap (λ r. unless_reference r (asked final_tables k (object ms))) (reference_of (root_asks final_tables) ms ∙ h)
 inside_reference k t s h = cc
 
--- no look for a reference is taken inside
+-- inside, the node access for `$ref` is not counted again
 pub accesses-le : (k : Kind) → accesses_inside k ≤ accesses k
 accesses-le (ref_to k) = omega arith
 accesses-le k = omega arith
@@ -115,7 +115,7 @@ pub inside_flag_or_schema : (ms : Members)
     → asked_inside flag_or_schema (object ms) ≡ asked final_tables (ref_to a_schema) (object ms)
 inside_flag_or_schema ms = refl
 
--- ---- kinds of which nothing is asked inside, and values that no kind fits
+-- ---- kinds that require nothing inside, and values that fit no kind
 
 pub inside_leaf : (k : Kind) (t : Tree) → is_leaf k → asked_inside k t ≡ []
 inside_leaf (list_of k) t h = absurd h
@@ -144,7 +144,7 @@ text_choice : (cs : List Case) (t : Tree) (s : List ℕ) → text_in t ≡ Some 
 text_choice cs (text r) s h = let same : r ≡ s = cc in ap (λ x. cond (is_case cs x) (Some (tag x)) None) same
 text_choice cs t s h = cc
 
--- what is asked of an object whose tag a name has
+-- what is required inside an object with a tag of a given name
 module _ (n : List ℕ) (cs : List Case) (ms : Members) where
   abbrev tag_row : Row
   tag_row = row n required (one_of (words cs))
@@ -157,14 +157,14 @@ module _ (n : List ℕ) (cs : List Case) (ms : Members) where
   inside_tagged =
       ap (λ l. join (asked_row tag_row ms) (by_tag (tag_choice cs (held n l)))) (trees_of-members (root_asks final_tables) ms)
 
-  -- it has none
+  -- nothing, if the tag is missing
   pub inside_untagged : find n ms ≡ None → asked_inside (tagged n cs) (object ms) ≡ []
   inside_untagged none =
       inside_tagged ∙ ap (λ l. join l (by_tag (tag_choice cs (held n (members_list ms))))) (row_missing n required (one_of (words cs)) ms none)
       ∙ ap (λ t. by_tag (tag_choice cs t)) (held_missing n ms none)
 
   module _ (t : Tree) (there : find n ms ≡ Some t) where
-    -- what is asked of the tag
+    -- what is required of the tag
     abbrev pub asked_tag : List Asking
     asked_tag = below (named n) (asking [] (one_of (words cs)) t ∷ [])
 
@@ -177,7 +177,7 @@ module _ (n : List ℕ) (cs : List Case) (ms : Members) where
     inside_there =
         inside_tagged ∙ (λ i. join (tag_asked i) (by_tag (tag_choice cs (held_found n ms t there i))))
 
-    -- it is no text
+    -- only this, if the tag is no text
     pub inside_no_text : text_in t ≡ None → asked_inside (tagged n cs) (object ms) ≡ asked_tag
     inside_no_text h = inside_there ∙ ap (λ c. join asked_tag (by_tag c)) (no_choice cs t h)
 
@@ -188,11 +188,11 @@ module _ (n : List ℕ) (cs : List Case) (ms : Members) where
           inside_there
           ∙ ap (λ c. join asked_tag (by_tag c)) (text_choice cs t s is ∙ ap (λ c. cond c (Some (tag s)) None) h)
 
-      -- it is no text of the tag
+      -- only this, if the text of the tag selects no table
       pub inside_unknown : is_case cs s ≡ false → asked_inside (tagged n cs) (object ms) ≡ asked_tag
       inside_unknown h = inside_text false h
 
-      -- it is one
+      -- this and what the table requires, if it selects one
       pub inside_known : is_case cs s ≡ true
           → asked_inside (tagged n cs) (object ms) ≡ join asked_tag (asked final_tables (by (tag_table cs s)) (object ms))
       inside_known h = inside_text true h

@@ -1,4 +1,4 @@
--- What is asked of items, entries and rows one after another, and how many values they hold.
+-- What is required of items, entries and rows one after another, and how many values they hold.
 use Rattle.std.proofs.Common.{◌≡◌, ℕ, suc, ◌+◌, Bool, true, false, cond, List, [], ◌∷◌, ◌++◌, Some, refl, sym, ap, ◌∙◌}
 use Rattle.std.proofs.Common.{arith, drop, get_or, length, map, slice_get, take, None, ◌<◌, ◌≤◌}
 use Rattle.std.proofs.lemmas.List.{take-append-drop, take_more}
@@ -14,7 +14,7 @@ use Rattle.openapi_faults.specs.Meaning.{row_of}
 use Rattle.openapi_faults.specs.Walk.{rows_as}
 use Rattle.openapi_faults.specs.declared.row.Row as declared
 
--- a list as far as an element, and with it
+-- the elements up to and including one are those before it, and that one
 pub next_at : {A : Type 0} → (xs : List A) (i : ℕ) (x : A) → i < length xs → x ≡ get_or xs i x
     → take (i + 1) xs ≡ take i xs ++ (x ∷ [])
 next_at xs i x h e = take_more xs i x h ∙ ap (λ y. take i xs ++ (y ∷ [])) (sym e)
@@ -45,7 +45,7 @@ module _ (k : Kind) (ts : List Tree) (i : ℕ) (t : Tree) (next : take (i + 1) t
 -- ---- entries
 
 module _ (p : List ℕ → Bool) where
-  -- what is asked of one entry
+  -- what is required of one entry
   abbrev pub asked_entry : Kind → List ℕ → Tree → List Asking
   asked_entry k n t = cond (p n) (asked_below (named n) k t) []
 
@@ -129,7 +129,7 @@ module _ (ms : Members) where
           ∙ rows_weight-append (map g (take (i + 1) xs)) (map g (drop (i + 1) xs)) in
           omega (arith, split, next_row-weight)
 
--- the next of the rows of the code, where they may be open
+-- what the next declared row adds to what is required, and to the number of values; `b` is whether rows are made optional
 pub record NextRow (ms : Members) (b : Bool) (rs : List declared.Row) (i : ℕ) (w : Row) : Type 0 where
   pub asked : asked_rows (rows_as b (take (i + 1) rs)) ms ≡ join (asked_rows (rows_as b (take i rs)) ms) (asked_row w ms)
   pub weight : rows_weight (rows_as b (take (i + 1) rs)) ms ≡ rows_weight (rows_as b (take i rs)) ms + row_weight w ms

@@ -28,7 +28,7 @@ pub inside_none : (s : Step) (ps : List Place) → Each (λ p. behind_step s p �
 inside_none s [] h = refl
 inside_none s (p ∷ ps) h = ap (λ l. join l (inside s ps)) h.0 ∙ inside_none s ps h.1
 
--- three tests in a row are the same, whichever two are taken first
+-- `||` is associative
 pub or_group : (a b c : Bool) → (a || (b || c)) ≡ ((a || b) || c)
 or_group true b c = refl
 or_group false b c = refl
@@ -84,11 +84,11 @@ text_same ps (text s) = refl
 abbrev pub stays : List Place → Entry Tree → Bool
 stays ps e = not (has_root (inside (named e.name) ps))
 
--- a member that stays, as it is then
+-- a member without the members at some locations inside its value
 abbrev pub trimmed : List Place → Entry Tree → Entry Tree
 trimmed ps e = record { name = e.name; value = without (inside (named e.name) ps) e.value }
 
--- what is left of members
+-- the members that stay, each without the members at these locations
 abbrev pub left : List Place → List (Entry Tree) → List (Entry Tree)
 left ps es = each (trimmed ps) (only (stays ps) es)
 
@@ -125,7 +125,7 @@ only_only p q (x ∷ xs) =
     ∙ two_conds (q x) (p x) x (only q (only p xs))
     ∙ sym (only_cond q (p x) x (only p xs))
 
--- what a row takes of what is left is what is left of what it takes
+-- a row takes from the members that are left what is left of those that it takes
 pub own_left : (ps : List Place) (w : Row) (es : List (Entry Tree)) → own w (left ps es) ≡ left ps (own w es)
 own_left ps w es =
     only-each (λ (e : Entry Tree). takes w e.name) (trimmed ps) (only (stays ps) es)

@@ -1,4 +1,4 @@
--- Induction on trees whose objects name no member twice.
+-- Induction on nodes whose objects name no member twice.
 use Rattle.std.proofs.Common.{◌≡◌, true, List, [], ◌∷◌, sym, subst}
 use Rattle.openapi_node.specs.Named.{well_named}
 use Rattle.openapi_node.specs.Tree.{Tree, list, object}
@@ -16,7 +16,7 @@ each_then : {X : Type 0} → (P Q : X → Type 0) (xs : List X) → Each P xs �
 each_then P Q [] h f = tt
 each_then P Q (x ∷ xs) h f = (f.0 h.0, each_then P Q xs h.1 f.1)
 
--- what follows for a tree from the same of the trees directly inside it holds of every tree
+-- if a claim follows for a node from the same claim for the nodes directly inside it, it holds for every node
 pub by_named_trees : (P : Tree → Type 0) → ((t : Tree) → Inside P t → NamesDiffer t → P t) → (t : Tree)
     → well_named t ≡ true → P t
 by_named_trees P f t = by_trees (λ u. well_named u ≡ true → P u) step t

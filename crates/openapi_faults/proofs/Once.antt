@@ -76,7 +76,7 @@ rows_distinct f P gives clash (w ∷ ws) a d =
 
 -- ---- the causes of one value
 
--- a row can miss only what it names
+-- the cause for a missing member names it as the row does
 abbrev MissedBy : Row → Cause → Type 0
 MissedBy (row n m k) (missing a) = a ≡ n
 MissedBy (either a j b k) (missing_either c d) = c ≡ a
@@ -126,7 +126,7 @@ tag_few : (n : List ℕ) (l : List (Entry Tree)) → AreFew (tag_misses n l)
 tag_few n [] = tt
 tag_few n (e ∷ l) = tt
 
--- ---- what is reported of all that is asked
+-- ---- what is reported for all that is required
 
 abbrev tail : Place → Place
 tail [] = []
@@ -176,7 +176,7 @@ module _ (T : Tables) (W : tables_sound T ≡ true) where
 
   -- ---- that it is reported once
 
-  -- of a value nothing is reported twice, whatever is asked of it
+  -- nothing is reported twice for a value, under any well-made kind
   abbrev OnceOf : Tree → Type 0
   OnceOf t = (k : Kind) → sound T k ≡ true → AreDistinct (tell (asked T k t))
 
@@ -253,7 +253,7 @@ module _ (T : Tables) (W : tables_sound T ≡ true) where
   root_place cs x m h =
       let r = from_each (λ (c : Cause). ([], c)) x cs m in subst (λ (z : Place × Cause). Begins AnyStep z.0) r.2 h
 
-  -- a value itself, and then what is inside
+  -- nothing is reported twice for a value itself and what is inside
   here_once : (k : Kind) (s : Shape Asks) (as' : List Asking) → AreDistinct (tell as')
       → ((x : Place × Cause) → Among x (tell as') → Begins AnyStep x.0) → AreDistinct (tell (here k s ∷ as'))
   here_once k s as' d f =
@@ -273,7 +273,7 @@ module _ (T : Tables) (W : tables_sound T ≡ true) where
     table_once i =
         let p = and_parts (rows_apart (T i)) (every (row_sound T) (T i)) (table_sound T W i) in object_once (by i) (T i) p.0 p.1
 
-    -- the table that a tag names, and the tag
+    -- the table that a tag selects, and the tag
     module _ (n : List ℕ) (cs : List Case) (A : List (Place × Cause)) (a : AreDistinct A)
         (tags : (x : Place × Cause) → Among x A → Begins (TakenStep (constant n [])) x.0) where
       abbrev tag_told : Tree → List (Place × Cause)
@@ -423,7 +423,7 @@ module _ (T : Tables) (W : tables_sound T ≡ true) where
     once k null g d s = here_once k (seen_root (root_asks T) null) [] tt (λ x m. absurd m)
     once k t g d s = here_once k (seen_root (root_asks T) t) [] tt (λ x m. absurd m)
 
--- ---- the tables as they are
+-- ---- the final tables
 
 schema_apart : rows_apart (schema_rows final_tables) ≡ true
 unfolding final_tables tables_with any_rows

@@ -1,4 +1,4 @@
--- What is dropped below one member of an object: what the row drops that takes it.
+-- What is dropped below one member of an object is what the row that takes it drops.
 use Rattle.std.proofs.Common.{◌≡◌, ◌≤◌, ℕ, suc, Bool, true, false, cond, ◌&&◌, ◌==◌, List, [], ◌∷◌, refl, sym, ap, ◌∙◌, subst, inl, inr, arith, eqb-true}
 use Rattle.std.proofs.lemmas.Bool.{and_parts, both_ways}
 use Rattle.openapi_node.specs.Place.{Place, Step, named, indexed}
@@ -32,7 +32,7 @@ dropping as' = gather dropped_at as'
 abbrev pub under : Step → List Asking → List Place
 under s as' = inside s (places (dropping as'))
 
--- what holds of all that is among a list holds of each element
+-- what holds for all that is among a list holds for each element
 each_among : {A : Type 0} → (P : A → Type 0) (l : List A) → ((x : A) → Among x l → P x) → Each P l
 each_among P [] h = tt
 each_among P (x ∷ l) h = (h x (inl refl), each_among P l (λ y m. h y (inr m)))
@@ -45,7 +45,7 @@ each_place P (x ∷ l) h = (h.0, each_place P l h.1)
 abbrev Apart : Step → Step → Type 0
 Apart s r = same_step s r ≡ false
 
--- what begins with other steps
+-- a location that begins with other steps is not below the step
 not_behind : (s : Step) (S : Step → Type 0) → ((r : Step) → S r → Apart s r) → (p : Place) → Begins S p → behind_step s p ≡ []
 not_behind s S f [] h = refl
 not_behind s S f (r ∷ p) h = ap (λ b. cond b (p ∷ []) []) (f r h)
@@ -86,7 +86,7 @@ same_text-sym m n h =
     not_both (same_text n m)
     (λ q. both_ways (same_text m n) h (subst (λ x. same_text x n ≡ true) (same_text_eq n m q) (same_text-refl n)))
 
--- below the name of a member is dropped what is dropped of its value
+-- what is dropped below the name of a member is what is dropped from its value
 abbrev pub At : List Asking → Kind → Entry Tree → Type 0
 At as' k e = under (named e.name) as' ≡ dropped_places k e.value
 
@@ -123,7 +123,7 @@ members_picked k (e ∷ es) d = (here, each_under later es (zip es d.0 (members_
 
 -- ---- rows
 
--- what a row asks of the members that it takes, below their names
+-- what is dropped below the names of the members that a row takes is what is dropped from the values that it reads
 abbrev pub Picked : List Asking → Row → List (Entry Tree) → Type 0
 Picked as' (row n m k) [] = Unit {0}
 Picked as' (row n m k) (e ∷ l) = under (named e.name) as' ≡ cond (skips_null m && is_null e.value) [] (dropped_places k e.value)
@@ -145,7 +145,7 @@ own_picked (either a j b k) (e ∷ l) d = under_below (named e.name) (asked fina
 own_picked (class c k) l d = members_picked k l d
 own_picked (constant n v) l d = tt
 
--- two lists of what is asked drop the same below all names that a row takes
+-- below all names that a row takes, two lists drop the same
 abbrev SameUnder : List Asking → List Asking → Row → Type 0
 SameUnder as' bs w = (n : List ℕ) → takes w n ≡ true → under (named n) as' ≡ under (named n) bs
 
@@ -197,7 +197,7 @@ module _ (es : List (Entry Tree)) where
         others vs h.1 g.1,
       )
 
-  -- what drops the same below the names that a row takes
+  -- if two lists drop the same below the names that a row takes, `Picked` holds for both
   lift : (as' bs : List Asking) (w : Row) (l : List (Entry Tree)) → TakesAll w l → SameUnder as' bs w → Picked bs w l → Picked as' w l
   lift as' bs (row n m k) [] t f h = tt
   lift as' bs (row n m k) (e ∷ l) t f h = f e.name t.0 ∙ h
@@ -212,7 +212,7 @@ module _ (es : List (Entry Tree)) where
       subst (λ l. Picked (asks_own w l) w (own w es)) (sym (own_judged (root_asks final_tables) w es))
       (own_picked w (own w es) (Differ-only (λ (e : Entry Tree). takes w e.name) es d))
 
-  -- of an object each row drops what it asks, each below its own names
+  -- `Picked` holds for each row of an object, if no name is taken by two rows
   pub rows_picked : Differ es → (ws : List Row) → rows_apart ws ≡ true
       → Each (λ w. Picked (asks_rows (askeds final_tables es) ws) w (own w es)) ws
   rows_picked d ws a =
@@ -222,7 +222,7 @@ module _ (es : List (Entry Tree)) where
 
 -- ---- items
 
--- below each index, counted from i, is dropped what is dropped of the item
+-- what is dropped below each index, counted from `i`, is what is dropped from the item
 abbrev pub ItemsAt : List Place → Kind → ℕ → Items → Type 0
 ItemsAt ps k i no_items = Unit {0}
 ItemsAt ps k i (item t ts) = (inside (indexed i) ps ≡ dropped_places k t) × ItemsAt ps k (suc i) ts

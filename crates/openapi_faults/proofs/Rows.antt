@@ -1,4 +1,4 @@
--- What a row asks among the members of an object, by the members that it takes.
+-- What a row requires of the members of an object, given those that it takes.
 use Rattle.std.proofs.Common.{◌≡◌, ℕ, ◌+◌, ◌≤◌, Bool, true, false, cond, ◌&&◌, List, [], ◌∷◌, Option, Some, None}
 use Rattle.std.proofs.Common.{slice_get, refl, sym, ap, ◌∙◌, subst, arith}
 use Rattle.openapi_map.specs.Entries.{Entries}
@@ -28,7 +28,7 @@ module _ (n : List ℕ) (m : Mode) (k : Kind) (ms : Members) where
       let f = root_asks final_tables in
       ap (asks_own (row n m k)) (own-members f (row n m k) ms ∙ ap (each (on_entry (see f))) (own-missing n m k ms h))
 
-  -- where null counts as missing
+  -- a row that skips null requires its kind of a member that is not null
   pub optional_asks : skips_null m ≡ true → asked_row (row n m k) ms ≡ asked_optional n k ms
   optional_asks h = go (find n ms) refl
     where
@@ -36,7 +36,7 @@ module _ (n : List ℕ) (m : Mode) (k : Kind) (ms : Members) where
       go None e = row_missing e
       go (Some t) e = row_found t e ∙ ap (λ b. cond (b && is_null t) [] (asked_below (named n) k t)) h
 
-  -- where null does not
+  -- any other row requires its kind of the member
   pub member_asks : skips_null m ≡ false → asked_row (row n m k) ms ≡ asked_member n k ms
   member_asks h = go (find n ms) refl
     where

@@ -1,4 +1,4 @@
--- What is asked inside a value that is shown, by the kind and by what is shown.
+-- What is required inside a value that a view shows, by the kind and by what is shown.
 use Rattle.std.proofs.Common.{◌≡◌, ◌↔◌, ℕ, ◌+◌, ◌≤◌, Bool, true, false, cond, IsTrue, is_some, List, [], ◌∷◌, Ok, Err, Result, OnOk, Option, None, Some, refl, sym, ap, ◌∙◌, map, arith}
 use Rattle.std.specs.Borrow.{Bor}
 use Rattle.std.specs.Option.{option_copied}
@@ -27,7 +27,7 @@ use Rattle.openapi_faults.proofs.Inside.{asked_here, inside_known, inside_no_tex
 use Rattle.openapi_faults.proofs.Inside.{inside_untagged}
 use Rattle.openapi_faults.proofs.Inside.{inside_item, inside_items, inside_members, inside_rows, inside_schema, inside_type, open_rows}
 
--- what holds where a call succeeds, by what does there
+-- what holds on success implies on success whatever follows from it
 pub on_ok : {X E A B : Type 0} → (r : Result X E) → (A → B) → OnOk r A → OnOk r B
 on_ok (Ok x) f h = f h
 on_ok (Err e) f h = tt
@@ -47,7 +47,7 @@ any_schema_rows : final_tables any_schema ≡ any_rows
 unfolding final_tables tables_with
 any_schema_rows = refl
 
--- rows of the names that tell the types of schemas apart, where each may be missing
+-- the rows that distinguish the types of schemas, each made optional
 optional_rows_are : (rs : List declared.Row) → map row_of rs ≡ final_tables any_schema
     → rows_as true rs ≡ each made_optional any_rows
 optional_rows_are rs h = open_rows rs ∙ ap (each made_optional) (h ∙ any_schema_rows)
@@ -60,7 +60,7 @@ schema_apart : rows_apart (join (final_tables schema_data) (each made_optional a
 unfolding final_tables tables_with any_rows
 schema_apart = refl
 
--- the rows of a schema neither
+-- nor do the rows of a schema
 pub schema_weight : (vs : List Row) (rs : List declared.Row) (ms : Members) → vs ≡ final_tables schema_data
     → map row_of rs ≡ final_tables any_schema
     → rows_weight vs ms + rows_weight (rows_as true rs) ms ≤ members_size ms

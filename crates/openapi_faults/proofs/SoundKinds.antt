@@ -13,7 +13,7 @@ use Rattle.openapi_faults.specs.Meaning.{kind_of, table_of}
 use Rattle.openapi_faults.specs.declared.kind.Kind.{Kind}
 use Rattle.openapi_faults.specs.declared.kind.Kind.TheVariants as k
 
--- no row of a table writes a reference where it read none
+-- no row of a table writes a string at `$ref` if it read none
 under : (i : TableName) → every keeps_ref (final_tables i) ≡ true
 unfolding final_tables tables_with string_rows object_rows array_rows boolean_rows any_rows
 under kind.open_api = refl

@@ -18,7 +18,7 @@ use Rattle.openapi_faults.specs.Told.{Gives, at, fault_in, given, known, own_cau
 use Rattle.openapi_faults.specs.declared.row.Row as declared_row
 use Rattle.openapi_faults.proofs.Adding.{adds_then, flat-push, join_append}
 
--- what is told of each value, as faults give it
+-- the causes of each value, as faults give them, are those of `told_at`
 pub known_each : (as' : List Asking)
     → flat (each (λ a. at a.place (causes final_tables a.kind a.tree)) as') ≡ each known (flat (each (told_at final_tables) as'))
 known_each [] = refl
@@ -29,7 +29,7 @@ known_each (a ∷ as') =
     ∙ ap (λ l. join (each known (told_at final_tables a)) l) (known_each as')
     ∙ sym (each-join known (told_at final_tables a) (flat (each (told_at final_tables) as')))
 
--- a value breaks something by itself, or rows miss something in it
+-- the causes of a value are those that it breaks by itself, and those for members that it lacks by rows
 pub own_and_rows : (k : Kind) (t : Tree) → causes final_tables k t ≡ join (own_causes k t) (row_causes k t)
 unfolding checked_rows
 own_and_rows (by i) (object ms) = refl
@@ -38,12 +38,12 @@ own_and_rows k t = sym (join-nil (causes final_tables k t))
 pub at-join : (p : Place) (cs ds : List Cause) → at p (join cs ds) ≡ at p cs ++ at p ds
 at-join p cs ds = each-join (λ (c : Cause). (p, Some c)) cs ds ∙ join_append (at p cs) (at p ds)
 
--- what an answer gives, at a location
+-- a declared cause, or none, gives the causes that it represents, at a location
 pub given_at : (p : Place) (o : Option declared.Cause) (cs : List Cause) → Gives o cs → given p o ≡ at p cs
 given_at p None cs h = ap (each (λ (c : Option Cause). (p, c))) h ∙ each-each (λ (c : Option Cause). (p, c)) Some cs
 given_at p (Some d) cs h = ap (each (λ (c : Option Cause). (p, c))) h ∙ each-each (λ (c : Option Cause). (p, c)) Some cs
 
--- a fault of a value itself, and then those of rows
+-- a fault of a value itself, and those of its rows after it
 module _ (p : Place) (k : Kind) (t : Tree) (xs ys zs : List Fault) (o : Option declared.Cause) (own : Gives o (own_causes k t))
     (first : Adds fault_in xs ys (given p o)) where
   both : Adds fault_in ys zs (at p (row_causes k t)) → Adds fault_in xs zs (at p (causes final_tables k t))
@@ -57,7 +57,7 @@ module _ (p : Place) (k : Kind) (t : Tree) (xs ys zs : List Fault) (o : Option d
   found_both (Ok x) h = both h
   found_both (Err e) h = tt
 
--- the faults of rows, and then that of the next row
+-- the faults of rows, and those of the next row after them
 module _ (es : List (Entry Tree)) (p : Place) (rows : List declared_row.Row) (i : ℕ) (d : declared_row.Row)
     (within : i < length rows) where
   abbrev so_far : ℕ → List Cause

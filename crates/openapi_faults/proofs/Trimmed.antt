@@ -1,4 +1,4 @@
--- Objects of which members were taken away: what their rows read, ask and miss.
+-- Objects without some of their members: what their rows read and require, and which causes they give.
 use Rattle.std.proofs.Common.{◌≡◌, ℕ, Bool, true, false, not, cond, ◌&&◌, ◌||◌, List, [], ◌∷◌, refl, sym, ap, ◌∙◌}
 use Rattle.std.proofs.lemmas.Bool.{and_parts}
 use Rattle.std.specs.List.{list_any}
@@ -26,18 +26,18 @@ use Rattle.openapi_faults.proofs.Gather.{gather, gather_below, gather_join, one_
 use Rattle.openapi_faults.proofs.DropPlaces.{drops_move}
 use Rattle.openapi_faults.proofs.Locations.{left, left_first, null_same, own_left, stays}
 
--- A tree without what is dropped is read as the tree itself, nothing more is dropped of it, and under a plain kind it is the tree.
+-- The value `u` is read as `t` is, none of its members is dropped, and under a plain kind it is `t`.
 pub record Alike (k : Kind) (t u : Tree) : Type 0 where
   pub read : form final_tables k u ≡ form final_tables k t
   pub verdict : conforms final_tables k u ≡ conforms final_tables k t
   pub rest : dropped_in k u ≡ []
   pub plain : is_plain k ≡ true → u ≡ t
 
--- a member stays, and is read alike
+-- a member stays, and its value is alike
 abbrev pub Stays : List Place → Kind → Entry Tree → Type 0
 Stays ps k e = (stays ps e ≡ true) × Alike k e.value (without (inside (named e.name) ps) e.value)
 
--- what a row reads of the members that it takes stays and is read alike
+-- what a row reads from the members that it takes stays and is alike
 abbrev pub Fine : List Place → Row → List (Entry Tree) → Type 0
 Fine ps (row n m k) [] = Unit {0}
 Fine ps (row n m k) (e ∷ l) = (stays ps e ≡ true)
@@ -59,7 +59,7 @@ or_same : (b c x y : Bool) → b ≡ c → (c ≡ false → x ≡ y) → (b || x
 or_same b true x y e f = ap (λ z. z || x) e
 or_same b false x y e f = ap (λ z. z || x) e ∙ f refl
 
--- nothing is dropped below a value of which nothing is dropped
+-- if nothing is dropped from a value, nothing is dropped from it one step below
 pub below_none : (s : Step) (k : Kind) (u : Tree) → dropped_in k u ≡ []
     → gather dropped_at (below s (asked final_tables k u)) ≡ []
 below_none s k u h = gather_below dropped_at drops_move s (asked final_tables k u) ∙ ap (each (one_below s)) h
@@ -93,7 +93,7 @@ module _ (ps : List Place) where
       ∙ sym (class_form-reads final_tables c k l)
   slot_fine (constant n v) l h = refl
 
-  -- ---- whether a row holds
+  -- ---- whether a row conforms
 
   pub all_fine : (k : Kind) (l : List (Entry Tree)) → Each (Stays ps k) l
       → every (λ e. e.value.answer k) (judged final_tables (left ps l)) ≡ every (λ e. e.value.answer k) (judged final_tables l)

@@ -1,4 +1,4 @@
--- Which kinds ask no whole number within limits.
+-- The kinds that do not require a whole number within limits.
 use Rattle.std.proofs.Common.{◌≡◌, false, refl}
 use Rattle.openapi_faults.specs.Limited.{is_limited}
 use Rattle.openapi_faults.specs.Meaning.{kind_of}

@@ -1,4 +1,4 @@
--- What was visited so far, and what ends a walk.
+-- What was visited so far, and the measure by which a walk ends.
 use Rattle.std.proofs.Common.{◌≡◌, ℕ, ◌+◌, ◌*◌, ◌≤◌, List, arith, subst, sym}
 use Rattle.openapi_tables.specs.Kind as kind
 use Rattle.openapi_tables.specs.Kind.{Kind}
@@ -11,15 +11,15 @@ use Rattle.openapi_faults.specs.declared.kind.Kind.TheVariants as k
 use Rattle.openapi_faults.specs.declared.walk.Walk.{Walk}
 use Rattle.openapi_faults.proofs.Folding.{visits_then}
 
--- for the same tree: a reference or an item above the item, a flag or a schema above the schema, and an object with a
--- tag above the object
+-- a measure for visits of one node: a reference or an item is above the item, a flag or a schema above the schema, and an
+-- object with a tag above the object
 abbrev pub kind_rank : Kind → ℕ
 kind_rank kind.flag_or_schema = 6
 kind_rank (kind.ref_to k) = kind_rank k + 3
 kind_rank (kind.tagged n cs) = 5
 kind_rank k = 1
 
--- the kinds of the code have small ranks
+-- declared kinds have small ranks
 pub rank-le : (k : declared.Kind) → kind_rank (kind_of k) ≤ 8
 rank-le k.Text = omega arith
 rank-le k.Flag = omega arith
@@ -69,16 +69,16 @@ rank-le k.SchemaKind = omega arith
 rank-le k.SchemaType = omega arith
 rank-le k.StatusCode = omega arith
 
--- a value is accessed less often than its kind has ranks
+-- the rank of a kind is greater than three times its access count
 accesses-rank : (k : Kind) → 3 * accesses k + 1 ≤ kind_rank k
 accesses-rank (kind.ref_to k) = omega (arith, accesses-rank k)
 accesses-rank k = omega arith
 
--- a value is accessed at most twice beside the first time
+-- a value is accessed at most twice in addition to the first access
 pub accesses-few : (k : declared.Kind) → accesses (kind_of k) ≤ 2
 accesses-few k = omega (arith, accesses-rank (kind_of k), rank-le k)
 
--- this was visited, at most three times as many values accessed as it holds
+-- a list was visited, with at most three node accesses for each of `n` values
 pub record SoFar {V : Type 0} (R : V → Asking → V → Type 0) (as' : List Asking) (n : ℕ) (old new : Walk V)
     (before after : ℕ) : Type 0 where
   pub visits : Visits R as' old new
@@ -97,7 +97,7 @@ module _ {V : Type 0} (R : V → Asking → V → Type 0) where
         count = omega (arith, h.rises, h.count, c, f);
       }
 
-  -- the same is visited by other words
+  -- the same for an equal list and an equal number
   pub so_far_as : (as' bs : List Asking) (n m : ℕ) (old new : Walk V) (before after : ℕ) → bs ≡ as' → m ≡ n
       → SoFar R as' n old new before after → SoFar R bs m old new before after
   so_far_as as' bs n m old new before after e f h =

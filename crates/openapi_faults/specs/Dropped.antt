@@ -16,7 +16,7 @@ use Rattle.openapi_faults.specs.declared.dropped.DropReason.{DropReason}
 use Rattle.openapi_faults.specs.declared.dropped.DropReason.TheVariants.{UnknownMember, SecondOfTwo, BesideReference}
 use Rattle.openapi_faults.specs.declared.dropped.Dropped.{Dropped}
 
--- the name of the tag by whose text a table is found
+-- the name of the tag whose text selects a table, if a tag selects it
 abbrev pub tag_of_table : TableName → Option (List ℕ)
 tag_of_table kind.query_parameter = Some (codes "in")
 tag_of_table kind.header_parameter = Some (codes "in")
@@ -34,43 +34,44 @@ tag_of_table kind.array_type = Some (codes "type")
 tag_of_table kind.boolean_type = Some (codes "type")
 tag_of_table i = None
 
--- whether a name is that of a tag, if there is one
+-- whether a name is that of the tag; false if there is no tag
 abbrev pub is_tag : Option (List ℕ) → List ℕ → Bool
 is_tag None n = false
 is_tag (Some m) n = same_text m n
 
--- whether a row of a list takes the members of a name
+-- whether one of the rows takes the member of a name
 abbrev pub is_taken : List Row → List ℕ → Bool
 is_taken ws n = list_any (λ w. takes w n) ws
 
--- whether the first of some members has a name
+-- whether the first of some members has a name; false if there are none
 abbrev pub is_first : List (Entry Tree) → List ℕ → Bool
 is_first [] n = false
 is_first (e ∷ es) n = same_text e.name n
 
--- whether a row takes one of two names, and the first member that it takes has the other one
+-- whether a row of two names takes the name `n`, and the first member that the row takes is not named `n` (or it takes none)
 abbrev pub takes_second : List (Entry Tree) → List ℕ → Row → Bool
 takes_second es n (either a j b k) = takes (either a j b k) n && not (is_first (own (either a j b k) es) n)
 takes_second es n w = false
 
--- why an object by a table drops the member of a name, if it does
+-- why reading an object by a table drops the member of a name, if it does
 abbrev pub why_lost : TableName → List (Entry Tree) → List ℕ → Option DropReason
 why_lost i es n =
     cond (is_taken (final_tables i) n)
     (cond (list_any (takes_second es n) (final_tables i)) (Some SecondOfTwo) None)
     (cond (is_tag (tag_of_table i) n) None (Some UnknownMember))
 
--- why a name is unknown, unless it is taken
+-- the reason to drop a member: its name is unknown, unless a row takes it
 abbrev pub unless_taken : Bool → Option DropReason
 unless_taken b = cond b None (Some UnknownMember)
 
--- why what is beside `$ref` is dropped, if there is a reference
+-- why a member of an object is dropped, if the object is a reference: it is beside `$ref`, and not `$ref` itself
 abbrev pub why_beside : Option (List ℕ) → List ℕ → Option DropReason
 why_beside None n = None
 why_beside (Some s) n = cond (same_text (codes "$ref") n) None (Some BesideReference)
 
--- why a kind drops the member of a name of an object, if it does: by its table, by what every schema may have and the
--- names that tell the types of schemas apart, or beside a reference
+-- why reading an object as a kind drops the member of a name, if it does. The reason depends on the table of the kind. For a
+-- schema it depends on the rows for all schemas, if the kind has them, and on those that distinguish the types of schemas. A
+-- reference drops the members beside `$ref`
 abbrev pub why_dropped : Kind → Members → List ℕ → Option DropReason
 why_dropped (kind.by i) ms n = why_lost i (members_list ms) n
 why_dropped kind.a_schema ms n =
@@ -79,12 +80,12 @@ why_dropped kind.a_schema_kind ms n = unless_taken (is_taken (final_tables kind.
 why_dropped (kind.ref_to k) ms n = why_beside (reference_text (kind.ref_to k) (object ms)) n
 why_dropped k ms n = None
 
--- a member at its location, if there is a reason to drop it
+-- the location of a member and the reason to drop it, if there is one
 abbrev pub dropped_if : Place → Option DropReason → List (Place × DropReason)
 dropped_if p None = []
 dropped_if p (Some r) = (p, r) ∷ []
 
--- what is dropped of an object, in the order of its members
+-- the members that reading an object as a kind drops, each at its location and with the reason, in the order of the object
 abbrev pub drops : Place → Kind → Tree → List (Place × DropReason)
 drops p k (object ms) =
     flat (each (λ e. dropped_if (p ++ (named e.name ∷ [])) (why_dropped k ms e.name)) (members_list ms))
@@ -93,10 +94,10 @@ drops p k t = []
 abbrev pub dropped_at : Asking → List (Place × DropReason)
 dropped_at a = drops a.place a.kind a.tree
 
--- all that is dropped, in the order of what is asked
+-- all members that reading a value as a kind drops, in the order of `asked`
 abbrev pub dropped_in : Kind → Tree → List (Place × DropReason)
 dropped_in k t = flat (each dropped_at (asked final_tables k t))
 
--- what a reported member says
+-- the location and the reason that a `Dropped` contains
 abbrev pub dropped_of : Dropped → Place × DropReason
 dropped_of d = (map step_of d.place.items, d.why)

@@ -1,4 +1,4 @@
--- The laws that the functions of `laws` carry.
+-- The laws that the functions of `laws` state.
 use Rattle.std.specs.Prelude.{◌≡◌, ◌↔◌, ◌⊎◌, ℕ, true, List, [], ◌∷◌, Some}
 use Rattle.openapi_node.specs.Named.{well_named}
 use Rattle.openapi_node.specs.Place.{Place}
@@ -21,47 +21,48 @@ use Rattle.openapi_faults.specs.Without.{without}
 use Rattle.openapi_faults.specs.declared.kind.Kind as declared
 use Rattle.openapi_faults.specs.declared.tag.Tag.{Tag}
 
--- nothing is wrong with exactly the trees that conform
+-- a JSON value has no fault if and only if it conforms to its kind
 abbrev pub NothingWrong : Type 0
 NothingWrong = (k : declared.Kind) (t : Tree)
     → (told final_tables (kind_of k) t ≡ []) ↔ (conforms final_tables (kind_of k) t ≡ true)
 
--- what is told is exactly what is broken, each at its location
+-- `told` contains exactly the causes that are broken, each with the location of the value that breaks it
 abbrev pub AllTold : Type 0
 AllTold = (k : Kind) (t : Tree) (p : Place) (c : Cause)
     → Broken final_tables k t p c ↔ Among (p, c) (told final_tables k t)
 
--- no element of a list comes again
+-- no element of a list occurs twice
 abbrev pub AreDistinct : {A : Type 0} → List A → Type 0
 AreDistinct [] = Unit {0}
 AreDistinct (x ∷ xs) = (Among x xs → ⊥) × AreDistinct xs
 
--- no cause is told twice of one location; the objects of a tree name no member twice, as those of a `Node`
+-- `told` contains no cause twice for one location, if, as in a `Node`, no object in the value has two members of one name
 abbrev pub ToldOnce : Type 0
 ToldOnce = (k : declared.Kind) (t : Tree) → well_named t ≡ true → AreDistinct (told final_tables (kind_of k) t)
 
--- a refusal of a reader is one of the faults, unless memory ran out
+-- the error of a reader is one of the faults in `told`, unless an allocation failed
 abbrev pub RefusalTold : Type 0
 RefusalTold = (f : Fault) (k : Kind) (t : Tree) → Fails f k t
     → (f.cause ≡ Memory) ⊎ Among (fault_in f) (each known (told final_tables k t))
 
--- the locations of what is dropped
+-- the locations of the members that are dropped
 abbrev pub dropped_places : Kind → Tree → List Place
 dropped_places k t = each (λ d. d.0) (dropped_in k t)
 
--- Without the members that are dropped a value is read alike: as the same form, or it conforms as little as with them. Then
--- nothing more is dropped.
+-- The value `u` is read as `t` is: both have the same form, and `u` conforms if and only if `t` does. No member of `u` is
+-- dropped. Where this is stated, `u` is `t` without the members that are dropped.
 pub record CountsForNothing (k : Kind) (t u : Tree) : Type 0 where
   pub read : form final_tables k u ≡ form final_tables k t
   pub verdict : conforms final_tables k u ≡ conforms final_tables k t
   pub rest : dropped_in k u ≡ []
 
--- the objects of a tree name no member twice, as those of a `Node`
+-- a value without its dropped members is read as before, and nothing more is dropped. It is required that no object in the
+-- value has two members of one name, as in a `Node`
 abbrev pub DroppedIgnored : Type 0
 DroppedIgnored = (k : declared.Kind) (t : Tree) → well_named t ≡ true
     → CountsForNothing (kind_of k) t (without (dropped_places (kind_of k) t) t)
 
--- the name of the tag by whose text a table is found is that of a tag one of whose cases has the table
+-- `tag_of_table` gives a name for a table if and only if it is the name of a tag with a case for that table
 abbrev pub TagsOfTables : Type 0
 TagsOfTables = (i : TableName) (n : List ℕ)
     → (tag_of_table i ≡ Some n) ↔ ((g : Tag) × (n ≡ tag_name g) × Among i (each (λ c. c.table) (cases_of g)))

@@ -1,4 +1,4 @@
--- What the kinds, the rows and the tables of the code mean.
+-- What the kinds, the rows, the tables and the tags of the code represent in the definitions.
 use Rattle.std.specs.Prelude.{◌≡◌, ℕ, true, List, [], ◌∷◌, codes}
 use Rattle.openapi_tables.specs.Kind as kind
 use Rattle.openapi_tables.specs.Kind.{ref_to, list_of, map_of, null_or, one_of, format}
@@ -22,7 +22,7 @@ use Rattle.openapi_faults.specs.declared.row.Row.TheVariants as r
 use Rattle.openapi_faults.specs.declared.table.TableName.{TableName}
 use Rattle.openapi_faults.specs.declared.table.TableName.TheVariants as t
 
--- the table of a name
+-- the name of a table
 abbrev pub table_of : TableName → kind.TableName
 table_of t.OpenAPI = kind.open_api
 table_of t.Info = kind.info
@@ -82,7 +82,7 @@ limits_of l.Unlimited = kind.unlimited
 limits_of l.Sizes = kind.sizes
 limits_of l.Signed = kind.signed
 
--- a text of a tag, with the table that it stands for
+-- a text of a tag, with the table that it selects
 abbrev pub case_of : Case → kind.Case
 case_of c = record { word = c.0.now; table = table_of c.1 }
 
@@ -92,7 +92,7 @@ tag_name g.Parameter = codes "in"
 tag_name g.SecurityScheme = codes "type"
 tag_name g.SchemaType = codes "type"
 
--- the cases of a kind with a tag
+-- the cases of a kind with a tag; none for other kinds
 abbrev pub cases_in : kind.Kind → List kind.Case
 cases_in (kind.tagged n cs) = cs
 cases_in _ = []
@@ -103,7 +103,7 @@ tagged_of g.Parameter = parameter
 tagged_of g.SecurityScheme = security_scheme
 tagged_of g.SchemaType = schema_type
 
--- the texts of a tag, each with the table that it stands for
+-- the texts of a tag, each with the table that it selects
 abbrev pub cases_of : Tag → List kind.Case
 cases_of g = cases_in (tagged_of g)
 
@@ -164,7 +164,7 @@ class_of c.CallbackNames = kind.callback_names
 class_of c.PathNames = kind.path_names
 class_of c.StatusNames = kind.status_names
 
--- the row of a table
+-- a row of a table
 abbrev pub row_of : Row → kind.Row
 row_of (r.Required n k) = kind.row n.now kind.required (kind_of k)
 row_of (r.Optional n k) = kind.row n.now kind.optional (kind_of k)
@@ -176,7 +176,7 @@ row_of (r.Format n k) = kind.row n.now kind.formatted (kind_of k)
 row_of (r.Either a j b k) = kind.either a.now (kind_of j) b.now (kind_of k)
 row_of (r.Names c k) = kind.class (class_of c) (kind_of k)
 
--- a kind of which nothing is asked inside
+-- a kind that requires nothing of the values inside a value
 abbrev pub is_leaf : kind.Kind → Type 0
 is_leaf (list_of k) = ⊥
 is_leaf (map_of k) = ⊥
@@ -188,7 +188,7 @@ is_leaf kind.a_schema = ⊥
 is_leaf kind.a_schema_kind = ⊥
 is_leaf _ = Unit {0}
 
--- what is asked inside a value of a kind
+-- what a kind requires inside a value
 abbrev pub inside_of : kind.Kind → Inside → Type 0
 inside_of k i.Nothing = is_leaf k
 inside_of k (i.Items j) = k ≡ list_of (kind_of j)

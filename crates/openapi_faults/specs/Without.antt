@@ -10,12 +10,12 @@ same_step (named a) (named b) = same_text a b
 same_step (indexed i) (indexed j) = i == j
 same_step s r = false
 
--- what of a location is behind a step, if it begins with that
+-- the rest of a location after its first step, if that is the given step
 abbrev pub behind_step : Step → Place → List Place
 behind_step s [] = []
 behind_step s (r ∷ p) = cond (same_step s r) (p ∷ []) []
 
--- the locations below a step, as they are seen from there
+-- the locations that begin with a step, each without that step
 abbrev pub inside : Step → List Place → List Place
 inside s ps = flat (each (behind_step s) ps)
 

@@ -37,7 +37,7 @@ pairs-append : {X : Type 0} (view : X → Form) (xs ys : Entries X) → pairs_of
 pairs-append view [] ys = refl
 pairs-append view (x ∷ xs) ys = ap (λ l. record { key = name x.0; value = view x.1 } ∷ l) (pairs-append view xs ys)
 
--- a name that is not there is not there among some of the entries
+-- a name that is not among entries is not among the chosen ones
 get_none-chosen : {X : Type 0} (p : List ℕ → Bool) (n : List ℕ) (es : Entries X) → get n es ≡ None
     → get n (chosen p es) ≡ None
 get_none-chosen p n [] h = refl
@@ -94,11 +94,11 @@ module _ (p : List ℕ → Bool) (ms : Entries Tree) (i : ℕ) (n : List ℕ) (t
     next_taken : chosen p (take (i + 1) ms) ≡ chosen p (take i ms) ++ (n, t) ∷ []
     next_taken = here ∙ ap (λ b. chosen p (take i ms) ++ cond b ((n, t) ∷ []) []) yes
 
-    -- with it, the entries chosen so far hold as many values more as its tree does
+    -- with it, the number of values in the entries chosen so far rises by the number in its node
     pub next_size : entries_size (chosen p (take (i + 1) ms)) ≡ entries_size (chosen p (take i ms)) + size_of t
     next_size = ap entries_size next_taken ∙ size-append (chosen p (take i ms)) ((n, t) ∷ []) ∙ omega arith
 
-    -- those chosen before it and its tree hold no more values together than all that are chosen
+    -- the entries chosen before it and its node hold together no more values than all chosen entries
     pub next_within : entries_size (chosen p (take i ms)) + size_of t ≤ entries_size (chosen p ms)
     next_within =
         let split : chosen p ms ≡ chosen p (take (i + 1) ms) ++ chosen p (drop (i + 1) ms) =
@@ -111,7 +111,7 @@ module _ (p : List ℕ → Bool) (ms : Entries Tree) (i : ℕ) (n : List ℕ) (t
               1) ms)),
         )
 
-    -- where none is chosen before it, it is the first of all that are chosen
+    -- if none is chosen before it, it is the first of all chosen entries
     pub next_first : chosen p (take i ms) ≡ [] → slice_get (chosen p ms) 0 ≡ Some (n, t)
     next_first none =
         let split : chosen p ms ≡ chosen p (take (i + 1) ms) ++ chosen p (drop (i + 1) ms) =
@@ -119,7 +119,7 @@ module _ (p : List ℕ → Bool) (ms : Entries Tree) (i : ℕ) (n : List ℕ) (t
         ap (λ l. slice_get l 0)
         (split ∙ ap (λ l. l ++ chosen p (drop (i + 1) ms)) (next_taken ∙ ap (λ l. l ++ (n, t) ∷ []) none))
 
-    -- where the trees chosen before it and its own conform to a kind, all chosen so far conform
+    -- if the nodes of the entries chosen before it and its own conform to a kind, those of all entries chosen so far conform
     pub next_holds : (k : Kind) → every (λ (e : List ℕ × Tree). conforms final_tables k e.1) (chosen p (take i ms))
         ≡ true
         → conforms final_tables k t ≡ true
@@ -128,7 +128,7 @@ module _ (p : List ℕ → Bool) (ms : Entries Tree) (i : ℕ) (n : List ℕ) (t
         ap (every (λ (e : List ℕ × Tree). conforms final_tables k e.1)) next_taken
         ∙ every-append (λ (e : List ℕ × Tree). conforms final_tables k e.1) (chosen p (take i ms)) (n, t) h e
 
-    -- with its value put last, the values that were read are those of all entries chosen so far
+    -- after the value that was read for it is appended, the values that were read are those of all entries chosen so far
     pub next_same : {X : Type 0} (view : X → Form) (k : Kind) (vs new : Entries X) (x : X)
         → pairs_of (form final_tables k) (chosen p (take i ms)) ≡ pairs_of view vs → form final_tables k t ≡ view x
         → new ≡ vs ++ (n, x) ∷ [] → pairs_of (form final_tables k) (chosen p (take (i + 1) ms)) ≡ pairs_of view new
@@ -138,14 +138,14 @@ module _ (p : List ℕ → Bool) (ms : Entries Tree) (i : ℕ) (n : List ℕ) (t
         ∙ (λ j. h j ++ record { key = name n; value = e j } ∷ [])
         ∙ sym (ap (pairs_of view) f ∙ pairs-append view vs ((n, x) ∷ []))
 
-    -- where no name stands twice, its name is not among those of the values read before it
+    -- if no name of the members is repeated, its name is not among those of the values read before it
     pub next_new : {X : Type 0} (view : X → Form) (k : Kind) (vs : Entries X) → HasDistinctNames ms
         → pairs_of (form final_tables k) (chosen p (take i ms)) ≡ pairs_of view vs → get n vs ≡ None
     next_new view k vs d h =
         get_none-pairs (form final_tables k) view n (chosen p (take i ms)) vs h
         (get_none-chosen p n (take i ms) (absent-next ms i (n, t) d at))
 
--- an entry of a list that is in the set is among the chosen ones
+-- an entry whose name is in the set is among the chosen ones
 among_chosen : (p : List ℕ → Bool) (ms : Entries Tree) (i : ℕ) (e : List ℕ × Tree) → slice_get ms i ≡ Some e
     → p e.0 ≡ true
     → Among e (chosen p ms)
@@ -160,7 +160,7 @@ among_chosen p (m ∷ ms) (suc i) e at h = go (p m.0) (among_chosen p ms i e at 
     go true a = inr a
     go false a = a
 
--- a refusal of an entry whose name is in the set is one of a chosen entry
+-- an error about the value of an entry whose name is in the set is an error about the value of a chosen entry
 pub entry_fails : (p : List ℕ → Bool) (ms : Entries Tree) (i : ℕ) (n : List ℕ) (t : Tree) (k : Kind) (f : Fault)
     → slice_get ms i ≡ Some (n, t) → p n ≡ true → FailsBelow (named n) f k t
     → (e : List ℕ × Tree) × Among e (chosen p ms) × FailsBelow (named e.0) f k e.1

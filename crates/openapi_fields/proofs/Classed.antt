@@ -1,4 +1,4 @@
--- The row of a class of names, by what is read and written of its entries.
+-- The row of a class of names, given what is read from its entries and what they are written as.
 use Rattle.std.proofs.Common.{◌≡◌, ℕ, suc, ◌+◌, ◌*◌, arith, Bool, true, false, cond, ◌&&◌, List, [], ◌∷◌, ◌++◌, slice_get, Some}
 use Rattle.std.proofs.Common.{None, Result, Ok, Err, OnOk, IfErr, refl, sym, ap, ◌∙◌, subst, inl, inr, ⊎_elim}
 use Rattle.std.proofs.lemmas.Bool.{and_parts, and_from}
@@ -31,7 +31,7 @@ chosen_same : {X : Type 0} (p q : List ℕ → Bool) → ((n : List ℕ) → p n
 chosen_same p q h [] = refl
 chosen_same p q h (e ∷ es) = λ j. cond (h e.0 j) (e ∷ chosen_same p q h es j) (chosen_same p q h es j)
 
--- the members that a class takes, as the definitions see them
+-- the members that the row of a class takes, in terms of entries
 module _ (c : Class) (k : Kind) where
   -- they are the members of the entries whose names are in the class
   pub class_members : {X : Type 0} (f : Shape (Seen X) → X) (ms : Entries Tree)
@@ -50,7 +50,7 @@ module _ (c : Class) (k : Kind) where
       go true h = ap (λ l. first ∷ l) h
       go false h = h
 
-  -- the class conforms where each of their values conforms
+  -- the row holds if and only if each of their values conforms
   pub class_conforms : (ms : Entries Tree) → row_conforms final_tables (class c k) (members_of ms)
       ≡ every (λ (e : List ℕ × Tree). conforms final_tables k e.1) (chosen (in_class c) ms)
   unfolding row_conforms
@@ -85,7 +85,8 @@ module _ (c : Class) (k : Kind) where
       go true h = ap (λ s. size_of m.1 + s) h
       go false h = h
 
-  -- what the value of such an entry is asked, an object with a row of the class is asked below its name
+  -- each requirement of `k` in the value of such an entry is a requirement of an object with a row of the class, below the
+  -- name of the entry
   pub class_asks : (o : Kind) (ms : Entries Tree) (e : List ℕ × Tree)
       → row_where (is_class c) (rows_asked final_tables o) ≡ Some (class c k) → Among e (chosen (in_class c) ms)
       → StepsTo final_tables o (object (members_of ms)) (named e.0) k e.1
@@ -99,7 +100,7 @@ module _ (c : Class) (k : Kind) where
   module _ (test : List ℕ → Bool) (tests : (n : List ℕ) → test n ≡ in_class c n) (keys : (n : List ℕ) → key_in c n
       ≡ name n)
       {X : Type 0} (view : X → Form) where
-    -- what the class gives, where the entries whose names pass the test were read
+    -- what the row gives, if the entries whose names pass the test were read
     class_taken : (m : Entries X) (ms : Entries Tree) → EntriesReadAs view (Ok m) k (chosen test ms)
         → RowGives final_tables (class c k) (members_of ms) (map_form view m)
     unfolding row_form
@@ -111,7 +112,7 @@ module _ (c : Class) (k : Kind) where
               ∙ class_pairs keys ms ∙ sym (ap (pairs_of (form final_tables k)) same) ∙ h.1),
         )
 
-    -- the same, or a refusal
+    -- the same, or an error for the whole object
     pub class_gives : (r : Result (Entries X) Fault) (o : Kind) (ms : Entries Tree)
         → row_where (is_class c) (rows_asked final_tables o) ≡ Some (class c k) → EntriesReadAs view r k (chosen test ms)
         → RowReadAs (map_form view) r o (class c k) (members_of ms)
@@ -126,7 +127,7 @@ module _ (c : Class) (k : Kind) where
     pub class_count : (ms : Entries Tree) → row_weight (class c k) (members_of ms) ≡ entries_size (chosen test ms)
     class_count ms = class_size ms ∙ sym (ap entries_size (chosen_same test (in_class c) tests ms))
 
-    -- both at once: what the class gives, and how many looks that took
+    -- both together: what the row gives, or an error, and how far the access count rises
     pub class_read : {before after : ℕ} (r : Result (Entries X) Fault) (o : Kind) (ms : Entries Tree)
         → row_where (is_class c) (rows_asked final_tables o) ≡ Some (class c k)
         → record {
@@ -140,7 +141,7 @@ module _ (c : Class) (k : Kind) where
     class_read r o ms at h =
         record { reads = class_gives r o ms at h.reads; count = (h.count.0, omega (arith, h.count.1, class_count ms)) }
 
-    -- what the class is written as
+    -- the members that the row is written as
     pairs_print : (vs : Entries X) → prints final_tables c k (pairs_of view vs) ≡ written_entries view k vs
     pairs_print [] = refl
     pairs_print (e ∷ vs) = ap (λ l. (e.0, print final_tables k (view e.1)) ∷ l) (pairs_print vs)
@@ -168,12 +169,13 @@ module _ (c : Class) (k : Kind) where
 
     module _ (ss : List Slot) (vs : Entries X) (at : slot_where (is_class c) ss ≡ Some (class c k, map_form view vs))
         (out : Entries Tree) (done : IsWritten final_tables (before (is_class c) ss) out) where
-      -- a name of the class is not there yet, where no two of the slots take the same name
+      -- if no name is taken by two slots, a name that passes the test is not among the members written so far
       pub class_new : slots_apart ss ≡ true → (n : List ℕ) → test n ≡ true → get n out ≡ None
       class_new a n h = is_new final_tables ss (is_class c) (class c k, map_form view vs) at out done a n (sym (tests
           n) ∙ h)
 
-      -- where its entries are put last and none is lost, the slots as far as this one are written
+      -- if its entries are appended, their names pass the test and nothing in their values is unwritable, the slots up to
+      -- and including this one are written
       pub class_written : {A : Type 0} (r : Result A Fault) (new : Entries Tree)
           → OnOk r (new ≡ out ++ written_entries view k vs) → OnOk r (every (λ (e : List ℕ × X). test e.0) vs ≡ true)
           → OnOk r (all_whole view k vs ≡ true) → OnOk r (IsWritten final_tables (through (is_class c) ss) new)
@@ -200,7 +202,7 @@ module _ (c : Class) (k : Kind) where
           (λ q g. class_value_loses final_tables c k ss (pairs_of view vs) at out done i.0
           (record { key = name e.0; value = view e.1 }) q i.1 g) h
 
-      -- a refusal of its entries is a refusal of the object
+      -- an error of writing its entries is an error of writing the object
       pub class_loses : {A : Type 0} (r : Result A Fault) → IfErr r (λ f. EntriesNotWritable test view k f vs)
           → IfErr r (λ f. NotWritable f (slots_lost final_tables ss))
       class_loses (Ok x) h = tt

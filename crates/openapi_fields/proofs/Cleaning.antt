@@ -1,4 +1,4 @@
--- What was read can be written, and what was written is read again.
+-- What was read can be written, and what was written can be read again.
 use Rattle.std.proofs.Common.{◌≡◌, ℕ, ◌+◌, ◌*◌, ◌≤◌, true, false, [], Result, Ok, Err, sym, ap, ◌∙◌, subst, arith}
 use Rattle.openapi_node.specs.Fault.{place_of}
 use Rattle.openapi_node.specs.Place.{Place}
@@ -17,24 +17,24 @@ use Rattle.openapi_tables.proofs.Writes.{writes_all}
 use Rattle.openapi_fields.specs.Returned.{FailsBy, NotWritable, NotWritableBy, Reads, Refuses, RefusesBy, WrittenAs}
 use Rattle.openapi_fields.specs.Settled.{CleanedAs, SettledAs, IsCounted}
 
--- of a tree that conforms nothing is unwritable
+-- nothing in the form of a node that conforms is unwritable
 nothing_lost : (k : Kind) (t : Tree) → sound final_tables k ≡ true → conforms final_tables k t ≡ true
     → unwritable final_tables k (form final_tables k t) ≡ []
 nothing_lost k t s h =
     ((writable.0 final_tables k (form final_tables k t)).0 (read_proper final_tables final_sound t k s h)).1
 
--- so it is cleaned to a tree that conforms
+-- a node that conforms is normalized to one that conforms
 pub clean_conforms : (k : Kind) (t : Tree) → sound final_tables k ≡ true → conforms final_tables k t ≡ true
     → conforms final_tables k (clean final_tables k t) ≡ true
 clean_conforms k t s h =
     writes_all final_tables final_sound (form final_tables k t) k s (read_proper final_tables final_sound t k s h)
 
--- which is at most twice as large
+-- a node that conforms is normalized to one that holds at most twice as many values
 pub clean_small : (k : Kind) (t : Tree) → sound final_tables k ≡ true → conforms final_tables k t ≡ true
     → size_of (clean final_tables k t) ≤ 2 * size_of t
 clean_small k t s h = small final_tables final_sound final_small t k s h
 
--- where nothing is unwritable, a writer is refused for want of memory alone
+-- if nothing is unwritable, the only error of a writer is a failed allocation, which is an error about any node
 only_memory : (c : Cause) (p : Place) (k : Kind) (t : Tree) → NotWritableBy c p [] → FailsBy c p k t
 only_memory (Missing n) p k t h = absurd h
 only_memory (MissingEither n m) p k t h = absurd h
@@ -55,23 +55,23 @@ memory_refuses NameNotWritable p k t h = absurd h
 memory_refuses NotWhole p k t h = absurd h
 memory_refuses Memory p k t h = tt
 
--- what was read of a tree, written
+-- what was read from a node, written
 module _ {X : Type 0} (view : X → Form) (x : X) (k : Kind) (t : Tree) (s : sound final_tables k ≡ true)
     (read : Reads view x k t) where
   kept : unwritable final_tables k (view x) ≡ []
   kept = subst (λ f. unwritable final_tables k f ≡ []) read.1 (nothing_lost k t s read.0)
 
-  -- it is written as the cleaned tree, or memory runs out
+  -- it is written as the normalized node, or an allocation failed
   pub cleans : (r : Result Node Fault) → WrittenAs k (view x) r → CleanedAs r k t
   cleans (Ok n) w = (read.0, w.0 ∙ ap (print final_tables k) (sym read.1))
   cleans (Err f) w = only_memory f.cause (place_of f) k t (subst (NotWritable f) kept w)
 
-  -- where writing it is refused, the cause is want of memory alone
+  -- if writing it fails, the cause is `Memory`
   pub cleans_refuses : (r : Result Node Fault) → WrittenAs k (view x) r → Refuses r k t
   cleans_refuses (Ok n) w = tt
   cleans_refuses (Err f) w = memory_refuses f.cause (place_of f) k t (subst (NotWritable f) kept w)
 
--- a refusal of a tree that conforms is one of every tree
+-- an error about a node that conforms has the cause `Memory`, so it is an error about every node
 module _ (k : Kind) (t u : Tree) (h : conforms final_tables k u ≡ true) where
   never : conforms final_tables k u ≡ false → ⊥
   never g = cc
@@ -99,18 +99,18 @@ module _ (k : Kind) (t u : Tree) (h : conforms final_tables k u ≡ true) where
   moved_refuses NotWhole g = no_fault g
   moved_refuses Memory g = tt
 
--- a tree that was cleaned, cleaned once more
+-- a normalized node, normalized once more
 module _ (k : Kind) (t : Tree) (once : Node) (s : sound final_tables k ≡ true)
     (first : CleanedAs (Ok once) k t) where
   again_conforms : conforms final_tables k once ≡ true
   again_conforms = subst (λ u. conforms final_tables k u ≡ true) (sym first.1) (clean_conforms k t s first.0)
 
-  -- cleaning it once more gives the tree that the first one settles to, or memory runs out
+  -- normalizing it once more gives the stable form of the first node, or an allocation failed
   pub settles : (r : Result Node Fault) → CleanedAs r k once → Refuses r k once → SettledAs r k t
   settles (Ok n) g h = (first.0, g.1 ∙ ap (clean final_tables k) first.1)
   settles (Err f) g h = moved k t once again_conforms f.cause (place_of f) h g
 
-  -- where cleaning it once more is refused, the cause is want of memory alone
+  -- if normalizing it once more fails, the cause is `Memory`
   pub settles_refuses : (r : Result Node Fault) → Refuses r k once → Refuses r k t
   settles_refuses (Ok n) h = tt
   settles_refuses (Err f) h = moved_refuses k t once again_conforms f.cause h
@@ -118,7 +118,7 @@ module _ (k : Kind) (t : Tree) (once : Node) (s : sound final_tables k ≡ true)
   size_once : size_of once ≤ 2 * size_of t
   size_once = subst (λ u. size_of u ≤ 2 * size_of t) (sym first.1) (clean_small k t s first.0)
 
-  -- two cleanings, each of three looks at most for each value, keep to the bound on looks
+  -- normalizing twice, each time with at most three node accesses for each value, keeps to the bound on the access count
   pub counted : (a b c : ℕ) → b ≤ a + 3 * size_of t → c ≤ b + 3 * size_of once → IsCounted k t a c
   counted a b c f g = (
     omega (arith, f, g, ap size_of first.1),

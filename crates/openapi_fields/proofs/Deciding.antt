@@ -32,7 +32,7 @@ module _ (a : List ℕ) (j : Kind) (b : List ℕ) (k : Kind) where
   abbrev the_members : Entries Tree → List (Entry Tree)
   the_members es = own (either a j b k) (members_list (members_of es))
 
-  -- what the row takes of members
+  -- the members that the row takes: those that have one of the names
   own_chosen : (es : Entries Tree) → the_members es ≡ each (λ e. entry e.0 e.1) (chosen (is_either a b) es)
   own_chosen [] = refl
   own_chosen (e ∷ es) = go (is_either a b e.0) (own_chosen es)
@@ -43,7 +43,7 @@ module _ (a : List ℕ) (j : Kind) (b : List ℕ) (k : Kind) where
       go true h = ap (λ l. entry e.0 e.1 ∷ l) h
       go false h = h
 
-  -- the first of them
+  -- the first of them has the name `n` and the value `u`
   record First (n : List ℕ) (u : Tree) (es : Entries Tree) : Type 0 where
     rest : List (Entry Tree)
     is : the_members es ≡ entry n u ∷ rest
@@ -80,12 +80,12 @@ module _ (a : List ℕ) (j : Kind) (b : List ℕ) (k : Kind) where
     unfolding row_form
     row_reads = ap (either_slot a j k) (seen (root_form final_tables))
 
-    -- the tree that decides holds no more values than the members that the row takes
+    -- the value of the member that decides contains no more values than the members that the row takes
     pub decided_weight : size_of u ≤ row_weight (either a j b k) (members_of es)
     unfolding row_weight
     decided_weight = subst (λ l. size_of u ≤ weight l) (sym (first_is n u es at).is) (omega arith)
 
-    -- a kind that is the one of the name that decides
+    -- `l` is the kind of the name that decides
     module _ (l : Kind) (is : cond (same_text a n) j k ≡ l) where
       pub decided_gives : {X : Type 0} (view : X → Form) (x : X) → Reads view x l u
           → RowGives final_tables (either a j b k) (members_of es) (deciding n (view x))
@@ -110,7 +110,7 @@ module _ (a : List ℕ) (j : Kind) (b : List ℕ) (k : Kind) where
         pub decided_fails : (f : Fault) → FailsBelow (named n) f l u → Fails f o (object (members_of es))
         decided_fails f h = fails_above (named n) f o l (object (members_of es)) u decided_asks h
 
-  -- the name is the first one, or else the second one
+  -- the kind is that of the first name if the first name decides, and that of the second name otherwise
   pub is_first : (n : List ℕ) → same_text a n ≡ true → cond (same_text a n) j k ≡ j
   is_first n h = ap (λ c. cond c j k) h
 
@@ -131,12 +131,12 @@ module _ (a : List ℕ) (j : Kind) (b : List ℕ) (k : Kind) where
           ap (λ (x : List ℕ × Tree). is_either a b x.0) (sym same) ∙ q
       go more false q g = more g
 
-  -- where the name is not the first one, it is the second one
+  -- if the name that decides is not the first one, it is the second one
   pub second_name : (n : List ℕ) (u : Tree) (es : Entries Tree)
       → slice_get (chosen (is_either a b) es) 0 ≡ Some (n, u) → same_text a n ≡ false → b ≡ n
   second_name n u es h q = same_text_eq b n (ap (λ c. c || same_text b n) (sym q) ∙ one_of_them n u es h)
 
-  -- neither of the names is there
+  -- if no member has one of the names, the fault of an object of the table is that both are missing
   pub none_decides : (i : TableName) (es : Entries Tree)
       → row_where (is_named a) (final_tables i) ≡ Some (either a j b k)
       → None ≡ slice_get (chosen (is_either a b) es) 0
@@ -150,7 +150,7 @@ module _ (a : List ℕ) (j : Kind) (b : List ℕ) (k : Kind) where
       (sym (own_chosen es
       ∙ ap (each (λ e. entry e.0 e.1)) (no_first (chosen (is_either a b) es) none))) (inl refl)))
 
--- what was read under the name that decides, as it is seen from the object
+-- what was read from the member that decides, as seen from the object
 module _ (o : Kind) (a : List ℕ) (j : Kind) (b : List ℕ) (k : Kind) (es : Entries Tree)
     (in_table : row_where (is_named a) (rows_asked final_tables o) ≡ Some (either a j b k)) where
   module _ (n : List ℕ) (u : Tree) (at : Decides a b n es u) (l : Kind) (is : cond (same_text a n) j k ≡ l)
@@ -162,32 +162,32 @@ module _ (o : Kind) (a : List ℕ) (j : Kind) (b : List ℕ) (k : Kind) (es : En
     decided_read r (Err f) up h =
         decided_fails a j b k n u es at l is o in_table f (step_err view (named n) l u r f up h)
 
-  -- where the first name decides, what was read of its tree is what the row reads, and a refusal
-  -- of it is one of the object
+  -- if the first name decides, what was read from its value is what the row reads, and an error about its value is an error
+  -- about the object
   pub first_read : (u : Tree) → Decides a b a es u → {X : Type 0} (view : X → Form) (r s : Result X Fault)
       → AtStep (named a) r s → ReadAs view r j u
       → RowReadAs (λ x. deciding a (view x)) s o (either a j b k) (members_of es)
   first_read u at view r s up h = decided_read a u at j (is_first a j b k a (same_text-refl a)) view r s up h
 
-  -- the same where the second name decides, which is another than the first
+  -- the same if the second name decides, and is not equal to the first
   pub second_read : (u : Tree) → Decides a b b es u → same_text a b ≡ false → {X : Type 0} (view : X → Form)
       (r s : Result X Fault) → AtStep (named b) r s → ReadAs view r k u
       → RowReadAs (λ x. deciding b (view x)) s o (either a j b k) (members_of es)
   second_read u at other view r s up h = decided_read b u at k (is_second a j b k b other) view r s up h
 
--- the member of the name that decides, written behind the members that are there
+-- the member of the name that decides, written after the members of the slots before
 module _ (ss : List Slot) (a : List ℕ) (j : Kind) (b : List ℕ) (k : Kind) (n : List ℕ) (f : Form)
     (at : slot_where (is_named a) ss ≡ Some (either a j b k, deciding n f)) (out : Entries Tree)
     (done : IsWritten final_tables (before (is_named a) ss) out) (of_two : is_either a b n ≡ true) where
   abbrev the_slot : Slot
   the_slot = (either a j b k, deciding n f)
 
-  -- its name is not there yet, where no two of the slots take the same name
+  -- if no name is taken by two slots, its name is not among the members written so far
   pub decided_new : slots_apart ss ≡ true → get n out ≡ None
   decided_new apart = is_new final_tables ss (is_named a) the_slot at out done apart n of_two
 
   module _ (l : Kind) (is : cond (same_text a n) j k ≡ l) where
-    -- where it is put last and nothing of it is lost, the slots as far as the row are written
+    -- if it is appended and nothing in it is unwritable, the slots up to and including the row are written
     pub decided_put : {A : Type 0} (r : Result A Fault) (new : Entries Tree)
         → OnOk r (new ≡ out ++ (n, print final_tables l f) ∷ []) → OnOk r (unwritable final_tables l f ≡ [])
         → OnOk r (IsWritten final_tables (through (is_named a) ss) new)
@@ -197,7 +197,7 @@ module _ (ss : List Slot) (a : List ℕ) (j : Kind) (b : List ℕ) (k : Kind) (n
         (ap (λ i. each_below (named n) (unwritable final_tables i f)) is ∙ ap (each_below (named n)) w) e
     decided_put (Err g) new e w = tt
 
-    -- a refusal of it is a refusal of the object
+    -- an error of writing it is an error of writing the object
     pub decided_loses : {A : Type 0} (r : Result A Fault)
         → IfErr r (λ g. NotWritableBelow (named n) g (unwritable final_tables l f))
         → IfErr r (λ g. NotWritable g (slots_lost final_tables ss))

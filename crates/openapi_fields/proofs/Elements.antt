@@ -37,7 +37,7 @@ pub list_gives : (k : Kind) (ts : List Tree) (fs : List Form) → every (conform
     × (form final_tables (list_of k) (list (items_of ts)) ≡ sequence (forms_of fs))
 list_gives k ts fs h e = (every_seen k ts ∙ h, ap (λ l. sequence (forms_of l)) (each_seen k ts ∙ e))
 
--- a test that all elements pass, and one more, is passed by all of these together
+-- if all elements of a list pass a test and one more value passes it, the list with that value appended passes it too
 pub every-more : {A : Type 0} (p : A → Bool) (xs : List A) (x : A) → every p xs ≡ true → p x ≡ true
     → every p (xs ++ x ∷ []) ≡ true
 every-more p [] x h e = ap (λ b. b && true) e
@@ -48,7 +48,7 @@ pub each-more : {A B : Type 0} (f : A → B) (xs : List A) (x : A) → each f (x
 each-more f [] x = refl
 each-more f (y ∷ xs) x = ap (λ l. f y ∷ l) (each-more f xs x)
 
--- the next element
+-- the first `i + 1` elements are the first `i`, followed by the element at the index `i`
 pub next_here : {A : Type 0} (xs : List A) (i : ℕ) (x : A) → i < length xs → x ≡ get_or xs i x → take (i + 1) xs
     ≡ take i xs ++ x ∷ []
 next_here xs i x h e = take_more xs i x h ∙ ap (λ y. take i xs ++ y ∷ []) (sym e)
@@ -73,7 +73,7 @@ item_asks k j (u ∷ ts) (suc i) t p l v h e a =
     (items_of ts)))) same
     (item_asks k (suc j) ts i t p l v (omega arith) e a))
 
--- what is asked of an element is asked in its list too, one step below at its index
+-- each requirement of `k` in an element is a requirement of a list of `k` in its list, below the index of the element
 pub item_leads : (k : Kind) (ts : List Tree) (i : ℕ) (t : Tree) → i < length ts → t ≡ get_or ts i t
     → StepsTo final_tables (list_of k) (list (items_of ts)) (indexed i) k t
 item_leads k ts i t h e p l v a =
@@ -84,11 +84,11 @@ item_leads k ts i t h e p l v a =
 
 -- a list that is written
 module _ {X : Type 0} (view : X → Form) (k : Kind) where
-  -- whether nothing of an element is lost
+  -- whether nothing in an element is unwritable
   abbrev pub is_whole : X → Bool
   is_whole x = is_empty (unwritable final_tables k (view x))
 
-  -- what an element is written as
+  -- the node that an element is written as
   abbrev pub written : X → Tree
   written x = print final_tables k (view x)
 
@@ -110,7 +110,7 @@ module _ {X : Type 0} (view : X → Form) (k : Kind) where
       ≡ lost_items k 0 (each (show (face_lost final_tables)) (each view xs))
   lost_of xs = ap (lost_items k 0) (of_forms-of (face_lost final_tables) (each view xs))
 
-  -- where nothing of its elements is lost, a list is written as the list of their trees
+  -- if nothing in its elements is unwritable, a list is written as the list of the nodes that they are written as
   pub list_written : (xs : List X) (ts : List Tree) (node : Tree) → ts ≡ each written xs → every is_whole xs ≡ true
       → node ≡ list (items_of ts)
       → (node ≡ print final_tables (list_of k) (sequence (forms_of (each view xs))))
@@ -141,7 +141,7 @@ module _ {X : Type 0} (view : X → Form) (k : Kind) where
       xs)))) same
       (lost_at (suc j) xs i x q (omega arith) e a))
 
-  -- a refusal of the element at an index is a refusal of the list
+  -- an error of writing the element at an index is an error of writing the list
   pub item_loses : (xs : List X) (i : ℕ) (x : X) (f : Fault) → i < length xs → x ≡ get_or xs i x
       → NotWritableBelow (indexed i) f (unwritable final_tables k (view x))
       → NotWritable f (unwritable final_tables (list_of k) (sequence (forms_of (each view xs))))

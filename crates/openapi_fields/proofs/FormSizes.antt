@@ -1,4 +1,4 @@
--- How large a form is: what ends the recursion of the writers.
+-- The size of a form: the measure that ends the recursion of the writers.
 use Rattle.std.proofs.Common.{◌≡◌, ℕ, suc, ◌+◌, ◌<◌, ◌≤◌, List, [], ◌∷◌, get_or, length, arith, ap, slice_get, Some, zero}
 use Rattle.openapi_map.specs.Entries.{Entries}
 use Rattle.openapi_tables.specs.Prelude.{each, join, Form, absent, leaf, of_code, known, other, unset, reference, an_item}
@@ -6,7 +6,7 @@ use Rattle.openapi_tables.specs.Prelude.{sequence, named, deciding, fields, Form
 use Rattle.openapi_tables.specs.Prelude.{forms_of, named_of, pairs_of}
 
 abbrev mutual
-  -- how many of the forms in a form, itself counted, are of a sort that holds other forms
+  -- the number of forms in a form, including itself, that are of a variant that holds other forms
   pub form_size : Form → ℕ
   form_size absent = 0
   form_size (leaf t) = 0
@@ -29,16 +29,16 @@ abbrev mutual
   named_size no_named = 0
   named_size (under n f es) = form_size f + named_size es
 
--- the size of the forms of rows
+-- the size of the forms of rows: the sum of their sizes
 abbrev pub rows_size : List Form → ℕ
 rows_size fs = forms_size (forms_of fs)
 
--- rows behind others are no larger than all
+-- the second of two lists of forms is no larger than both joined
 pub rows_size-join : (fs gs : List Form) → rows_size gs ≤ rows_size (join fs gs)
 rows_size-join [] gs = omega arith
 rows_size-join (f ∷ fs) gs = omega (arith, rows_size-join fs gs)
 
--- an element of a list is smaller than the list
+-- an element of a list is no larger than all elements together
 pub element_smaller : {X : Type 0} (view : X → Form) (xs : List X) (i : ℕ) (x : X) → i < length xs → x ≡ get_or xs i x
     → form_size (view x) ≤ rows_size (each view xs)
 element_smaller view [] i x h e = absurd (omega (arith, h))
@@ -47,7 +47,7 @@ element_smaller view (y ∷ xs) (suc i) x h e =
     let later : i < length xs = omega (arith, h) in
     omega (arith, element_smaller view xs i x later e)
 
--- a value of a map is smaller than the map
+-- a value of a map is no larger than all values together
 pub value_smaller : {X : Type 0} (view : X → Form) (es : Entries X) (i : ℕ) (n : List ℕ) (x : X)
     → slice_get es i ≡ Some (n, x) → form_size (view x) ≤ named_size (named_of (pairs_of view es))
 value_smaller {X} view [] i n x e = cc

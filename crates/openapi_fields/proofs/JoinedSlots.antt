@@ -1,4 +1,4 @@
--- Slots behind others: what both are written as together, and the names of which they have none in common.
+-- Two lists of slots joined into one: what they are written as, what is unwritable in them, and that they share no name.
 use Rattle.std.proofs.Common.{◌≡◌, ℕ, zero, suc, Bool, true, false, ◌&&◌, ◌||◌, List, [], ◌∷◌, ◌++◌, Some, slice_get}
 use Rattle.std.proofs.Common.{refl, sym, ap, ◌∙◌, subst}
 use Rattle.std.proofs.lemmas.Bool.{and_parts}
@@ -19,7 +19,7 @@ use Rattle.openapi_tables.proofs.SlotLists.{slots_print-join, untied-join}
 use Rattle.openapi_fields.specs.Returned.{NotWritable, NotWritableBy}
 use Rattle.openapi_fields.specs.Writing.{AreNew}
 
--- what the second of two lists of slots takes both take
+-- a name that the second of two lists of slots takes is taken by the joined list
 taken-second : (xs ys : List Slot) (n : List ℕ) → taken ys n ≡ true → taken (join xs ys) n ≡ true
 unfolding taken
 taken-second [] ys n h = h
@@ -33,7 +33,8 @@ all_taken-second xs ys (e ∷ es) h =
     let p = and_parts (taken ys e.0) (all_taken ys es) h in
     (λ i. taken-second xs ys e.0 p.0 i && all_taken-second xs ys es p.1 i)
 
--- slots that are written one list behind the other
+-- if each of two lists of slots is written, the members of the first, followed by those of the second, are what the joined
+-- list is written as
 pub written_behind : (xs ys : List Slot) (out more : Entries Tree) → IsWritten final_tables xs out
     → IsWritten final_tables ys more → IsWritten final_tables (join xs ys) (out ++ more)
 written_behind xs ys out more h g =
@@ -46,21 +47,21 @@ written_behind xs ys out more h g =
           (all_taken-second xs ys more g.names);
     }
 
--- what one of two lists of slots loses both lose
+-- what is unwritable in the first of two lists of slots is unwritable in the joined list
 pub loses_first : (xs ys : List Slot) (q : Place) → Among q (slots_lost final_tables xs)
     → Among q (slots_lost final_tables (join xs ys))
 loses_first xs ys q h =
     subst (λ ps. Among q ps) (sym (slots_lost-join final_tables xs ys))
     (among_left q (slots_lost final_tables xs) (slots_lost final_tables ys) h)
 
--- what the second of two lists of slots loses both lose
+-- what is unwritable in the second of two lists of slots is unwritable in the joined list
 pub loses_second : (xs ys : List Slot) (q : Place) → Among q (slots_lost final_tables ys)
     → Among q (slots_lost final_tables (join xs ys))
 loses_second xs ys q h =
     subst (λ ps. Among q ps) (sym (slots_lost-join final_tables xs ys))
     (among_right q (slots_lost final_tables xs) (slots_lost final_tables ys) h)
 
--- a refusal of a part is one of the whole
+-- if the locations `qs` include the locations `ps`, an error of a writer about `ps` is one about `qs`
 pub loses_wider : (f : Fault) (ps qs : List Place) → ((q : Place) → Among q ps → Among q qs) → NotWritable f ps → NotWritable f qs
 loses_wider f ps qs wider h = go f.cause h
   where
@@ -74,7 +75,7 @@ loses_wider f ps qs wider h = go f.cause h
     go NotWhole h = h
     go Memory h = h
 
--- a row that is apart from slots takes no name that they take
+-- a row that takes no name in common with the row of any slot takes no name that the slots take
 untaken : (w : Row) (ys : List Slot) (n : List ℕ) → every (λ (y : Slot). apart w y.0) ys ≡ true → taken ys n ≡ true
     → takes w n ≡ false
 unfolding taken
@@ -92,7 +93,7 @@ every-second : {A : Type 0} (q : A → Bool) (xs ys : List A) → every q (join 
 every-second q [] ys h = h
 every-second q (x ∷ xs) ys h = every-second q xs ys (and_parts (q x) (every q (join xs ys)) h).1
 
--- no name is taken by both lists
+-- if no name is taken by two of the joined slots, a name that the second list takes is not taken by the first
 apart_names : (xs ys : List Slot) (n : List ℕ) → slots_apart (join xs ys) ≡ true → taken ys n ≡ true
     → taken xs n ≡ false
 unfolding taken
@@ -111,7 +112,7 @@ taken_name ys (d ∷ es) zero e h at =
 taken_name ys (d ∷ es) (suc j) e h at =
     taken_name ys es j e (and_parts (taken ys d.0) (all_taken ys es) h).1 at
 
--- so the members of the second are new among those of the first
+-- if no name is taken by two of the joined slots, no name of the members of the second list is among those of the first
 pub new_behind : (xs ys : List Slot) (out more : Entries Tree) → slots_apart (join xs ys) ≡ true
     → IsWritten final_tables xs out → IsWritten final_tables ys more → AreNew more out
 new_behind xs ys out more a h g j e at =

@@ -1,4 +1,4 @@
--- What results that are joined say of the rows of an object.
+-- Results that are joined into one, and what they mean for the rows of an object.
 use Rattle.std.proofs.Common.{◌≡◌, List, [], ◌∷◌, Result, Ok, Err, subst, sym}
 use Rattle.openapi_node.specs.Tree.{Members}
 use Rattle.openapi_node.specs.declared.fault.Fault.{Fault}
@@ -21,7 +21,7 @@ both_read forms view (Ok x) (Ok y) k ws w ms h g = (g, h)
 both_read forms view (Ok x) (Err e) k ws w ms h g = g
 both_read forms view (Err e) s k ws w ms h g = h
 
--- what is joined of some rows and of one more is what all these rows give, the last one first
+-- the joined results of some rows and of one more row are what all these rows give, with the one more row first
 pub row_joined : {X Y : Type 0} (forms : X → List Form) (view : Y → Form) (r : Result X Fault) (s : Result Y Fault)
     (t : Result (X × Y) Fault) (k : Kind) (ws : List Row) (w : Row) (ms : Members) → t ≡ joined r s
     → PartReadAs forms r k ws ms → RowReadAs view s k w ms → PartReadAs (λ v. view v.1 ∷ forms v.0) t k (w ∷ ws) ms

@@ -1,4 +1,4 @@
--- Values that stand by themselves, and looks that show no such value.
+-- Values that contain no other values, and views that are of another kind than such a value.
 use Rattle.std.proofs.Common.{◌≡◌, ℕ, ℤ, pos, negsuc, Bool, true, false, List, [], Some, None, refl, sym, ap, subst}
 use Rattle.std.proofs.Common.{inl, cond, arith, rules, true≢false}
 use Rattle.std.specs.Prelude.{◌≤ℤ◌, FitsSigned, nat_le, ◌&&◌}
@@ -22,25 +22,25 @@ use Rattle.openapi_values.specs.StatusCode.{code_of_number}
 use Rattle.openapi_fields.specs.Returned.{Fails, Reads}
 use Rattle.openapi_fields.proofs.Below.{fails_here}
 
--- a look that shows no whole number
+-- a view of anything but a whole number is of the wrong kind, where a whole number is expected
 pub not_whole : (l : Limits) (w : View) → ((z : ℤ) → w ≡ v.Whole z → ⊥)
     → Among (wrong_kind words.Whole) (causes final_tables (number l) (shown w))
 not_whole l (v.Whole z) h = absurd (h z refl)
 not_whole l w h = inl refl
 
--- a look that shows no text, where a word is asked
+-- a view of anything but a string is of the wrong kind, where one of some words is expected
 pub not_word : (ws : List (List ℕ)) (w : View) → ((s : Bor (List ℕ)) → w ≡ v.Text s → ⊥)
     → Among (wrong_kind words.Text) (causes final_tables (one_of ws) (shown w))
 not_word ws (v.Text s) h = absurd (h s refl)
 not_word ws w h = inl refl
 
--- a look that shows no text, where a format is asked
+-- a view of anything but a string is of the wrong kind, where a format is expected
 pub not_format : (ws : List (List ℕ)) (w : View) → ((s : Bor (List ℕ)) → w ≡ v.Text s → ⊥)
     → Among (wrong_kind words.Text) (causes final_tables (format ws false) (shown w))
 not_format ws (v.Text s) h = absurd (h s refl)
 not_format ws w h = inl refl
 
--- the same where null is a format too
+-- the same for a view of anything but a string or null, where null is a format too
 pub not_format_or_null : (ws : List (List ℕ)) (w : View) → (w ≡ v.Null → ⊥)
     → ((s : Bor (List ℕ)) → w ≡ v.Text s → ⊥)
     → Among (wrong_kind words.TextOrNull) (causes final_tables (format ws true) (shown w))
@@ -48,14 +48,14 @@ not_format_or_null ws v.Null n h = absurd (n refl)
 not_format_or_null ws (v.Text s) n h = absurd (h s refl)
 not_format_or_null ws w n h = inl refl
 
--- a look that shows neither a text nor a whole number
+-- a view of anything but a string or a whole number is of the wrong kind, where a status code is expected
 pub not_code : (w : View) → ((s : Bor (List ℕ)) → w ≡ v.Text s → ⊥) → ((z : ℤ) → w ≡ v.Whole z → ⊥)
     → Among (wrong_kind words.TextOrWhole) (causes final_tables status_code (shown w))
 not_code (v.Whole z) h g = absurd (g z refl)
 not_code (v.Text s) h g = absurd (h s refl)
 not_code w h g = inl refl
 
--- a number that is not within the limits
+-- an error that a whole number is not within the limits
 pub outside : (f : Fault) (l : Limits) (z : ℤ) → f.place.items ≡ [] → f.cause ≡ NotAllowed → within l z ≡ false
     → Fails f (number l) (whole z)
 outside f l z p e h =
@@ -68,7 +68,7 @@ pub below_sizes : (z : ℤ) → ((pos 0 ≤ℤ z) → ⊥) → within sizes z �
 below_sizes (pos n) h = absurd (h (Prim.search rules))
 below_sizes (negsuc n) h = refl
 
--- a text that is no word
+-- an error that a string is none of the words
 pub no_word : (f : Fault) (ws : List (List ℕ)) (s : List ℕ) → f.place.items ≡ [] → f.cause ≡ UnknownVariant
     → has ws s ≡ false → Fails f (one_of ws) (text s)
 no_word f ws s p e h =
@@ -80,7 +80,7 @@ not_true : (b : Bool) → (b ≡ true → ⊥) → b ≡ false
 not_true true h = absurd (h refl)
 not_true false h = refl
 
--- a number that does not fit 64 bits with sign is not within these limits
+-- a whole number that is out of range for `i64` is not within the limits `signed`
 pub beyond_signed : (z : ℤ) → (FitsSigned w64 z → ⊥) → within signed z ≡ false
 beyond_signed (pos n) h =
     not_true (nat_le n 9223372036854775807) (λ e.
@@ -91,7 +91,7 @@ beyond_signed (negsuc n) h =
     let small = leb-true n 9223372036854775807 e in
     h (record { sfits = omega (arith, small) }))
 
--- a text or a number that is no status code
+-- an error that a string is no status code
 pub no_code_text : (f : Fault) (s : List ℕ) → f.place.items ≡ [] → f.cause ≡ NotAllowed → None ≡ code_of s
     → Fails f status_code (text s)
 no_code_text f s p e h =
@@ -99,7 +99,7 @@ no_code_text f s p e h =
     (broken_root final_tables status_code (text s) not_allowed
     (subst (λ o. Among not_allowed (unless (is_code o) not_allowed)) h (inl refl)))
 
--- a whole number that is no status code is refused as one
+-- an error that a whole number is no status code
 pub no_code_number : (f : Fault) (z : ℤ) → f.place.items ≡ [] → f.cause ≡ NotAllowed → None ≡ code_of_number z
     → Fails f status_code (whole z)
 no_code_number f z p e h =
@@ -114,12 +114,12 @@ no_code_number f z p e h =
     refused (pos n) g = in_range (nat_le 100 n && nat_le n 999) n g
     refused (negsuc n) g = inl refl
 
--- the tree that a form holds as it is
+-- the node of a leaf, or null for any other form
 abbrev tree_in : Form → Tree
 tree_in (leaf t) = t
 tree_in f = null
 
--- a tree of which a word was read is the text of the word
+-- a node from which a word was read is the string of that word
 pub word_read : {X : Type 0} (word : X → List ℕ) (ws : List (List ℕ)) (x : X) (t : Tree)
     → Reads (word_form word) x (one_of ws) t → t ≡ text (word x)
 word_read word ws x (text s) h = ap tree_in h.1

@@ -1,4 +1,4 @@
--- How many looks there are before the one that a sound kind takes itself.
+-- How many accesses a well-made kind adds to those for the values of a node.
 use Rattle.std.proofs.Common.{◌≡◌, ◌+◌, ◌≤◌, true, sym, subst, lit≤}
 use Rattle.std.proofs.lemmas.Bool.{and_parts}
 use Rattle.openapi_tables.specs.Prelude.{Kind, any_text, null_or, by, ref_to, sound, may_be_null, under_ref}
@@ -13,7 +13,7 @@ looks_at_item : (k : Kind) → under_ref final_tables k ≡ true → looks k ≡
 looks_at_item (by i) h = cc
 looks_at_item k h = cc
 
--- they are two at most: one for a reference, or one for a flag where a schema may stand
+-- they are at most two. A reference adds one, and a flag that may replace a schema adds one
 pub few_looks : (k : Kind) → sound final_tables k ≡ true → looks k ≤ 2
 few_looks (null_or k) s =
     subst (λ n. n ≤ 2) (sym (looks_at_scalar k (and_parts (may_be_null k) (sound final_tables k) s).0)) (lit≤ tt)

@@ -1,4 +1,4 @@
--- What a writer returned, seen from the value that it writes a part of.
+-- What a writer returned for a part of a value, as seen from the whole value.
 use Rattle.std.proofs.Common.{◌≡◌, ℕ, suc, arith, Bool, true, false, List, [], ◌∷◌, ◌++◌, map, Some, Result, Ok, Err}
 use Rattle.std.proofs.Common.{OnOk, IfErr, refl, sym, ap, ◌∙◌, subst, inl, inr}
 use Rattle.std.specs.Prelude.{◌↔◌, ◌==◌}
@@ -24,11 +24,11 @@ use Rattle.openapi_fields.specs.Forms.{map_form}
 use Rattle.openapi_fields.specs.Returned.{NotWritableBy, NotWritable, NotWritableBelow}
 use Rattle.openapi_fields.proofs.Below.{no_steps}
 
--- want of memory is a refusal of whatever is written
+-- a failed allocation is an error of writing anything
 pub memory_loses : (f : Fault) (ps : List Place) → IsMemory f → NotWritable f ps
 memory_loses f ps m = subst (λ c. NotWritableBy c (place_of f) ps) (sym m.cause) (ap (map step_of) m.place)
 
--- a refusal of what is written below is one of the value above
+-- an error of writing the value below is, as seen from above, an error of writing the value above
 module _ (s : Step) (e f : Fault) (ps qs : List Place) (up : GoesUp s e f) (leads : (q : Place) → Among q ps
     → Among (s ∷ q) qs) where
   moved : (c : Cause) → e.cause ≡ c → place_of f ≡ s ∷ place_of e → NotWritableBy c (place_of e) ps
@@ -49,28 +49,29 @@ module _ (s : Step) (e f : Fault) (ps qs : List Place) (up : GoesUp s e f) (lead
         | inr q ↦ subst (λ c. NotWritableBy c (place_of f) qs) (sym q.0) (moved e.cause refl q.1 h)
       ]
 
--- a refusal one step below is one of the value above, where all that is lost below is lost in it too
+-- if each unwritable location below is, one step further, one of the value above, an error of writing the value below is, as
+-- seen from above, one of writing the value above
 pub loses_above : (s : Step) (f : Fault) (ps qs : List Place) → ((q : Place) → Among q ps → Among (s ∷ q) qs)
     → NotWritableBelow s f ps → NotWritable f qs
 loses_above s f ps qs leads h = goes_up s h.0 f ps qs h.1 leads h.2
 
--- a value that is there is written
+-- an optional value that is not absent is written
 pub not_silent : (f : Form) → is_absent f ≡ false → is_silent optional f ≡ false
 not_silent absent h = cc
 not_silent f h = refl
 
--- the value of a row, written behind the members that are there
+-- the value of a row, written after the members of the slots before
 module _ (ss : List Slot) (n : List ℕ) (m : Mode) (k : Kind) (f : Form)
     (at : slot_where (is_named n) ss ≡ Some (row n m k, f)) (out : Entries Tree)
     (done : IsWritten final_tables (before (is_named n) ss) out) where
-  -- where it is put last and nothing of it is lost, the slots as far as the row are written
+  -- if it is appended and nothing in it is unwritable, the slots up to and including the row are written
   pub value_put : {A : Type 0} (r : Result A Fault) (new : Entries Tree) → is_silent m f ≡ false
       → OnOk r (new ≡ out ++ (n, print final_tables k f) ∷ []) → OnOk r (unwritable final_tables k f ≡ [])
       → OnOk r (IsWritten final_tables (through (is_named n) ss) new)
   value_put (Ok x) new loud e l = row_put final_tables ss n m k f at out done new loud l e
   value_put (Err g) new loud e l = tt
 
-  -- a refusal of it is a refusal of the object
+  -- an error of writing it is an error of writing the object
   pub value_loses : {A : Type 0} (r : Result A Fault) → IfErr r (λ g. NotWritableBelow (named n) g (unwritable final_tables
       k f))
       → IfErr r (λ g. NotWritable g (slots_lost final_tables ss))
@@ -79,7 +80,7 @@ module _ (ss : List Slot) (n : List ℕ) (m : Mode) (k : Kind) (f : Form)
       loses_above (named n) g (unwritable final_tables k f) (slots_lost final_tables ss)
       (row_loses final_tables ss n m k f at out done) h
 
-  -- null, where it is what the form is printed as
+  -- the same for a node that is what the form is written as, such as null
   pub null_put : {A : Type 0} (r : Result A Fault) (new : Entries Tree) (t : Tree) → is_silent m f ≡ false
       → t ≡ print final_tables k f → unwritable final_tables k f ≡ [] → OnOk r (new ≡ out ++ (n, t) ∷ [])
       → OnOk r (IsWritten final_tables (through (is_named n) ss) new)
@@ -87,13 +88,13 @@ module _ (ss : List Slot) (n : List ℕ) (m : Mode) (k : Kind) (f : Form)
       row_put final_tables ss n m k f at out done new loud l (e ∙ ap (λ u. out ++ (n, u) ∷ []) p)
   null_put (Err g) new t loud p l e = tt
 
--- want of memory here is want of memory below
+-- an allocation that failed here is an error of writing any value one step below, as seen from here
 pub below : {A : Type 0} (r : Result A Fault) (s : Step) (ps : List Place) → IfErr r IsMemory
     → IfErr r (λ f. NotWritableBelow s f ps)
 below (Ok x) s ps h = tt
 below (Err f) s ps m = (f, record { keeps_memory = λ h. h; otherwise = inl m }, memory_loses f ps m)
 
--- an empty list or map loses nothing
+-- nothing in an empty list or map is unwritable
 empty_list : (k : Kind) → bare_lost final_tables (f_sequence []) k ≡ []
 empty_list any_text = refl
 empty_list k = refl
@@ -109,19 +110,19 @@ empty_lost k (sequence (more f fs)) h = cc
 empty_lost k (named_form (under n f es)) h = cc
 empty_lost k f h = cc
 
--- what a row does not write loses nothing
+-- nothing in a form that a row leaves out is unwritable
 pub silent_lost : (m : Mode) (k : Kind) (f : Form) → is_silent m f ≡ true → unwritable final_tables k f ≡ []
 silent_lost listed k f h = empty_lost k f h
 silent_lost m k absent h = cc
 silent_lost m k f h = cc
 
--- a list without elements, and a map without entries, are left out
+-- a list is left out under the mode `listed` if and only if it has no elements
 pub none_listed : {X : Type 0} (view : X → Form) (xs : List X)
     → (length xs == 0) ≡ is_silent listed (sequence (forms_of (each view xs)))
 none_listed view [] = refl
 none_listed view (x ∷ xs) = eqb-suc-zero (length xs)
 
--- a test for a map without entries says whether the map is left out
+-- whether a map has no entries is whether it is left out under the mode `listed`
 pub none_mapped : {X : Type 0} (view : X → Form) (b : Bool) (es : Entries X) → (b ≡ true) ↔ (length es ≡ 0)
     → b ≡ is_silent listed (map_form view es)
 none_mapped view b [] h = h.1 refl

@@ -1,4 +1,4 @@
--- Maps, by what is read and written of their entries.
+-- Maps, given what is read from their entries and what these are written as.
 use Rattle.std.proofs.Common.{◌≡◌, ℕ, ◌+◌, Bool, true, ◌&&◌, List, [], ◌∷◌, Result, Ok, Err, refl, sym, ap, ◌∙◌, subst}
 use Rattle.std.proofs.Common.{inl, inr, ⊎_elim}
 use Rattle.std.proofs.lemmas.Bool.{and_parts}
@@ -22,11 +22,11 @@ use Rattle.openapi_fields.specs.Returned.{FailsBelow, ReadAs, NotWritable}
 use Rattle.openapi_fields.proofs.Below.{memory_fails, fails_above}
 use Rattle.openapi_fields.proofs.Losing.{memory_loses, loses_above}
 
--- all entries
+-- a test that every name passes
 abbrev all : List ℕ → Bool
 all n = true
 
--- where every name passes, all entries are chosen
+-- if every name passes, all entries are chosen
 pub all_chosen : {X : Type 0} (es : Entries X) → chosen all es ≡ es
 all_chosen [] = refl
 all_chosen (e ∷ es) = ap (λ l. e ∷ l) (all_chosen es)
@@ -36,13 +36,13 @@ pub all_size : (es : Entries Tree) → entries_size es ≡ members_size (members
 all_size [] = refl
 all_size (e ∷ es) = ap (λ n. size_of e.1 + n) (all_size es)
 
--- what is read of entries, where the key of a name is that name
+-- what is read from entries, if the key of each name is that name
 pub named_forms : (g : List ℕ → Key) → ((n : List ℕ) → g n ≡ name n) → (k : Kind) (es : Entries Tree)
     → pairs_as g k (of_members (root_form final_tables) (members_of es)) ≡ pairs_of (form final_tables k) es
 named_forms g h k [] = refl
 named_forms g h k (e ∷ es) = λ j. record { key = h e.0 j; value = form final_tables k e.1 } ∷ named_forms g h k es j
 
--- entries conform as a map where each value conforms
+-- entries conform as a map if and only if each value conforms
 pub map_conforms : (k : Kind) (es : Entries Tree) → conforms final_tables (map_of k) (object (members_of es))
     ≡ every (λ (e : List ℕ × Tree). conforms final_tables k e.1) es
 map_conforms k es = go es
@@ -56,7 +56,7 @@ map_forms : (k : Kind) (es : Entries Tree) → form final_tables (map_of k) (obj
     ≡ named_form (named_of (pairs_of (form final_tables k) es))
 map_forms k es = ap (λ l. named_form (named_of l)) (named_forms name (λ n. refl) k es)
 
--- what the value of an entry is asked, the entries are asked below its name
+-- each requirement of `k` in the value of an entry is a requirement of the entries, below the name of the entry
 pub entry_asked : (k : Kind) (es : Entries Tree) (e : List ℕ × Tree) (p : Place) (j : Kind) (v : Tree) → Among e es
     → Among (asking p j v) (asked final_tables k e.1)
     → Among (asking (named e.0 ∷ p) j v) (asks_members k (of_members (root_asks final_tables) (members_of es)))
@@ -75,7 +75,8 @@ entry_leads : (k : Kind) (es : Entries Tree) (e : List ℕ × Tree) → Among e 
 entry_leads k es e h p j v a = inr (entry_asked k es e p j v h a)
 
 module _ {X : Type 0} (view : X → Form) (k : Kind) where
-  -- what a map gives
+  -- what is read from the entries of a map is what is read from the map, and an error about an entry is an error about the
+  -- map
   pub map_gives : (r : Result (Entries X) Fault) (es : Entries Tree) → EntriesReadAs view r k (chosen all es)
       → ReadAs (map_form view) r (map_of k) (object (members_of es))
   map_gives (Ok m) es h = (
@@ -89,7 +90,7 @@ module _ {X : Type 0} (view : X → Form) (k : Kind) where
       fails_above (named (x.0).0) f (map_of k) k (object (members_of es)) (x.0).1
       (entry_leads k es x.0 (subst (λ l. Among x.0 l) (all_chosen es) x.1)) x.2) h
 
-  -- what a map is written as
+  -- the members that a map is written as
   entries_print : (vs : Entries X) → table_members (each (entry_of final_tables k) (pairs_of view vs))
       ≡ members_of (written_entries view k vs)
   entries_print [] = refl
@@ -113,7 +114,7 @@ module _ {X : Type 0} (view : X → Form) (k : Kind) where
       (empty_is (unwritable final_tables k (view e.1)) p.0)
       ∙ nothing_lost vs p.1
 
-  -- where nothing of its values is lost, a map is written as the object of their trees
+  -- if nothing in its values is unwritable, a map is written as the object of the nodes that they are written as
   pub map_written : (vs : Entries X) (out : Entries Tree) (node : Tree) → out ≡ written_entries view k vs
       → all_whole view k vs ≡ true → node ≡ object (members_of out)
       → (node ≡ print final_tables (map_of k) (map_form view vs)) × (unwritable final_tables (map_of k) (map_form
@@ -137,7 +138,7 @@ module _ {X : Type 0} (view : X → Form) (k : Kind) where
       among_right (named e.0 ∷ q) (each_below (named d.0) (unwritable final_tables k (view d.1)))
       (lost_pairs k (each (on_pair (show (face_lost final_tables))) (pairs_of view vs))) (lost_at vs e q s a)
 
-  -- a refusal of its entries is a refusal of the map
+  -- an error of writing its entries is an error of writing the map
   pub map_loses : (vs : Entries X) (f : Fault) → EntriesNotWritable all view k f vs
       → NotWritable f (unwritable final_tables (map_of k) (map_form view vs))
   map_loses vs f h =

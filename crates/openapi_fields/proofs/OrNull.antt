@@ -1,4 +1,4 @@
--- What is read and written where null may stand in the place of a value.
+-- What is read and written if null may replace a value.
 use Rattle.std.proofs.Common.{◌≡◌, Bool, true, false, [], ◌∷◌, Result, Ok, Err, refl, sym, ap, ◌∙◌, subst, inl, inr}
 use Rattle.openapi_node.specs.Fault.{place_of}
 use Rattle.openapi_node.specs.Place.{Place}
@@ -24,22 +24,22 @@ use Rattle.openapi_tables.proofs.TreeLaws.{seen_root, tree_of_root-seen}
 use Rattle.openapi_fields.specs.Returned.{FailsBy, Fails, NotWritable, WrittenAs}
 use Rattle.openapi_fields.proofs.Below.{wrong_here}
 
--- what is lost of a form is lost where null may stand too
+-- the unwritable locations of a form are the same if null may replace the value
 lost-null_or : (k : Kind) (f : Form) → unwritable final_tables (null_or k) f ≡ unwritable final_tables k f
 lost-null_or k (deciding n f) = lost-null_or k f
 lost-null_or k f = refl
 
--- what is written of a value is written where null may stand too
+-- what was written for a form of a kind is also what is written if null may replace the value
 pub written_or_null : (k : Kind) (f : Form) (r : Result Node Fault) → WrittenAs k f r → WrittenAs (null_or k) f r
 written_or_null k f (Ok n) h = (h.0 ∙ sym (print-null_or final_tables k f), lost-null_or k f ∙ h.1)
 written_or_null k f (Err e) h = subst (λ ps. NotWritable e ps) (sym (lost-null_or k f)) h
 
--- a value is asked as it is
+-- a requirement for the root of a node is a requirement for that node
 one_asking : (k : Kind) (t : Tree)
     → asking [] k (tree_of_root (seen_root (root_asks final_tables) t)) ∷ [] ≡ asking [] k t ∷ []
 one_asking k t = ap (λ u. asking [] k u ∷ []) (tree_of_root-seen (root_asks final_tables) t)
 
--- nothing is asked of a text, a flag or a number but the kind itself
+-- the only requirement of the kind of a string, a flag or a number is that of the kind itself, for the value itself
 asks_one : (k : Kind) (t : Tree) → may_be_null k ≡ true → asked final_tables k t ≡ asking [] k t ∷ []
 asks_one any_text null m = refl
 asks_one any_text t m = one_asking any_text t
@@ -49,7 +49,7 @@ asks_one (number l) null m = refl
 asks_one (number l) t m = one_asking (number l) t
 asks_one k t m = cc
 
--- of the causes that a value breaks by itself, those that are not about its kind stay where null may stand too
+-- the causes of a value itself other than `wrong_kind` are also its causes if null may replace it
 module _ (c : faults.Cause) (n : (w : Expected) → c ≡ wrong_kind w → ⊥) where
   not_wrong : {Y : Type 0} → (w : Expected) → Among c (wrong_kind w ∷ []) → Y
   not_wrong w (inl e) = absurd (n w e)
@@ -65,12 +65,13 @@ module _ (c : faults.Cause) (n : (w : Expected) → c ≡ wrong_kind w → ⊥) 
   other_cause (number l) t m h = not_wrong words.Whole h
   other_cause k t m h = cc
 
--- a value of another kind, where it is not null, is of another kind than the kind or null
+-- `wrong_kind` is not among the causes for limits: these are `not_allowed` or none
 not_outside : {Y : Type 0} → (b : Bool) (w : Expected) → Among (wrong_kind w) (unless b faults.not_allowed) → Y
 not_outside true w h = absurd h
 not_outside false w (inl e) = cc
 not_outside false w (inr e) = absurd e
 
+-- if a value is of the wrong kind and is not null, its cause is that the kind or null is expected if null may replace it
 wrong_cause : (k : Kind) (s : View) (w : Expected) → may_be_null k ≡ true → (s ≡ v.Null → ⊥)
     → Among (wrong_kind w) (causes final_tables k (shown s))
     → Among (wrong_kind (word_or_null k)) (causes final_tables (null_or k) (shown s))
@@ -94,7 +95,7 @@ module _ (k : Kind) (t : Tree) (may : may_be_null k ≡ true) where
         | inr n ↦ absurd n
       ]
 
-  -- a cause that is not about the kind of value is one where null may stand too
+  -- a cause other than `wrong_kind` is found at the same location if null may replace the value
   stays : (p : Place) (c : faults.Cause) → ((w : Expected) → c ≡ wrong_kind w → ⊥) → Broken final_tables k t p c
       → Broken final_tables (null_or k) t p c
   stays p c n b =
@@ -113,12 +114,13 @@ module _ (k : Kind) (t : Tree) (may : may_be_null k ≡ true) where
   by_cause NotWhole p h b = b
   by_cause Memory p h b = b
 
-  -- a refusal that is not about the kind of value is one where null may stand too
+  -- an error with another cause than `WrongKind` is also an error if null may replace the value
   pub fails_or_null : (f : Fault) → ((w : Expected) → f.cause ≡ WrongKind w → ⊥) → Fails f k t
       → Fails f (null_or k) t
   fails_or_null f n h = by_cause f.cause (place_of f) n h
 
--- another kind of value than the one that is expected, or null
+-- if a value is of the wrong kind and is not null, the error that the kind or null is expected is an error if null may
+-- replace it
 pub wrong_or_null : (f d : Fault) (w : Expected) (k : Kind) (s : View) → may_be_null k ≡ true → (s ≡ v.Null → ⊥)
     → f.cause ≡ WrongKind w → Fails f k (shown s) → d.place.items ≡ [] → d.cause ≡ WrongKind (word_or_null k)
     → Fails d (null_or k) (shown s)

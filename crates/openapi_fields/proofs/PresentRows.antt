@@ -1,4 +1,4 @@
--- The optional rows of a kind of object, by the looks at what stands under their names.
+-- The optional rows of a kind of object, given what was read from the members of their names.
 use Rattle.std.proofs.Common.{◌≡◌, ℕ, List, Option, Some, None, Result, Ok, refl, sym, subst}
 use Rattle.openapi_node.specs.Tree.{Tree, Members, find}
 use Rattle.openapi_node.specs.declared.fault.Fault.{Fault}
@@ -11,14 +11,15 @@ use Rattle.openapi_fields.proofs.RowReading.{present_row}
 
 module _ {X : Type 0} (view : X → Form) (o : Kind) (n : List ℕ) (k : Kind) (ms : Members)
     (at : row_where (is_named n) (rows_asked final_tables o) ≡ Some (row n optional k)) where
-  -- nothing but null stands under the name
+  -- if the member is missing or null, the row reads that there is no value
   pub row_gone : unless_null (find n ms) ≡ None
       → RowReadAs (optional_form view) (Ok None) o (row n optional k) ms
   row_gone e =
       present_row o n optional k ms at view refl refl (Ok None)
       (subst (λ u. MemberReadAs view (Ok None) k n u) (sym e) tt)
 
-  -- what was read of what stands there
+  -- if the member exists and is not null, what was read from its value is what the row reads. An error about its value is an
+  -- error about the object
   pub row_read : (t : Tree) (r : Result X Fault) (s : Result (Option X) Fault) → unless_null (find n ms) ≡ Some t
       → AtMember n r s → ReadAs view r k t → RowReadAs (optional_form view) s o (row n optional k) ms
   row_read t r s e up h =

@@ -1,5 +1,5 @@
--- What mutually recursive readers return, put together in the words of their contracts: what was read, that the count of looks
--- rises, and how far.
+-- What mutually recursive readers return, in the words of their contracts: what was read, that the access count does not
+-- fall, and how far it rises.
 use Rattle.std.proofs.Common.{◌≡◌, ◌+◌, ◌*◌, ◌≤◌, ℕ, List, [], Option, Some, None, Result, Ok, Err, refl, sym, ap}
 use Rattle.std.proofs.Common.{subst, arith, slice_get, take, length}
 use Rattle.std.proofs.lemmas.List.{take_all}
@@ -22,28 +22,29 @@ use Rattle.openapi_fields.proofs.PresentRows.{row_gone, row_read}
 use Rattle.openapi_fields.proofs.EntryReading.{AreRead, all_read, entry_refused, listed_read, none_listed, none_read}
 use Rattle.openapi_fields.proofs.EntryReading.{one_read, table_read}
 
--- what was read of a view
+-- what was read from a view, and how far the access count rose
 abbrev pub ReadView : {X : Type 0} → (X → Form) → Result X Fault → Kind → Tree → ℕ → ℕ → Type 0
 ReadView view r k t before after = record {
   reads : ReadAs view r k t;
   count : RisesBelow before after (3 * size_of t);
 }
 
--- what was read of the rows among members
+-- what was read for the rows of a kind from members, and how far the access count rose
 abbrev pub ReadRows : {X : Type 0} → (X → List Form) → Result X Fault → Kind → Members → ℕ → ℕ → Type 0
 ReadRows rows r k ms before after = record {
   reads : RowsReadAs rows r k ms;
   count : RisesBy before after (3 * rows_weight (rows_asked final_tables k) ms);
 }
 
--- what was read of the entries of a map
+-- what was read from the entries of a map, and how far the access count rose
 abbrev pub ReadMap : {X : Type 0} → (Entries X → Form) → Result (Entries X) Fault → Kind → Members → ℕ → ℕ → Type 0
 ReadMap view r k ms before after = record {
   reads : ReadAs view r k (object ms);
   count : RisesBy before after (3 * members_size ms);
 }
 
--- an object by a table, by what its fields give; its form is that of the same fields, seen from outside
+-- an object of a field table, given what its fields read. `fields` and `rows` are the same function, and the form of the
+-- object is stated with `rows`
 pub object_read : {X : Type 0} (fields rows : X → List Form) → fields ≡ rows → (i : TableName) (r : Result X Fault)
     (ms : Members) (t : Tree) (before after : ℕ) → t ≡ object ms → ReadRows fields r (by i) ms before after
     → ReadView (record_form rows) r (by i) t before after
@@ -53,7 +54,7 @@ object_read fields rows same i r ms t before after e h =
       count = (h.count.0, omega (arith, ap size_of e, record_weight i ms, h.count.1));
     }
 
--- a map, by what its entries give
+-- a map, given what was read from its entries
 pub map_read : {X : Type 0} (view : Entries X → Form) (k : Kind) (r : Result (Entries X) Fault) (ms : Members) (t : Tree)
     (before after : ℕ) → t ≡ object ms → ReadMap view r k ms before after → ReadView view r k t before after
 map_read view k r ms t before after e h =
@@ -65,14 +66,14 @@ map_read view k r ms t before after e h =
 -- a row whose member may be missing or null
 module _ {X : Type 0} (view : X → Form) (o : Kind) (n : List ℕ) (k : Kind) (ms : Members)
     (at : row_where (is_named n) (rows_asked final_tables o) ≡ Some (row n optional k)) where
-  -- what was read of the row
+  -- what was read for the row, and how far the access count rose
   abbrev pub ReadPresent : Result (Option X) Fault → ℕ → ℕ → Type 0
   ReadPresent r before after = record {
     reads : RowReadAs (optional_form view) r o (row n optional k) ms;
     count : RisesBy before after (3 * row_weight (row n optional k) ms);
   }
 
-  -- where nothing but null stands under its name, the row reads that there is no value
+  -- if its member is missing or null, the row reads that there is no value
   pub none_present : (before after : ℕ) → IsGone n ms before after → ReadPresent (Ok None) before after
   none_present before after h =
       record {
@@ -80,8 +81,8 @@ module _ {X : Type 0} (view : X → Form) (o : Kind) (n : List ℕ) (k : Kind) (
         count = (h.rises, omega (arith, h.counted, weight_of_name n optional optional k any_tree ms));
       }
 
-  -- where a tree other than null stands there, what was read of it is what the row reads, and a
-  -- refusal of it is one of the object
+  -- if its member exists and is not null, what was read from its value is what the row reads. An error about its value is an
+  -- error about the object
   pub read_present : {t : Tree} {before looked after : ℕ} (r : Result X Fault) (s : Result (Option X) Fault)
       → IsThere n ms before looked t → AtMember n r s → ReadAs view r k t → RisesBelow looked after (3 * size_of t + 1)
       → ReadPresent s before after
@@ -94,17 +95,17 @@ module _ {X : Type 0} (view : X → Form) (o : Kind) (n : List ℕ) (k : Kind) (
         );
       }
 
--- a row of a map that is empty where its member is missing
+-- a row of a map, which is empty if its member is missing
 module _ {X : Type 0} (view : X → Form) (o : Kind) (n : List ℕ) (k : Kind) (ms : Members)
     (at : row_where (is_named n) (rows_asked final_tables o) ≡ Some (row n listed (map_of k))) where
-  -- what was read of the row
+  -- what was read for the row, and how far the access count rose
   abbrev pub ReadRow : Result (Entries X) Fault → ℕ → ℕ → Type 0
   ReadRow r before after = record {
     reads : RowReadAs (map_form view) r o (row n listed (map_of k)) ms;
     count : RisesBy before after (3 * row_weight (row n listed (map_of k)) ms);
   }
 
-  -- where the member is missing, the row reads an empty map, and nothing is looked at
+  -- if the member is missing, the row reads an empty map, and no node is accessed
   pub no_map : (vs : Entries X) (before after : ℕ) → vs ≡ [] → (find n ms ≡ None) × (after ≡ before)
       → ReadRow (Ok vs) before after
   no_map vs before after e h =
@@ -113,7 +114,7 @@ module _ {X : Type 0} (view : X → Form) (o : Kind) (n : List ℕ) (k : Kind) (
         count = (omega (arith, h.1), omega (arith, h.1));
       }
 
-  -- where something other than an object stands there, its refusal is one of the object around it
+  -- if the value of the member is no object, the error about it is an error about the object around it
   pub no_map_at : (f : Fault) (before after : ℕ) → NoMapAt n ms before after f → ReadRow (Err f) before after
   no_map_at f before after h =
       record {
@@ -130,8 +131,8 @@ module _ {X : Type 0} (view : X → Form) (o : Kind) (n : List ℕ) (k : Kind) (
         );
       }
 
-  -- where an object stands there, what was read of its entries is what the row reads, and a
-  -- refusal of it is one of the object around it
+  -- if the value of the member is an object, what was read from its entries is what the row reads. An error about it is an
+  -- error about the object around it
   pub map_at : {es : Members} (r s : Result (Entries X) Fault) {before looked after : ℕ}
       → IsMapAt n ms before looked es → AtStep (named n) r s → ReadMap (map_form view) r (map_of k) es looked after
       → ReadRow s before after
@@ -151,18 +152,18 @@ module _ {X : Type 0} (view : X → Form) (o : Kind) (n : List ℕ) (k : Kind) (
 
 -- the entries of a map, read one after another
 module _ {X : Type 0} (view : X → Form) (k : Kind) (es : Entries Tree) (before : ℕ) where
-  -- those that were read so far
+  -- the first `i` entries were read as the values `vs`, and the access count rose by at most three for each value in them
   abbrev pub SoFar : ℕ → Entries X → ℕ → Type 0
   SoFar i vs after = record {
     read : AreRead view k (take i es) vs;
     count : RisesBy before after (3 * members_size (members_of (take i es)));
   }
 
-  -- none at first, and no look was taken yet
+  -- at first, no entry was read, and no node was accessed
   pub none_so_far : (vs : Entries X) → vs ≡ [] → SoFar 0 vs before
   none_so_far vs e = record { read = none_read view k vs e; count = (omega arith, omega arith) }
 
-  -- at the end, the values that were read are what is read of the map
+  -- at the end, the values that were read are what is read from the map
   pub all_so_far : (i : ℕ) (vs : Entries X) (after : ℕ) → length es ≤ i → SoFar i vs after
       → ReadMap (map_form view) (Ok vs) (map_of k) (members_of es) before after
   all_so_far i vs after end h =
@@ -172,7 +173,7 @@ module _ {X : Type 0} (view : X → Form) (k : Kind) (es : Entries Tree) (before
         count = (h.count.0, omega (arith, ap (λ ds. members_size (members_of ds)) all, h.count.1));
       }
 
-  -- the next of them
+  -- the next entry
   module _ (i : ℕ) {n : List ℕ} {u t : Tree} {old : Entries X} (new : Entries X) {looked next after : ℕ}
       (r : Result X Fault) (q : Result (Unit {0}) Fault) (at : slice_get es i ≡ Some (n, u)) (h : SoFar i old looked)
       (look : record { shown : t ≡ u; counted : next ≡ looked + 1 }) (reads : ReadAs view r k t)
@@ -181,7 +182,7 @@ module _ {X : Type 0} (view : X → Form) (k : Kind) (es : Entries Tree) (before
     was_put : PutRead view k u n q old new
     was_put = put view k u (subst (λ v. ReadAs view r k v) look.shown reads)
 
-    -- where what was read of it is put last, the entries are read as far as it
+    -- if the value that was read for it is appended, the entries up to and including it were read
     pub next_so_far : q ≡ Ok tt → SoFar (i + 1) new after
     next_so_far is =
         let entry = next_member es i (n, u) at in
@@ -193,7 +194,7 @@ module _ {X : Type 0} (view : X → Form) (k : Kind) (es : Entries Tree) (before
           );
         }
 
-    -- where reading it or putting it fails, that is a refusal of the map
+    -- if reading it or appending it fails, that is an error about the map
     pub next_refused : (f : Fault) → q ≡ Err f
         → ReadMap (map_form view) (Err f) (map_of k) (members_of es) before after
     next_refused f is =

@@ -1,4 +1,4 @@
--- What is read of a tree where a reference may stand: the reference, or what is read of the tree itself.
+-- What is read from a node that a reference may replace: the reference, or what is read from the node itself.
 use Rattle.std.proofs.Common.{◌≡◌, ℕ, true, List, Some, None, refl, sym, ap, ◌∙◌, subst, inr}
 use Rattle.std.specs.Borrow.{Bor}
 use Rattle.openapi_map.specs.declared.OrderedMap.{OrderedMap}
@@ -25,7 +25,8 @@ use Rattle.openapi_values.specs.declared.reference.ReferenceOr.TheVariants as v
 use Rattle.openapi_fields.specs.Returned.{FailsBy, Fails, Reads}
 use Rattle.openapi_fields.specs.References.{reference_in}
 
--- a refusal moves to where all that is broken there is broken too
+-- if each cause at a location in `t` under `k` is also at that location in `u` under `l`, an error about `t` under `k` is
+-- one about `u` under `l`
 pub fails_moved : (f : Fault) (k l : Kind) (t u : Tree)
     → ((p : Place) (c : faults.Cause) → Broken final_tables k t p c → Broken final_tables l u p c) → Fails f k t
     → Fails f l u
@@ -41,7 +42,7 @@ fails_moved f k l t u move h = go f.cause h
     go NotWhole b = b
     go Memory b = b
 
--- as where another kind asks of a tree all that the kind asks of it
+-- if each requirement of `k` for a node is also a requirement of `l`, an error about the node under `k` is one under `l`
 pub fails_wider : (f : Fault) (k l : Kind) (t : Tree)
     → ((a : Asking) → Among a (asked final_tables k t) → Among a (asked final_tables l t)) → Fails f k t → Fails f l t
 fails_wider f k l t leads h =
@@ -76,7 +77,7 @@ module _ (k : Kind) where
   asked_or t n a h = inr h
 
   module _ {X : Type 0} (form_of : X → Form) (t : Tree) where
-    -- a reference
+    -- a node that is a reference conforms, and its form is that reference
     pub reads_reference : (s : List ℕ) → reference_in t ≡ Some s
         → (conforms final_tables (ref_to k) t ≡ true) × (form final_tables (ref_to k) t ≡ reference s)
     reads_reference s e = (
@@ -84,7 +85,7 @@ module _ (k : Kind) where
       form_or t ∙ ap (λ r. reference_or_item r (form final_tables k t)) e,
     )
 
-    -- an item
+    -- if the node is no reference, what was read from it as an item is what is read from it
     pub reads_item : (x : X) → reference_in t ≡ None → Reads form_of x k t
         → Reads (reference_form form_of) (v.Item x) (ref_to k) t
     reads_item x e h = (
@@ -92,24 +93,24 @@ module _ (k : Kind) where
       form_or t ∙ (λ i. reference_or_item (e i) (h.1 i)),
     )
 
-    -- a refusal of an item: where the tree is no reference, what the item's kind refuses is refused
+    -- if the node is no reference, an error about it under the kind of the item is an error under the kind `ref_to`
     pub fails_item : (f : Fault) → reference_in t ≡ None → Fails f k t → Fails f (ref_to k) t
     fails_item f e h = fails_wider f k (ref_to k) t (asked_or t e) h
 
--- a look that shows no object shows no reference
+-- a view of anything but an object is not of a reference
 pub no_reference : (w : View) → ((m : Bor (OrderedMap Node)) → w ≡ view.Object m → ⊥) → reference_in (shown w) ≡ None
 no_reference (view.Object m) h = absurd (h m refl)
 no_reference w h = refl
 
--- what stands under a name
+-- `held` returns the value of a member that exists
 pub held_found : (n : List ℕ) (ms : Members) (u : Tree) → find n ms ≡ Some u → held n (members_list ms) ≡ u
 held_found n ms u e = ap first_tree (own-found n required any_tree ms u e).is
 
--- what stands under a name that is missing counts as null
+-- `held` returns null for a name that is missing
 pub held_missing : (n : List ℕ) (ms : Members) → find n ms ≡ None → held n (members_list ms) ≡ null
 held_missing n ms e = ap first_tree (own-missing n required any_tree ms e)
 
--- a look that shows no text
+-- a view of anything but a string has no text
 pub no_text_in : (w : View) → ((s : Bor (List ℕ)) → w ≡ view.Text s → ⊥) → text_in (shown w) ≡ None
 no_text_in (view.Text s) h = absurd (h s refl)
 no_text_in w h = refl

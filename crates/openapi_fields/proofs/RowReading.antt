@@ -1,4 +1,4 @@
--- What a row of a name reads, by what is read of the member of that name.
+-- What a row of a name reads, given what is read from the member of that name.
 use Rattle.std.proofs.Common.{◌≡◌, ℕ, Bool, true, false, ◌&&◌, ◌||◌, cond, List, Option, Some, None, Result, Ok, Err}
 use Rattle.std.proofs.Common.{refl, sym, ap, ◌∙◌, true≢false, if◌then◌else◌}
 use Rattle.std.proofs.lemmas.Bool.{and_parts}
@@ -17,13 +17,13 @@ use Rattle.openapi_fields.specs.Forms.{optional_form}
 use Rattle.openapi_fields.specs.Returned.{Fails, Reads, RowReadAs, MemberReadAs, unless_null}
 use Rattle.openapi_fields.proofs.Below.{fails_above}
 
--- a row's weight is that of its name
+-- how many values the members that a row takes contain depends only on its name
 pub weight_of_name : (n : List ℕ) (m l : Mode) (k j : Kind) (ms : Members) → row_weight (row n m k) ms
     ≡ row_weight (row n l j) ms
 unfolding row_weight
 weight_of_name n m l k j ms = refl
 
--- null is refused under a mode that does not skip it, or it is the form of a row without a member
+-- if null conforms under a mode that does not skip it, its form is that of a row without a member
 null_kept : (m : Mode) (k : Kind) → mode_fits m k ≡ true → skips_null m ≡ false → conforms final_tables k null ≡ true
     → default_of m k ≡ form final_tables k null
 null_kept required k h s e = absurd (true≢false (sym e ∙ null_refused final_tables k h))
@@ -42,7 +42,7 @@ slot_kept : (m : Mode) (k : Kind) (u : Tree) → mode_fits m k ≡ true → skip
 slot_kept m k null h s e = null_kept m k h s e
 slot_kept m k u h s e = refl
 
--- the row of a name of an object kind
+-- the row of a name among the rows of an object kind
 module _ (o : Kind) (n : List ℕ) (m : Mode) (k : Kind) (ms : Members)
     (at : row_where (is_named n) (rows_asked final_tables o) ≡ Some (row n m k)) where
   fits : mode_fits m k ≡ true
@@ -50,11 +50,11 @@ module _ (o : Kind) (n : List ℕ) (m : Mode) (k : Kind) (ms : Members)
       (and_parts (mode_fits m k) (sound final_tables k) (where_each (λ w. row_sound final_tables w ≡ true) (is_named n)
       (rows_asked final_tables o) (row n m k) (asked_sound final_tables final_sound o) at)).0
 
-  -- a member that is missing
+  -- if the member is missing and may be missing, the row reads its default
   pub row_default : find n ms ≡ None → may_miss m ≡ true → RowGives final_tables (row n m k) ms (default_of m k)
   row_default none h = (conforms-missing final_tables n m k ms none ∙ h, form-missing final_tables n m k ms none)
 
-  -- a member that is there
+  -- if the member exists and is not skipped, what was read from its value is what the row reads
   pub row_found : {X : Type 0} (view : X → Form) (x : X) (u : Tree) → find n ms ≡ Some u
       → (skips_null m && is_null u) ≡ false → cond (is_null u) (default_of m k) (form final_tables k u)
       ≡ form final_tables k u
@@ -66,9 +66,9 @@ module _ (o : Kind) (n : List ℕ) (m : Mode) (k : Kind) (ms : Members)
   )
 
   module _ {X : Type 0} (view : X → Form) where
-    -- where null is given to the kind
+    -- the case that null does not count as missing
     module _ (gives : skips_null m ≡ false) where
-      -- what was read of the member is what the row reads
+      -- what was read from the member is what the row reads
       pub member_row : (x : X) → MemberReadAs view (Ok (Some x)) k n (find n ms)
           → RowGives final_tables (row n m k) ms (view x)
       member_row x h = go (find n ms) refl h
@@ -79,7 +79,7 @@ module _ (o : Kind) (n : List ℕ) (m : Mode) (k : Kind) (ms : Members)
           go (Some u) e r =
               row_found view x u e (ap (λ b. b && is_null u) gives) (slot_kept m k u fits gives r.0) r
 
-      -- a refusal of the member is a refusal of the object
+      -- an error about the member is an error about the object
       pub member_fails : (f : Fault) → MemberReadAs view (Err f) k n (find n ms) → Fails f o (object ms)
       member_fails f h = go (find n ms) refl h
         where
@@ -89,7 +89,7 @@ module _ (o : Kind) (n : List ℕ) (m : Mode) (k : Kind) (ms : Members)
               fails_above (named n) f o k (object ms) u
               (row_asks final_tables o n m k ms u at e (ap (λ b. b && is_null u) gives)) r
 
-    -- where no value was read and nothing was refused, the member is missing
+    -- if no value was read and there is no error, the member is missing
     pub member_missing : MemberReadAs view (Ok None) k n (find n ms) → find n ms ≡ None
     member_missing h = go (find n ms) h
       where
@@ -97,7 +97,7 @@ module _ (o : Kind) (n : List ℕ) (m : Mode) (k : Kind) (ms : Members)
         go None r = refl
         go (Some u) r = absurd r
 
-    -- where null counts as missing
+    -- the case that null counts as missing
     module _ (skips : skips_null m ≡ true) (none : default_of m k ≡ absent) where
       misses : may_miss m ≡ true
       misses = may m skips
@@ -131,8 +131,8 @@ module _ (o : Kind) (n : List ℕ) (m : Mode) (k : Kind) (ms : Members)
       gone a (Ok (Some x)) r = absurd r
       gone a (Err f) r = absurd r
 
-      -- what was read of the member, or that there is none but null, is what the row reads, and a
-      -- refusal of it is one of the object
+      -- what was read from the member, or no value if it is missing or null, is what the row reads. An error about the
+      -- member is an error about the object
       pub present_row : (r : Result (Option X) Fault) → MemberReadAs view r k n (unless_null (find n ms))
           → RowReadAs (optional_form view) r o (row n m k) ms
       present_row r h = go (find n ms) refl h

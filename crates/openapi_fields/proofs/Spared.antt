@@ -1,4 +1,4 @@
--- The objects in whose place a reference may stand hold no name of their own under `$ref`.
+-- The objects that a reference may replace: one that has no string at `$ref` is written as an object that has none.
 use Rattle.std.proofs.Common.{◌≡◌, true, refl}
 use Rattle.openapi_tables.specs.Kind.{by, example, header, link, path_item, request_body, response}
 use Rattle.openapi_tables.specs.Sound.{under_ref}

@@ -1,4 +1,4 @@
--- Objects whose tag says by which table they are read.
+-- Objects whose tag selects the field table by which they are read.
 use Rattle.std.proofs.Common.{◌≡◌, ℕ, ◌+◌, ◌*◌, ◌≤◌, Bool, true, false, cond, ◌&&◌, ◌||◌, List, [], ◌∷◌, ◌++◌, Option}
 use Rattle.std.proofs.Common.{Some, None, Result, Ok, Err, OnOk, IfOk, refl, sym, ap, ◌∙◌, subst, arith, inl, inr}
 use Rattle.std.proofs.lemmas.Bool.{and_parts}
@@ -37,7 +37,7 @@ use Rattle.openapi_fields.specs.Reading.{IsCaseRead}
 use Rattle.openapi_fields.specs.Returned.{ReadAs, RowsReadAs, RisesBelow, RisesBy, looks}
 use Rattle.openapi_fields.proofs.Referring.{fails_wider, held_found, held_missing}
 
--- the kinds with a tag are well made
+-- the kind of a security scheme is well made
 pub security_scheme_sound : sound final_tables security_scheme ≡ true
 unfolding final_tables tables_with
 security_scheme_sound = refl
@@ -47,7 +47,7 @@ pub parameter_sound : sound final_tables parameter ≡ true
 unfolding final_tables tables_with
 parameter_sound = refl
 
--- the rows of a tag are those of its table
+-- the rows that the text of a tag selects are those of its table
 case_table : (cs : List Case) (s : List ℕ) → is_case cs s ≡ true
     → case_rows final_tables cs s ≡ final_tables (tag_table cs s)
 case_table [] s h = cc
@@ -82,7 +82,7 @@ case_apart n (c ∷ cs) s h w = go (λ g. case_apart n cs s g rest) (same_text c
         subst (λ t. rows_apart (constant n t ∷ final_tables c.table) ≡ true) (same_text_eq c.word s q) first
     go more false q g = more g
 
--- what a name takes of members, where it is there
+-- the members that the row of a name takes, if a member has the name
 module _ (n : List ℕ) (v : List ℕ) (ms : Members) (u : Tree) (there : find n ms ≡ Some u) where
   seen : {X : Type 0} (f : Shape (Seen X) → X) → own (constant n v) (of_members f ms)
       ≡ on_entry (see f) (entry n u) ∷ each (on_entry (see f)) (own-found n required any_tree ms u there).rest
@@ -96,7 +96,7 @@ tag_there n s ms h = go (find n ms) refl
     go None e = let no : null ≡ text s = sym (held_missing n ms e) ∙ h in cc
     go (Some u) e = ap Some (sym (held_found n ms u e) ∙ h)
 
--- an object whose tag is known
+-- an object whose tag has one of the words
 module _ (n : List ℕ) (cs : List Case) (s : List ℕ) (ms : Members) (at : held n (members_list ms) ≡ text s)
     (one_of_them : is_case cs s ≡ true) where
   the_choice : {X : Type 0} (f : Shape (Seen X) → X)
@@ -134,7 +134,7 @@ module _ (n : List ℕ) (cs : List Case) (s : List ℕ) (ms : Members) (at : hel
       (asks_tag final_tables n cs es (choice (tagged n cs) (trees es)))
       (subst (λ o. Among a (asks_tag final_tables n cs es o)) (sym (the_choice (root_asks final_tables))) h))
 
-  -- what is read by the table of the tag is read of the object
+  -- what is read by the table of the tag is what is read from the object, and an error is an error about the object
   pub tagged_gives : {X : Type 0} (word : X → List ℕ) (rows : X → List Form) (r : Result X Fault)
       → IfOk r (λ x. word x ≡ s) → RowsReadAs rows r (by (tag_table cs s)) ms
       → ReadAs (tagged_form word rows) r (tagged n cs) (object ms)
@@ -144,14 +144,14 @@ module _ (n : List ℕ) (cs : List Case) (s : List ℕ) (ms : Members) (at : hel
   tagged_gives word rows (Err f) w h =
       fails_wider f (by (tag_table cs s)) (tagged n cs) (object ms) tagged_asks h
 
-  -- the tag and the rows of its table weigh at most what the members do
+  -- the members that the tag and the rows of its table take contain at most as many values as all members
   pub tagged_weight : (k : Kind) → sound final_tables (tagged n cs) ≡ true
       → row_weight (row n required k) ms + rows_weight (final_tables (tag_table cs s)) ms ≤ members_size ms
   unfolding row_weight
   tagged_weight k w =
       rows_weight-le (constant n s ∷ final_tables (tag_table cs s)) ms (case_apart n cs s one_of_them w)
 
-  -- an object whose tag is known, by what the rows of its table give
+  -- what is read from the object, and how far the access count rises, given what the reader of the case returned
   pub tagged_read : {X : Type 0} (word_of : X → List ℕ) (rows : X → List Form) (k : Kind) (r : Result X Fault)
       {before looked after : ℕ} → sound final_tables (tagged n cs) ≡ true
       → RisesBy before looked (3 * row_weight (row n required k) ms)
@@ -169,14 +169,14 @@ module _ (n : List ℕ) (cs : List Case) (s : List ℕ) (ms : Members) (at : hel
         );
       }
 
--- an object that lacks its tag
+-- the fault of an object that lacks its tag is that the tag is missing
 pub tag_missing : (n : List ℕ) (cs : List Case) (ms : Members) → find n ms ≡ None
     → Broken final_tables (tagged n cs) (object ms) [] (missing n)
 tag_missing n cs ms none =
     broken_root final_tables (tagged n cs) (object ms) (missing n)
     (subst (λ l. Among (missing n) (tag_misses n l)) (sym (own-missing n required any_tree ms none)) (inl refl))
 
--- the set of its tag is asked of what stands there
+-- that the value of the tag is one of the words is a requirement of the object, at the name of the tag
 pub tag_asks : (n : List ℕ) (cs : List Case) (ms : Members) (u : Tree) → find n ms ≡ Some u
     → StepsTo final_tables (tagged n cs) (object ms) (named n) (one_of (words cs)) u
 tag_asks n cs ms u there p j v h =
@@ -197,7 +197,8 @@ module _ (n : List ℕ) (cs : List Case) {X : Type 0} (word : X → List ℕ) (r
       ap (λ b. tag_choice cs (first_tree (cond b (one n (text (word x))) []))) (same_text-refl n)
       ∙ ap (λ b. cond b (Some (tag (word x))) None) one_of_them
 
-  -- the members of its slots make the object that it is written as, and nothing is lost
+  -- the object of the members that its slots are written as is what its form is written as, and nothing in the form is
+  -- unwritable
   pub tagged_writes : (node : Tree) (out : Entries Tree) → IsWritten final_tables (tagged_slots n cs word rows x) out
       → node ≡ object (members_of out)
       → (node ≡ print final_tables (tagged n cs) (tagged_form word rows x))
@@ -211,14 +212,14 @@ module _ (n : List ℕ) (cs : List Case) {X : Type 0} (word : X → List ℕ) (r
         ∙ g.nothing_lost,
   )
 
-  -- what its slots lose is what it loses
+  -- what is unwritable in its slots is what is unwritable in its form
   pub tagged_loses : slots_lost final_tables (tagged_slots n cs word rows x)
       ≡ unwritable final_tables (tagged n cs) (tagged_form word rows x)
   unfolding rows_of
   tagged_loses =
       sym (fields_lost final_tables (tagged n cs) (tag (word x)) (one n (text (word x))) (absent ∷ rows x) chosen_by)
 
-  -- no two of its slots take the same name
+  -- no name is taken by two of its slots, if its kind is well made
   pub tagged_apart : sound final_tables (tagged n cs) ≡ true
       → slots_apart (tagged_slots n cs word rows x) ≡ true
   tagged_apart w =
@@ -226,14 +227,14 @@ module _ (n : List ℕ) (cs : List Case) {X : Type 0} (word : X → List ℕ) (r
       (subst (λ ws. rows_apart (constant n (word x) ∷ ws) ≡ true) (sym (case_table cs (word x) one_of_them))
       (case_apart n cs (word x) one_of_them w))
 
--- the tag, written behind the members that are there
+-- the tag, written after the members of the slots before
 module _ (ss : List Slot) (n v : List ℕ) (at : slot_where (is_named n) ss ≡ Some (constant n v, absent))
     (out : Entries Tree) (done : IsWritten final_tables (before (is_named n) ss) out) where
-  -- its name is not there yet, where no two of the slots take the same name
+  -- if no name is taken by two slots, its name is not among the members written so far
   pub tag_new : slots_apart ss ≡ true → get n out ≡ None
   tag_new a = is_new final_tables ss (is_named n) (constant n v, absent) at out done a n (same_text-refl n)
 
-  -- where its word is put last under its name, the slots as far as the tag are written
+  -- if a member of its name and its word is appended, the slots up to and including the tag are written
   pub tag_put : {A : Type 0} (r : Result A Fault) (new : Entries Tree) (t : Tree) → t ≡ text v
       → OnOk r (new ≡ out ++ (n, t) ∷ []) → OnOk r (IsWritten final_tables (through (is_named n) ss) new)
   tag_put (Ok x) new t q e =
@@ -241,12 +242,12 @@ module _ (ss : List Slot) (n v : List ℕ) (at : slot_where (is_named n) ss ≡ 
       refl (e ∙ ap (λ u. out ++ (n, u) ∷ []) q)
   tag_put (Err g) new t q e = tt
 
--- a look that shows no object
+-- a view of anything but an object is of the wrong kind, where an object with a tag is expected
 pub not_tagged : (n : List ℕ) (cs : List Case) (w : View) → ((m : Bor (OrderedMap Node)) → w ≡ v.Object m → ⊥)
     → Among (wrong_kind expected.Object) (causes final_tables (tagged n cs) (shown w))
 not_tagged n cs (v.Object m) h = absurd (h m refl)
 not_tagged n cs w h = inl refl
 
--- the tag alone weighs at most what the members do
+-- the members that the tag alone takes contain at most as many values as all members
 pub tag_weight : (n : List ℕ) (k : Kind) (ms : Members) → row_weight (row n required k) ms ≤ members_size ms
 tag_weight n k ms = omega (arith, rows_weight-le (row n required k ∷ []) ms refl)

@@ -1,5 +1,5 @@
--- The entries of an object whose names pass a test, read one after another: what was read so far, and how many looks were
--- taken.
+-- The entries of an object whose names pass a test, read one after another: what was read so far, and how far the access
+-- count rose.
 use Rattle.std.proofs.Common.{◌≡◌, ℕ, ◌+◌, ◌*◌, ◌≤◌, Bool, true, false, List, [], take, length, slice_get, Some, None, Ok, Err, refl, sym, ap, ◌∙◌, inl, inr, ⊎_elim, subst, arith, Result}
 use Rattle.std.proofs.lemmas.List.{take_all}
 use Rattle.openapi_map.specs.Entries.{Entries, get, HasDistinctNames}
@@ -11,23 +11,23 @@ use Rattle.openapi_fields.specs.Reading.{PutRead}
 use Rattle.openapi_fields.specs.Returned.{RisesBelow, RisesBy}
 use Rattle.openapi_fields.proofs.Chosen.{entry_fails, next_holds, next_new, next_same, next_size, next_skipped, next_within}
 
--- some of the entries whose names pass a test were read
+-- the entries in `es` whose names pass a test were read as the values `vs`
 pub record AreTaken {X : Type 0} (p : List ℕ → Bool) (view : X → Form) (k : Kind) (es : Entries Tree) (vs : Entries X)
     : Type 0 where
   pub holds : every (λ (e : List ℕ × Tree). conforms final_tables k e.1) (chosen p es) ≡ true
   pub same : pairs_of (form final_tables k) (chosen p es) ≡ pairs_of view vs
 
 module _ {X : Type 0} (p : List ℕ → Bool) (view : X → Form) (k : Kind) where
-  -- none at first
+  -- at first, no entry was read
   pub none_taken : (vs : Entries X) → vs ≡ [] → AreTaken p view k [] vs
   none_taken vs e = record { holds = refl; same = sym (ap (pairs_of view) e) }
 
-  -- all of them
+  -- if all entries were read, their values are what is read from the entries
   pub all_taken : (es : Entries Tree) (vs : Entries X) → AreTaken p view k es vs
       → EntriesReadAs view (Ok vs) k (chosen p es)
   all_taken es vs h = (h.holds, h.same)
 
-  -- the next of them
+  -- the next entry
   module _ (es : Entries Tree) (i : ℕ) (n : List ℕ) (u : Tree) (at : slice_get es i ≡ Some (n, u)) (old : Entries X) where
     -- it does not pass the test
     pub none_passed : p n ≡ false → AreTaken p view k (take i es) old → AreTaken p view k (take (i + 1) es) old
@@ -40,11 +40,11 @@ module _ {X : Type 0} (p : List ℕ → Bool) (view : X → Form) (k : Kind) whe
 
     -- it passes the test
     module _ (yes : p n ≡ true) where
-      -- its name is not among those read so far, where no name stands twice
+      -- if no name of the entries is repeated, its name is not among those read so far
       pub name_untaken : HasDistinctNames es → AreTaken p view k (take i es) old → get n old ≡ None
       name_untaken d h = next_new p es i n u at yes view k old d h.same
 
-      -- where what was read of it is put last, the entries are read as far as it
+      -- if the value that was read for it is appended, the entries up to and including it were read
       pub one_taken : (new : Entries X) → AreTaken p view k (take i es) old → PutRead view k u n (Ok tt) old new
           → AreTaken p view k (take (i + 1) es) new
       one_taken new h q =
@@ -53,38 +53,39 @@ module _ {X : Type 0} (p : List ℕ → Bool) (view : X → Form) (k : Kind) whe
             same = next_same p es i n u at yes view k old new q.0 h.same q.2.1 q.1;
           }
 
-      -- where reading it or putting it fails, that is a refusal of the entries
+      -- if reading it or appending it fails, that is an error about the entries
       pub one_refused : (f : Fault) (new : Entries X) → PutRead view k u n (Err f) old new
           → EntriesReadAs view (Err f) k (chosen p es)
       one_refused f new q = ⊎_elim (λ m. inl m) (λ h. inr (entry_fails p es i n u k f at yes h)) q
 
--- a value that was looked at, and then read by its view, took at most three looks for each value in it
+-- a value that was accessed, and then read by its view, took at most three node accesses for each value in it
 pub looked_into : {t u : Tree} {looked next after : ℕ} → record { shown : t ≡ u; counted : next ≡ looked + 1 }
     → RisesBelow next after (3 * size_of t) → RisesBy looked after (3 * size_of u)
 looked_into look count =
     (omega (arith, look.counted, count.0), omega (arith, ap size_of look.shown, look.counted, count.1))
 
--- the same with the count of looks
+-- the entries that are read one after another, with the access count
 module _ {X : Type 0} (p : List ℕ → Bool) (view : X → Form) (k : Kind) (es : Entries Tree) (before : ℕ) where
-  -- those that were read so far
+  -- those of the first `i` entries whose names pass the test were read as `vs`, and the access count rose by at most three
+  -- for each value in them
   abbrev pub TakenSoFar : ℕ → Entries X → ℕ → Type 0
   TakenSoFar i vs after = record {
     read : AreTaken p view k (take i es) vs;
     count : RisesBy before after (3 * entries_size (chosen p (take i es)));
   }
 
-  -- what was read of all of them
+  -- what was read from all of them, and how far the access count rose
   abbrev pub ReadTaken : Result (Entries X) Fault → ℕ → Type 0
   ReadTaken r after = record {
     reads : EntriesReadAs view r k (chosen p es);
     count : RisesBy before after (3 * entries_size (chosen p es));
   }
 
-  -- none at first, and no look was taken yet
+  -- at first, no entry was read, and no node was accessed
   pub none_yet : (vs : Entries X) → vs ≡ [] → TakenSoFar 0 vs before
   none_yet vs e = record { read = none_taken p view k vs e; count = (omega arith, omega arith) }
 
-  -- at the end, the values that were read are what is read of the entries
+  -- at the end, the values that were read are what is read from the entries
   pub taken_all : (i : ℕ) (vs : Entries X) (after : ℕ) → length es ≤ i → TakenSoFar i vs after → ReadTaken (Ok vs) after
   taken_all i vs after end h =
       let all = take_all i es end in
@@ -93,7 +94,7 @@ module _ {X : Type 0} (p : List ℕ → Bool) (view : X → Form) (k : Kind) (es
         count = (h.count.0, omega (arith, ap (λ ds. entries_size (chosen p ds)) all, h.count.1));
       }
 
-  -- the next of them
+  -- the next entry
   module _ (i : ℕ) {n : List ℕ} {u : Tree} {old : Entries X} {looked : ℕ} (at : slice_get es i ≡ Some (n, u))
       (h : TakenSoFar i old looked) where
     -- it does not pass the test
@@ -106,7 +107,7 @@ module _ {X : Type 0} (p : List ℕ → Bool) (view : X → Form) (k : Kind) (es
 
     -- it passes the test
     module _ (yes : p n ≡ true) (new : Entries X) {after : ℕ} (count : RisesBy looked after (3 * size_of u)) where
-      -- where what was read of it is put last, the entries are read as far as it
+      -- if the value that was read for it is appended, the entries up to and including it were read
       pub taken_next : PutRead view k u n (Ok tt) old new → TakenSoFar (i + 1) new after
       taken_next q =
           record {
@@ -117,7 +118,7 @@ module _ {X : Type 0} (p : List ℕ → Bool) (view : X → Form) (k : Kind) (es
             );
           }
 
-      -- where reading it or putting it fails, that is a refusal of the entries
+      -- if reading it or appending it fails, that is an error about the entries
       pub taken_refused : (f : Fault) → PutRead view k u n (Err f) old new → ReadTaken (Err f) after
       taken_refused f q =
           record {

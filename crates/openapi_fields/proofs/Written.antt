@@ -59,7 +59,7 @@ module _ {X : Type 0} (view : X → Form) (k : Kind) where
     here : take (i + 1) vs ≡ take i vs ++ (n, x) ∷ []
     here = take_next vs i (n, x) at
 
-    -- where it is put last as it is written, the entries are written as far as it
+    -- if the member that it is written as is appended, the entries up to and including it were written
     pub next_written : (first out new : Entries Tree) → out ≡ first ++ written_entries view k (take i vs)
         → new ≡ out ++ (n, print final_tables k (view x)) ∷ [] → new ≡ first ++ written_entries view k (take (i + 1) vs)
     next_written first out new h e =
@@ -67,13 +67,14 @@ module _ {X : Type 0} (view : X → Form) (k : Kind) where
         ∙ append_assoc first (written_entries view k (take i vs)) ((n, print final_tables k (view x)) ∷ [])
         ∙ ap (λ l. first ++ l) (sym (ap (written_entries view k) here ∙ written-append (take i vs) ((n, x) ∷ [])))
 
-    -- where the names before it pass a test and its own does, all names as far as it do
+    -- if the names before it and its own pass a test, all names up to and including its own pass it
     pub next_named : (p : List ℕ → Bool) → every (λ (e : List ℕ × X). p e.0) (take i vs) ≡ true → p n ≡ true
         → every (λ (e : List ℕ × X). p e.0) (take (i + 1) vs) ≡ true
     next_named p h e =
         ap (every (λ (e : List ℕ × X). p e.0)) here ∙ every-append (λ (e : List ℕ × X). p e.0) (take i vs) (n, x) h e
 
-    -- where nothing of the values before it is lost, nor of its own, nothing is lost as far as it
+    -- if nothing in the values before it or in its own is unwritable, nothing in the values up to and including its own is
+    -- unwritable
     pub next_whole : all_whole view k (take i vs) ≡ true → unwritable final_tables k (view x) ≡ []
         → all_whole view k (take (i + 1) vs) ≡ true
     next_whole h e =
@@ -81,7 +82,8 @@ module _ {X : Type 0} (view : X → Form) (k : Kind) where
         ∙ every-append (λ (e : List ℕ × X). is_empty (unwritable final_tables k (view e.1))) (take i vs) (n, x) h (ap
         is_empty e)
 
-    -- its name is not there yet, where no name stands twice and it was not there at first
+    -- if no name of the entries is repeated, and its name is not among the first members, it is not among the members
+    -- written so far
     pub next_absent : (first out : Entries Tree) → get n first ≡ None → HasDistinctNames vs
         → out ≡ first ++ written_entries view k (take i vs) → get n out ≡ None
     next_absent first out f d h =
@@ -89,12 +91,12 @@ module _ {X : Type 0} (view : X → Form) (k : Kind) where
         ∙ get_none-append first (written_entries view k (take i vs)) n f
         (get_none-written n (take i vs) (absent-next vs i (n, x) d at))
 
-    -- a refusal of its value is a refusal of the entries
+    -- an error of writing its value is an error of writing the entries
     pub entry_loses : (p : List ℕ → Bool) (f : Fault) → NotWritableBelow (named n) f (unwritable final_tables k (view x))
         → EntriesNotWritable p view k f vs
     entry_loses p f h = inr ((n, x), among_at vs i (n, x) at, inr h)
 
-    -- a refusal of its name, which does not pass the test, is a refusal of the entries
+    -- if its name does not pass the test, the error that it is not writable is an error of writing the entries
     pub name_loses : (p : List ℕ → Bool) (e f : Fault) → p n ≡ false → GoesUp (named n) e f → e.place.items ≡ []
         → e.cause ≡ NameNotWritable → EntriesNotWritable p view k f vs
     name_loses p e f out up q c =

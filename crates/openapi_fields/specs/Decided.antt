@@ -1,4 +1,4 @@
--- The member that decides between two names.
+-- The member that decides between two names: the first of the members that have one of the names.
 use Rattle.std.specs.Prelude.{◌≡◌, ℕ, false, List, Some, Result, Ok, Err}
 use Rattle.std.specs.Borrow.{Bor}
 use Rattle.std.specs.List.{slice_get}
@@ -16,11 +16,12 @@ use Rattle.openapi_fields.specs.Returned.{Fails}
 use Rattle.openapi_fields.specs.declared.either.Either.{Either}
 use Rattle.openapi_fields.specs.declared.either.Either.TheVariants.{First, Second}
 
--- a tree is that of the first member that has one of two names, under the name that it has
+-- the first member that has one of the names `a` and `b` has the name `n` and the value `u`
 abbrev pub Decides : List ℕ → List ℕ → List ℕ → Entries Tree → Tree → Type 0
 Decides a b n es u = slice_get (chosen (is_either a b) es) 0 ≡ Some (n, u)
 
--- what was found under the one of two names that decides, or a refusal of each object by a table that asks for one
+-- what is found for two names: the value of the name that decides, or an error for the object under each table that requires
+-- one of the two
 abbrev pub DeciderFound : List ℕ → List ℕ → Result (Either (Bor Node) (Bor Node)) Fault → Entries Tree → Type 0
 DeciderFound a b (Ok (First u)) es = Decides a b a es u.now
 DeciderFound a b (Ok (Second u)) es = Decides a b b es u.now × (same_text a b ≡ false)

@@ -22,13 +22,13 @@ use Rattle.openapi_fields.specs.Returned.{FailsBelow, NotWritableBelow}
 abbrev pub chosen : {X : Type 0} → (List ℕ → Bool) → Entries X → Entries X
 chosen p es = only (λ e. p e.0) es
 
--- the number of values in entries
+-- the number of values in the nodes of entries
 abbrev pub entries_size : Entries Tree → ℕ
 entries_size [] = 0
 entries_size (e ∷ es) = size_of e.1 + entries_size es
 
--- what is read of entries: each value conforms, and has the form of the value under its name; or memory ran out, or the
--- refusal is one of an entry
+-- what is read from entries: each value conforms, and its form is that of the value read for the same name. Otherwise an
+-- allocation failed, or the error is about one of the entries
 abbrev pub EntriesReadAs : {X : Type 0} → (X → Form) → Result (Entries X) Fault → Kind → Entries Tree → Type 0
 EntriesReadAs view (Ok m) k es =
     (every (λ (e : List ℕ × Tree). conforms final_tables k e.1) es ≡ true)
@@ -41,11 +41,11 @@ abbrev pub written_entries : {X : Type 0} → (X → Form) → Kind → Entries 
 written_entries view k [] = []
 written_entries view k (e ∷ es) = (e.0, print final_tables k (view e.1)) ∷ written_entries view k es
 
--- whether nothing of the values is lost
+-- whether no value contains a name or a status code that is unwritable
 abbrev pub all_whole : {X : Type 0} → (X → Form) → Kind → Entries X → Bool
 all_whole view k es = every (λ e. is_empty (unwritable final_tables k (view e.1))) es
 
--- a refusal of entries that are written: a name that does not pass the test, a value's refusal, or want of memory
+-- an error of writing entries: a name does not pass the test, a value is not writable, or an allocation failed
 abbrev pub EntryNotWritable : {X : Type 0} → (List ℕ → Bool) → (X → Form) → Kind → Fault → List ℕ × X → Type 0
 EntryNotWritable p view k f e =
     ((p e.0 ≡ false) × (f.cause ≡ NameNotWritable) × (place_of f ≡ named e.0 ∷ []))

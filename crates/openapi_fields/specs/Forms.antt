@@ -13,49 +13,49 @@ use Rattle.openapi_tables.specs.Slots.{Slot, slots, pairs_of}
 use Rattle.openapi_fields.specs.declared.either.Either.{Either}
 use Rattle.openapi_fields.specs.declared.either.Either.TheVariants.{First, Second}
 
--- a text
+-- the form of a string
 abbrev pub text_form : String Global → Form
 text_form s = leaf (text (string_bytes s))
 
--- a flag
+-- the form of a flag
 abbrev pub flag_form : Bool → Form
 flag_form b = leaf (flag b)
 
--- a value that may not be there
+-- the form of a value that may be absent
 abbrev pub optional_form : {X : Type 0} → (X → Form) → Option X → Form
 optional_form view None = absent
 optional_form view (Some x) = view x
 
--- a value in whose place null may stand
+-- the form of a value that may be null
 abbrev pub nullable_form : {X : Type 0} → (X → Form) → Option X → Form
 nullable_form view None = leaf null
 nullable_form view (Some x) = view x
 
--- a list, in order
+-- the form of a list, in its order
 abbrev pub list_form : {X : Type 0} → (X → Form) → Vec X → Form
 list_form view v = sequence (forms_of (each view v.items))
 
--- a map by names, in order
+-- the form of a map by names, in its order
 abbrev pub map_form : {X : Type 0} → (X → Form) → Entries X → Form
 map_form view m = named (named_of (pairs_of view m))
 
--- the extensions of an object
+-- the form of the extensions of an object
 abbrev pub extensions_form : Entries Tree → Form
 extensions_form = map_form leaf
 
--- an object by a table, with the forms of its rows
+-- the form of an object of a field table, by the forms of its rows
 abbrev pub record_form : {X : Type 0} → (X → List Form) → X → Form
 record_form rows x = fields plain (forms_of (rows x))
 
--- the slots of an object by a table
+-- the slots of an object of a field table
 abbrev pub record_slots : {X : Type 0} → TableName → (X → List Form) → X → List Slot
 record_slots i rows x = slots (final_tables i) (rows x)
 
--- a whole number
+-- the form of a whole number
 abbrev pub number_form : ℤ → Form
 number_form z = leaf (whole z)
 
--- a size
+-- the form of a size
 abbrev pub size_form : ℕ → Form
 size_form n = leaf (whole (pos n))
 
@@ -63,16 +63,17 @@ size_form n = leaf (whole (pos n))
 abbrev pub is_either : List ℕ → List ℕ → List ℕ → Bool
 is_either a b n = same_text a n || same_text b n
 
--- what stands under the one of two names that decides
+-- the form of a field of two names: the name that decides, with the form of its value
 abbrev pub either_form : {X Y : Type 0} → List ℕ → (X → Form) → List ℕ → (Y → Form) → Either X Y → Form
 either_form a f b g (First x) = deciding a (f x)
 either_form a f b g (Second y) = deciding b (g y)
 
--- an object by the table of its tag, with the word of the tag and the forms of the rows
+-- the form of an object of the table that its tag selects: the word of the tag, `absent` for its row, and the forms of the
+-- other rows
 abbrev pub tagged_form : {X : Type 0} → (X → List ℕ) → (X → List Form) → X → Form
 tagged_form word rows x = fields (tag (word x)) (forms_of (absent ∷ rows x))
 
--- the slots of an object by the table of its tag
+-- the slots of an object of the table that its tag selects
 abbrev pub tagged_slots : {X : Type 0} → List ℕ → List Case → (X → List ℕ) → (X → List Form) → X → List Slot
 tagged_slots n cs word rows x =
     (constant n (word x), absent) ∷ slots (case_rows final_tables cs (word x)) (rows x)

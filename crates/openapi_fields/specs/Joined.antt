@@ -1,4 +1,4 @@
--- Results that are joined.
+-- Joining two results into one.
 use Rattle.std.specs.Prelude.{Result, Ok, Err}
 
 -- both values, or the first error

@@ -1,4 +1,4 @@
--- Members that are there and not null: a look at one, and what was read of it.
+-- Members that exist and are not null: the access of one, and what is read from it.
 use Rattle.std.specs.Prelude.{◌≡◌, ℕ, ◌+◌, ◌≤◌, List, Option, Some, None, Result, Ok, Err}
 use Rattle.openapi_node.specs.Fault.{GoesUp}
 use Rattle.openapi_node.specs.Place.{named}
@@ -10,13 +10,14 @@ use Rattle.openapi_tables.specs.Kind.{any_tree, optional, row}
 use Rattle.openapi_tables.specs.ByRow.{row_weight}
 use Rattle.openapi_fields.specs.Returned.{unless_null}
 
--- Nothing but null stands under a name; a null was looked at.
+-- The member of a name is missing or null. The access count rises by at most the number of values in the members of that
+-- name.
 pub record IsGone (n : List ℕ) (ms : Members) (old new : ℕ) : Type 0 where
   pub is : unless_null (find n ms) ≡ None
   pub rises : old ≤ new
   pub counted : new ≤ old + row_weight (row n optional any_tree) ms
 
--- A tree other than null stands under a name, and was looked at.
+-- The member of a name exists and is not null, and was accessed once.
 pub record IsThere (n : List ℕ) (ms : Members) (old new : ℕ) (t : Tree) : Type 0 where
   pub is : unless_null (find n ms) ≡ Some t
   pub counted : new ≡ old + 1
@@ -27,7 +28,7 @@ abbrev pub ViewFound : Option View → List ℕ → Members → ℕ → ℕ → 
 ViewFound None n ms old new = IsGone n ms old new
 ViewFound (Some v) n ms old new = IsThere n ms old new (shown v)
 
--- what was read of a member, as it is seen from the object
+-- the second result is the first, as read from a member: the same value, or the fault as seen from the object
 abbrev pub AtMember : {X : Type 0} → List ℕ → Result X Fault → Result (Option X) Fault → Type 0
 AtMember n (Ok x) (Ok (Some y)) = x ≡ y
 AtMember n (Ok x) (Ok None) = ⊥

@@ -1,4 +1,4 @@
--- What a reader or a writer returned, beside what the tables say.
+-- What a reader or a writer returns, in terms of the field tables.
 use Rattle.std.specs.Prelude.{◌≡◌, ℕ, ◌+◌, ◌≤◌, true, false, List, [], Option, Some, None, Result, Ok, Err, if◌then◌else◌}
 use Rattle.openapi_node.specs.Fault.{GoesUp, place_of}
 use Rattle.openapi_node.specs.Place.{Step, Place, named}
@@ -29,7 +29,8 @@ use Rattle.openapi_tables.specs.Faults.{missing, missing_either, wrong_kind, not
 use Rattle.openapi_tables.specs.Laws.{Among}
 use Rattle.openapi_tables.specs.ByRow.{Broken, RowGives, AreRows, rows_asked}
 
--- a refusal of a reader: something that is asked of the tree is broken at the place, or memory ran out, with no place
+-- an error of a reader: the node breaks a rule of the kind at the location, with this cause; or an allocation failed, and
+-- the location is empty. A reader never returns the causes `NameNotWritable` and `NotWhole`
 abbrev pub FailsBy : Cause → Place → Kind → Tree → Type 0
 FailsBy (Missing n) p k t = Broken final_tables k t p (missing n.now)
 FailsBy (MissingEither n m) p k t = Broken final_tables k t p (missing_either n.now m.now)
@@ -43,16 +44,16 @@ FailsBy Memory p k t = p ≡ []
 abbrev pub Fails : Fault → Kind → Tree → Type 0
 Fails f k t = FailsBy f.cause (place_of f) k t
 
--- the tree conforms, and its form is that of the value
+-- the node conforms to the kind, and its form is that of the value
 abbrev pub Reads : {X : Type 0} → (X → Form) → X → Kind → Tree → Type 0
 Reads view x k t = (conforms final_tables k t ≡ true) × (form final_tables k t ≡ view x)
 
--- what a reader returned: a value that is read of the tree, or a refusal of it
+-- what a reader returned: a value that is read from the node, or an error about the node
 abbrev pub ReadAs : {X : Type 0} → (X → Form) → Result X Fault → Kind → Tree → Type 0
 ReadAs view (Ok x) k t = Reads view x k t
 ReadAs view (Err f) k t = Fails f k t
 
--- a tree that is refused for another cause than memory does not conform
+-- a node that is rejected with another cause than `Memory` does not conform
 abbrev pub RefusesBy : Cause → Kind → Tree → Type 0
 RefusesBy Memory k t = Unit {0}
 RefusesBy c k t = conforms final_tables k t ≡ false
@@ -61,29 +62,29 @@ abbrev pub Refuses : {X : Type 0} → Result X Fault → Kind → Tree → Type 
 Refuses (Ok x) k t = Unit {0}
 Refuses (Err f) k t = RefusesBy f.cause k t
 
--- what a row gives among the members of an object of a kind, or a refusal of the whole object
+-- what a row gives among the members of an object of a kind, or an error for the whole object
 abbrev pub RowReadAs : {X : Type 0} → (X → Form) → Result X Fault → Kind → Row → Members → Type 0
 RowReadAs view (Ok x) k w ms = RowGives final_tables w ms (view x)
 RowReadAs view (Err f) k w ms = Fails f k (object ms)
 
--- the same for all rows of the kind
+-- the same for all rows that the kind requires of an object, whatever the object contains
 abbrev pub RowsReadAs : {X : Type 0} → (X → List Form) → Result X Fault → Kind → Members → Type 0
 RowsReadAs rows (Ok x) k ms = AreRows final_tables (rows_asked final_tables k) (rows x) ms
 RowsReadAs rows (Err f) k ms = Fails f k (object ms)
 
--- how the count of looks rises: by at most so many
+-- how the access count rises: by at most `n`
 abbrev pub RisesBy : ℕ → ℕ → ℕ → Type 0
 RisesBy old new n = (old ≤ new) × (new ≤ old + n)
 
--- the same below a look that was taken at the value itself, and stands for three
+-- the same after the value itself was accessed. That access counts as three, so the rise is at most `n - 3`
 abbrev pub RisesBelow : ℕ → ℕ → ℕ → Type 0
 RisesBelow old new n = (old ≤ new) × (new + 3 ≤ old + n)
 
--- a refusal of the value one step below
+-- an error about a value one step below, as seen from here
 abbrev pub FailsBelow : Step → Fault → Kind → Tree → Type 0
 FailsBelow s f k u = (e : Fault) × GoesUp s e f × Fails e k u
 
--- what is read of a member that may not be there
+-- what is read from a member that may be absent
 abbrev pub MemberReadAs : {X : Type 0} → (X → Form) → Result (Option X) Fault → Kind → List ℕ → Option Tree → Type 0
 MemberReadAs view (Ok None) k n None = Unit {0}
 MemberReadAs view (Ok None) k n (Some u) = ⊥
@@ -92,26 +93,28 @@ MemberReadAs view (Ok (Some x)) k n (Some u) = Reads view x k u
 MemberReadAs view (Err f) k n None = ⊥
 MemberReadAs view (Err f) k n (Some u) = FailsBelow (named n) f k u
 
--- a member that is not null
+-- the member, unless it is missing or null
 abbrev pub unless_null : Option Tree → Option Tree
 unless_null None = None
 unless_null (Some u) = if is_null u then None else Some u
 
--- what was read one step below, as it is seen from here
+-- what was read one step below, as seen from here: the same value, or the fault as seen one step above
 abbrev pub AtStep : {X : Type 0} → Step → Result X Fault → Result X Fault → Type 0
 AtStep s (Ok x) (Ok y) = x ≡ y
 AtStep s (Ok x) (Err f) = ⊥
 AtStep s (Err e) (Ok y) = ⊥
 AtStep s (Err e) (Err f) = GoesUp s e f
 
--- how many looks at a value there are before the look that its own kind takes: for a null, for a reference
+-- how many accesses a kind adds to those for the values of a node, to check for references: one for each `ref_to`, one for
+-- `flag_or_schema`, and none for `null_or` itself
 abbrev pub looks : Kind → ℕ
 looks (null_or k) = looks k
 looks (ref_to k) = looks k + 1
 looks flag_or_schema = 1
 looks _ = 0
 
--- a refusal of a writer: a name or a code that would not be read again, at its place, or memory ran out, with no place
+-- an error of a writer: a name or a status code that would not be read again, at its location; or an allocation failed, and
+-- the location is empty
 abbrev pub NotWritableBy : Cause → Place → List Place → Type 0
 NotWritableBy NameNotWritable p ps = Among p ps
 NotWritableBy Memory p ps = p ≡ []
@@ -120,16 +123,17 @@ NotWritableBy _ p ps = ⊥
 abbrev pub NotWritable : Fault → List Place → Type 0
 NotWritable f ps = NotWritableBy f.cause (place_of f) ps
 
--- what a writer returned: the node that the form is written as, where nothing is lost, or a refusal
+-- what a writer returned: the node that the form is written as, if nothing in the form is unwritable, or an error
 abbrev pub WrittenAs : Kind → Form → Result Node Fault → Type 0
 WrittenAs k f (Ok n) = (n ≡ print final_tables k f) × (unwritable final_tables k f ≡ [])
 WrittenAs k f (Err e) = NotWritable e (unwritable final_tables k f)
 
--- a refusal of what is written one step below
+-- an error about what is written one step below, as seen from here
 abbrev pub NotWritableBelow : Step → Fault → List Place → Type 0
 NotWritableBelow s f ps = (e : Fault) × GoesUp s e f × NotWritable e ps
 
--- what was read of a tag: the word that stands there, or a refusal of each object whose tag has these words
+-- what was read from a tag: the value whose word is the text of the member, or an error for the object under each kind whose
+-- tag has these words
 abbrev pub TagReadAs : {X : Type 0} → (X → List ℕ) → Result X Fault → List ℕ → List (List ℕ) → Members → Type 0
 TagReadAs word (Ok x) n ws ms = held n (members_list ms) ≡ text (word x)
 TagReadAs word (Err f) n ws ms = (cs : List Case) → words cs ≡ ws → Fails f (tagged n cs) (object ms)

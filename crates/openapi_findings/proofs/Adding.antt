@@ -43,7 +43,7 @@ module _ {X Y : Type 0} (f : X → Y) where
   pub adds_two : (l r1 r2 : List X) (as' bs : List Y) → l ≡ [] → Adds f l r1 as' → Adds f r1 r2 bs → map f r2 ≡ as' ++ bs
   adds_two l r1 r2 as' bs n a b = b ∙ ap (λ z. z ++ bs) (a ∙ ap (λ z. map f z ++ as') n)
 
-  -- and in four more
+  -- and in four more steps
   pub adds_all : (r2 r3 r4 r5 r6 : List X) (bs cs ds es fs : List Y) → map f r2 ≡ bs → Adds f r2 r3 cs → Adds f r3 r4 ds
       → Adds f r4 r5 es → Adds f r5 r6 fs → map f r6 ≡ bs ++ cs ++ ds ++ es ++ fs
   adds_all r2 r3 r4 r5 r6 bs cs ds es fs b c d e g =
@@ -61,7 +61,7 @@ states_in : (fs : List Fault) → map stated_of fs ≡ map (λ (p : Place × Opt
 states_in [] = refl
 states_in (f ∷ fs) = ap (λ l. stated_of f ∷ l) (states_in fs)
 
--- faults state what the definitions say
+-- the statements of faults are those of their locations and causes
 pub faults_state : (fs : List Fault) (cs : List (Place × Cause)) → map fault_in fs ≡ each known cs
     → map stated_of fs ≡ each fault_stated cs
 faults_state fs cs e = states_in fs ∙ ap (map (λ (p : Place × Option Cause). (p.0, cause_code p.1))) e ∙ states_known cs
@@ -79,16 +79,16 @@ losses_in : (ds : List Dropped) → map loss_of ds ≡ map dropped_stated (map d
 losses_in [] = refl
 losses_in (d ∷ ds) = ap (λ l. loss_of d ∷ l) (losses_in ds)
 
--- members that have no effect state what the definitions say
+-- the statements of members that have no effect are those of their locations and reasons
 pub losses_state : (ds : List Dropped) (es : List (Place × DropReason)) → map dropped_of ds ≡ es
     → map loss_of ds ≡ map dropped_stated es
 losses_state ds es e = losses_in ds ∙ ap (map dropped_stated) e
 
--- what is to be reported of a reference
+-- what is to be reported about a reference
 abbrev pub stated_at : Tree → Reference → List Statement
 stated_at t r = reference_stated t (reference_of r)
 
--- with what is to be reported of one more reference
+-- what is to be reported about one more reference is appended
 pub adds_stated : (t : Tree) (old mid new : List Report) (done : List Reference) (r : Reference)
     → Adds statement_of old mid (flat (each (stated_at t) done)) → Adds statement_of mid new (stated_at t r)
     → Adds statement_of old new (flat (each (stated_at t) (done ++ r ∷ [])))
@@ -97,13 +97,13 @@ adds_stated t old mid new done r h k =
     ∙ ap (λ l. map statement_of old ++ l)
     (sym (flat-push (stated_at t) done r ∙ join_append (flat (each (stated_at t) done)) (stated_at t r)))
 
--- nothing of one that leads to a value
+-- nothing is to be reported about one that leads to a value
 pub adds_resolved : (t : Tree) (r : Reference) (l : List Report) (b : Bool) → b ≡ leads_to_value (string_bytes r.text) t → b ≡ true
     → Adds statement_of l l (stated_at t r)
 adds_resolved t r l b is e =
     adds_none statement_of l ∙ ap (λ c. map statement_of l ++ cond c [] (unresolved_at (reference_of r) ∷ [])) (sym e ∙ is)
 
--- and of another that it leads to none
+-- that another one leads to no value is to be reported
 pub adds_unresolved : (t : Tree) (r : Reference) (old new : List Report) (x : Report) (b : Bool)
     → b ≡ leads_to_value (string_bytes r.text) t → b ≡ false → new ≡ old ++ x ∷ [] → statement_of x ≡ unresolved_at (reference_of r)
     → Adds statement_of old new (stated_at t r)
@@ -115,7 +115,7 @@ stated_each : (t : Tree) (rs : List Reference) → flat (each (stated_at t) rs) 
 stated_each t [] = refl
 stated_each t (r ∷ rs) = ap (join (stated_at t r)) (stated_each t rs)
 
--- references state what the definitions say
+-- what is to be reported about references is what is to be reported about their locations, texts and kinds
 pub references_state : (t : Tree) (rs : List Reference) (ks : List (Place × List ℕ × Kind)) → map reference_of rs ≡ ks
     → flat (each (stated_at t) rs) ≡ flat (each (reference_stated t) ks)
 references_state t rs ks e = stated_each t rs ∙ ap (λ l. flat (each (reference_stated t) l)) e

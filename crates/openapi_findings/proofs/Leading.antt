@@ -28,12 +28,12 @@ leads_on bs token rest t a b lt =
     ap (λ ts. value_at ts t) (slice_split_first is_slash bs 0 lt)
     ∙ (λ i. option_and_then (value_at (tokens_in (sym b i))) (value_below (sym a i) t))
 
--- what follows such a byte is shorter
+-- the bytes after the first one that passes a test are fewer than all bytes
 pub shorter_after : (p : ℕ → Bool) (left after : List ℕ) → after ≡ after_first p left → position_or_len p left < length left
     → length after < length left
 shorter_after p left after e lt = omega (arith, ap length e, length-drop (position_or_len p left + 1) left, lt)
 
--- without a `/`, it leads where its only token leads
+-- without a `/`, a pointer leads where its only token leads
 pub leads_last : (bs : List ℕ) (t : Tree) → position_or_len is_slash bs ≡ length bs → value_at (tokens_in bs) t ≡ value_below bs t
 leads_last bs t e = ap (λ ts. value_at ts t) (none_passes is_slash bs e) ∙ only_one (value_below bs t)
   where
@@ -52,7 +52,7 @@ item_get i [] d lt = absurd (omega (arith, lt))
 item_get zero (t ∷ ts) d lt = refl
 item_get (suc i) (t ∷ ts) d lt = item_get i ts d (omega (arith, lt))
 
--- there is none behind all items
+-- no item is at an index that is not less than the number of items
 item_none : (i : ℕ) (ts : List Tree) → length ts ≤ i → item_at i (items_of ts) ≡ None
 item_none i [] le = refl
 item_none zero (t ∷ ts) le = absurd (omega (arith, le))
@@ -76,14 +76,14 @@ at_least v n more = omega (arith, lt_of_not-le {n = suc v} {m = n} (λ le. more 
 no_sign : (bs : List ℕ) → (get_or bs 0 0 == 43) ≡ false → get_or bs 0 0 ≢ 43
 no_sign bs sign e = true≢false (sym (ap (λ b. b == 43) e) ∙ sign)
 
--- what is parsed is the index, if it has no leading zero
+-- if there is no leading zero, the number that is parsed is the index
 pub index_ok : (bs : List ℕ) (i : ℕ) → (get_or bs 0 0 == 43) ≡ false → has_leading_zero bs ≡ false
     → ParsesUnsigned {E = Unit {0}} 64 10 bs (Ok i) → index_in bs ≡ Some i
 index_ok bs i sign z h =
     let p = parse_plain own {E = Unit {0}} 64 bs (Ok i) h (no_sign bs sign) in
     ap (λ c. cond c (Some (digits_value 10 bs)) None) (index_is bs p.0.0 p.0.1 z) ∙ ap Some (sym p.1)
 
--- what is not has too many digits, if it is one
+-- an index that cannot be parsed is not less than any number below 2^64
 pub index_err : (bs : List ℕ) (n : ℕ) → n < 2 ^ 64 → (get_or bs 0 0 == 43) ≡ false
     → ParsesUnsigned {E = Unit {0}} 64 10 bs (Err tt) → IfSome (index_in bs) (λ i. n ≤ i)
 index_err bs n fits sign h = by (is_index bs) refl
@@ -96,13 +96,13 @@ index_err bs n fits sign h = by (is_index bs) refl
         omega (arith, fits, far)
     by false is = tt
 
--- the item that a token leads to
+-- the item to which a token leads
 pub below_list : (token : List ℕ) (ts : List Tree) (t u : Tree) (i : ℕ) → list (items_of ts) ≡ t → index_in token ≡ Some i
     → i < length ts → u ≡ get_or ts i u → Some u ≡ value_below token t
 below_list token ts t u i e is lt it =
     ap Some it ∙ item_get i ts u lt ∙ ap (option_and_then (λ k. item_at k (items_of ts))) (sym is) ∙ ap (value_below token) e
 
--- and none, if its index is behind all
+-- a token leads to no item if its index is not less than the number of items
 pub below_none : (token : List ℕ) (ts : List Tree) (t : Tree) → list (items_of ts) ≡ t
     → IfSome (index_in token) (λ i. length ts ≤ i) → None ≡ value_below token t
 below_none token ts t e far = by (index_in token) far ∙ ap (value_below token) e
@@ -113,7 +113,7 @@ below_none token ts t e far = by (index_in token) far ∙ ap (value_below token)
 
 -- ---- pointers
 
--- a token that leads on
+-- if a token that is not the last leads to a value, the pointer leads on from it
 pub leads_step : (pointer left token rest : List ℕ) (root at value : Tree) (o : Option (Bor Tree)) (b : Bor Tree)
     → value_at (tokens_in pointer) root ≡ value_at (tokens_in left) at → token ≡ before_first is_slash left
     → rest ≡ after_first is_slash left → position_or_len is_slash left < length left → option_copied o ≡ value_below token at
@@ -121,7 +121,7 @@ pub leads_step : (pointer left token rest : List ℕ) (root at value : Tree) (o 
 leads_step pointer left token rest root at value o b h t r lt below is =
     h ∙ leads_on left token rest at t r lt ∙ ap (option_and_then (value_at (tokens_in rest))) (sym below ∙ ap option_copied is)
 
--- a token that leads nowhere
+-- if a token leads to no value, neither does the pointer
 pub leads_nowhere : (pointer left token rest : List ℕ) (root at : Tree) (o : Option (Bor Tree))
     → value_at (tokens_in pointer) root ≡ value_at (tokens_in left) at → token ≡ before_first is_slash left
     → rest ≡ after_first is_slash left → position_or_len is_slash left < length left → option_copied o ≡ value_below token at
@@ -134,7 +134,7 @@ is_some_copied : (o : Option (Bor Tree)) → is_some o ≡ is_some (option_copie
 is_some_copied None = refl
 is_some_copied (Some b) = refl
 
--- the last token
+-- a pointer leads to a value if and only if its last token does
 pub leads_end : (pointer left : List ℕ) (root at : Tree) (o : Option (Bor Tree)) (b : Bool)
     → value_at (tokens_in pointer) root ≡ value_at (tokens_in left) at → position_or_len is_slash left ≡ length left
     → option_copied o ≡ value_below left at → b ≡ is_some o → b ≡ pointer_leads pointer root

@@ -1,4 +1,4 @@
--- Locations that are looked for by their keys.
+-- The search for locations by their keys.
 use Rattle.std.proofs.Common.{◌≡◌, ℕ, zero, suc, ◌+◌, ◌<◌, ◌≤◌, Bool, true, false, cond, ◌&&◌, ◌||◌, List, [], ◌∷◌, ◌++◌, Some, None}
 use Rattle.std.proofs.Common.{length, map, drop, get_or, is_some, append-nil, append_assoc, refl, sym, ap, ◌∙◌, arith, true≢false}
 use Rattle.std.proofs.lemmas.Bool.Decides.{Decides-eqb}
@@ -26,7 +26,7 @@ and_false : (a : Bool) → (a && false) ≡ false
 and_false true = refl
 and_false false = refl
 
--- what is made of the elements of a list from an index on, with what was made before, is what is made of all
+-- with the next element, what was made so far and what is made of the rest are still what is made of all
 module _ {A E Y : Type 0} (f : A → E) (g : E → List Y) (xs : List A) (all : List Y) where
   pub flat_next : (i : ℕ) (d : A) (old new : List Y) → i < length xs → new ≡ old ++ g (f (get_or xs i d))
       → old ++ flat_map g (map f (drop i xs)) ≡ all → new ++ flat_map g (map f (drop (i + 1) xs)) ≡ all
@@ -68,7 +68,7 @@ lengths_differ (s ∷ p) (t ∷ q) h =
 
 -- ---- a location among others
 
--- one at an index is among them
+-- a location that is the same as an element of a list is one of the list
 pub among_at : {A : Type 0} (f : A → Place) (p : Place) (xs : List A) (i : ℕ) (d : A) → i < length xs
     → same_place p (f (get_or xs i d)) ≡ true → true ≡ is_among p (map f xs)
 among_at f p [] i d lt is = absurd (omega (arith, lt))
@@ -84,7 +84,7 @@ one_of_two false b h = (refl, h)
 same_key : (k : List ℕ) → bytes_eq k k ≡ true
 same_key k = (bytes_eq-Decides k k).1 refl
 
--- where no location has the key of one, that is not among them
+-- if no location of a list has the key of another, that one is not in the list
 pub none_by_key : (p : Place) (ps : List Place) → list_any (λ q. bytes_eq (key_text p) (key_text q)) ps ≡ false → is_among p ps ≡ false
 none_by_key p [] h = refl
 none_by_key p (q ∷ qs) h =
@@ -97,7 +97,7 @@ none_by_key p (q ∷ qs) h =
         absurd (true≢false (sym (same_key (key_text p)) ∙ ap (λ r. bytes_eq (key_text p) (key_text r)) (same_is p q is) ∙ differ))
     by false is differ rest = rest
 
--- which names a map has after an insert
+-- which names are in a map after an insert
 get_put : (b k : List ℕ) (v : ℕ) (es : Entries ℕ) → is_some (get b (insert_entry es k v)) ≡ (is_some (get b es) || bytes_eq b k)
 get_put b k v [] = by (bytes_eq b k)
   where
@@ -145,7 +145,7 @@ module _ {A : Type 0} (f : A → Place) (xs : List A) (b : List ℕ) where
       sym (or_false (is_some (get b m)))
       ∙ ap (λ l. is_some (get b m) || list_any (λ p. bytes_eq b (key_text p)) (map f l)) (sym (drop_all i xs le)) ∙ h
 
--- an index without the key of a location has not the location
+-- if the key of a location is not in an index, the location is not either
 pub no_key : (p : Place) (ps : List Place) (m : Entries ℕ) (k : List ℕ) → k ≡ key_text p → None ≡ get k m → HasKeys ps m
     → false ≡ is_among p ps
 no_key p ps m k is none h =

@@ -15,7 +15,7 @@ use Rattle.openapi_findings.specs.declared.finding.Finding.{Finding}
 use Rattle.openapi_findings.specs.declared.report.Report.{Report}
 
 module _ {A B : Type 0} (R : A → B → Type 0) where
-  -- what stands beside an element, in lists that stand beside one another
+  -- two lists whose elements are related in pairs: what is related to an element
   beside : (xs : List A) (x : A) (ys : List A) (zs : List B) (d : B) → AllZip R (xs ++ x ∷ ys) zs → R x (get_or zs (length xs) d)
   beside [] x ys [] d h = absurd h
   beside [] x ys (z ∷ zs) d h = h.0
@@ -39,7 +39,7 @@ module _ (bytes : List ℕ) (rs done left : List Report) (r : Report) (os : List
       subst (λ n. n < length os) (length-map done place_in_report)
       (within (IsPositionAt bytes) (map place_in_report done) (place_in_report r) (map place_in_report left) os places)
 
-  -- which is its own
+  -- and it is that of the location of the report
   pub next_beside : (d : Option Position) → IsPositionAt bytes (place_in_report r) (get_or os (length done) d)
   next_beside d =
       subst (λ n. IsPositionAt bytes (place_in_report r) (get_or os n d)) (length-map done place_in_report)
@@ -52,7 +52,7 @@ placed_at bytes f r o e p h =
     subst (λ q. IfSome q (λ at. IsPositionAt bytes at f.position)) (sym (ap (λ s. s.0) e))
     (subst (λ q. IsPositionAt bytes (place_in_report r) q) (sym p) h)
 
--- the next report, at the position beside it, is a finding that is placed
+-- a finding of the next report, with the position at its index, is placed
 pub next_placed : (bytes : List ℕ) (rs done left : List Report) (r : Report) (os : List (Option Position)) (f : Finding) (i : ℕ)
     (d : Option Position) → rs ≡ done ++ r ∷ left → AllZip (IsPositionAt bytes) (map place_in_report rs) os → i ≡ length done
     → finds f ≡ found (statement_of r) → f.position ≡ get_or os i d → IsPlaced bytes f
@@ -60,7 +60,7 @@ next_placed bytes rs done left r os f i d split all e is at =
     placed_at bytes f r (get_or os i d) is at
     (subst (λ n. IsPositionAt bytes (place_in_report r) (get_or os n d)) (sym e) (next_beside bytes rs done left r os split all d))
 
--- positions beside reports, where both are lent as slices
+-- positions related to reports, where both are borrowed as slices
 pub in_slices : (bytes : List ℕ) (rs ss : List Report) (os ps : List (Option Position)) → ss ≡ rs → ps ≡ os
     → AllZip (IsPositionAt bytes) (map place_in_report ss) os → AllZip (IsPositionAt bytes) (map place_in_report rs) ps
 in_slices bytes rs ss os ps e f h =
@@ -71,14 +71,14 @@ in_slices bytes rs ss os ps e f h =
 abbrev pub states : Report → Option Place × Code
 states r = found (statement_of r)
 
--- with one more finding
+-- with one more report, its finding is one more
 pub finds_next : (fs gs : List Finding) (f : Finding) (done : List Report) (r : Report) → gs ≡ fs ++ f ∷ []
     → map finds fs ≡ map states done → finds f ≡ states r → map finds gs ≡ map states (done ++ r ∷ [])
 finds_next fs gs f done r n h s =
     ap (map finds) n ∙ map-append finds fs (f ∷ []) ∙ ap (λ l. l ++ finds f ∷ []) h ∙ ap (λ y. map states done ++ y ∷ []) s
     ∙ sym (map-append states done (r ∷ []))
 
--- two facts of a result lead to a third
+-- two facts of a result imply a third
 pub if_ok_both : {T E : Type 0} {P Q R : T → Type 0} (r : Result T E) → ((x : T) → P x → Q x → R x) → IfOk r P → IfOk r Q → IfOk r R
 if_ok_both (Ok x) f p q = f x p q
 if_ok_both (Err e) f p q = tt
@@ -87,7 +87,7 @@ finds_each : (rs : List Report) → map (λ r. found (statement_of r)) rs ≡ ma
 finds_each [] = refl
 finds_each (r ∷ rs) = ap (λ l. found (statement_of r) ∷ l) (finds_each rs)
 
--- findings in any order state what reports do
+-- findings in any order state what the reports state
 pub all_found : (ss : List Statement) (rs : List Report) (ps fs : List Finding) → map statement_of rs ≡ ss
     → map finds ps ≡ map (λ r. found (statement_of r)) rs → IsPermutation ps fs → IsPermutation (map found ss) (map finds fs)
 all_found ss rs ps fs e h p =

@@ -1,4 +1,4 @@
--- The names that come again: there are none in a value with unique names, and how they are collected.
+-- The names that occur more than once: there are none in a value with unique names, and how they are collected.
 use Rattle.std.proofs.Common.{◌≡◌, ◌≢◌, ◌<◌, ◌≤◌, ◌+◌, ℕ, suc, Bool, true, false, cond, List, [], ◌∷◌, ◌++◌}
 use Rattle.std.proofs.Common.{Option, Some, None, is_some, option_and_then, length, map, get_or, drop, append_assoc, append-nil}
 use Rattle.std.proofs.Common.{arith, refl, sym, ap, ◌∙◌}
@@ -24,7 +24,7 @@ use Rattle.openapi_findings.specs.declared.report.Report.{Report}
 
 -- ---- one text has one value, however deep it may nest
 
--- how deep a text may nest from which a node is read
+-- how deep a text from which a node is read may nest
 abbrev read_depth : ℕ
 read_depth = 127
 
@@ -43,7 +43,7 @@ one_value text j k e f = by (json.value read_depth (tokens text)) (json.value js
 
 -- ---- names that are unique
 
--- nothing is stated of the members so far
+-- the lists of all entries are empty
 abbrev AllEmpty : Entries (List Statement) → Type 0
 AllEmpty [] = Unit {0}
 AllEmpty (e ∷ es) = (e.1 ≡ []) × AllEmpty es
@@ -60,7 +60,7 @@ empty_put (x ∷ es) k v e h = by (bytes_eq k x.0) (empty_put es k v e h.1)
     by true rest = (e, h.1)
     by false rest = (h.0, rest)
 
--- a name that is not there is not put there with another
+-- a name that is not in a map is not in it after an insert under another name
 absent_put : (n : List ℕ) (es : Entries (List Statement)) (k : List ℕ) (v : List Statement) → bytes_eq n k ≡ false
     → get n es ≡ None → get n (insert_entry es k v) ≡ None
 absent_put n [] k v d h = ap (λ b. cond b (Some v) None) d
@@ -75,7 +75,7 @@ absent_put n (x ∷ es) k v d h = by (bytes_eq k x.0) (parts (bytes_eq n x.0) re
     by true p more = ap (λ b. cond b (Some v) (get n es)) p.0 ∙ p.1
     by false p more = ap (λ b. cond b (Some x.1) (get n (insert_entry es k v))) p.0 ∙ more p.1
 
--- none of these names is that of a member so far
+-- none of these names is in the map
 abbrev AllAbsent : Entries (List Statement) → List (List ℕ) → Type 0
 AllAbsent es [] = Unit {0}
 AllAbsent es (n ∷ ns) = (get n es ≡ None) × AllAbsent es ns
@@ -84,7 +84,7 @@ all_absent : (ns : List (List ℕ)) → AllAbsent [] ns
 all_absent [] = tt
 all_absent (n ∷ ns) = (refl, all_absent ns)
 
--- none of these names is another
+-- none of these names is the same as another
 abbrev AllOther : List ℕ → List (List ℕ) → Type 0
 AllOther k [] = Unit {0}
 AllOther k (n ∷ ns) = (bytes_eq n k ≡ false) × AllOther k ns
@@ -136,14 +136,14 @@ mutual
       none_in_members p ms (insert_entry es k v) (empty_put es k v none h) (rest_distinct k (keys ms) d)
       (absents_put es k v (keys ms) (first_other k (keys ms) d) a.1) u.1
 
--- a text with unique names
+-- in a text with unique names none occurs more than once
 pub none_in_text : (text : List ℕ) (j k : json.Json) → parsed text ≡ Some j → document text ≡ Some k → HasUniqueKeys k
     → repeated_in [] j ≡ []
 none_in_text text j k e f u = ap (repeated_in []) (one_value text j k e f) ∙ none_repeated [] k u
 
 -- ---- how they are collected
 
--- with those of the next item
+-- with the reports of the next item, those so far and those of the rest are all
 pub items_next : {A : Type 0} (p : Place) (vs : List (Value A)) (i : ℕ) (v : Value A) (old new more : List Report)
     (all : List Statement) → i < length vs → v ≡ get_or vs i v → new ≡ old ++ more
     → map statement_of more ≡ repeated_in (p ++ indexed i ∷ []) (value_view v)
@@ -158,13 +158,13 @@ items_next p vs i v old new more all lt is n m h =
     ∙ append_assoc (map statement_of old) (map statement_of more) rest
     ∙ ap (λ l. map statement_of old ++ l) (ap (λ l. l ++ rest) m ∙ sym split) ∙ h
 
--- no item is left
+-- if no item is left, the reports so far are all
 pub items_end : {A : Type 0} (p : Place) (vs : List (Value A)) (i : ℕ) (ns all : List Statement) → length vs ≤ i
     → ns ++ repeated_in_items p i (items_view (drop i vs)) ≡ all → ns ≡ all
 items_end p vs i ns all le h =
     sym (append-nil ns) ∙ ap (λ us. ns ++ repeated_in_items p i (items_view us)) (sym (drop_all i vs le)) ∙ h
 
--- an insert among the reports by name
+-- to insert reports under a name is to insert their statements under it
 reports_put : (es : Entries (Vec Report)) (k : List ℕ) (v : Vec Report)
     → map stated_of_entry (insert_entry es k v) ≡ insert_entry (map stated_of_entry es) k (map statement_of v.items)
 reports_put [] k v = refl
@@ -177,7 +177,7 @@ reports_put (e ∷ es) k v = by (bytes_eq k e.0) (reports_put es k v)
     by true rest = refl
     by false rest = ap (λ l. stated_of_entry e ∷ l) rest
 
--- a name is there where it is among what is stated
+-- a name is in a map of reports if and only if it is in that of their statements
 some_same : (n : List ℕ) (es : Entries (Vec Report)) → is_some (get n es) ≡ is_some (get n (map stated_of_entry es))
 some_same n [] = refl
 some_same n (e ∷ es) = by (bytes_eq n e.0) (some_same n es)
@@ -187,7 +187,7 @@ some_same n (e ∷ es) = by (bytes_eq n e.0) (some_same n es)
     by true rest = refl
     by false rest = rest
 
--- with those of the next member
+-- with the reports of the next member, those so far and those of the rest are all
 pub members_next : {A : Type 0} (p : Place) (ms : List (Bor (List ℕ) × Value A)) (i : ℕ) (m : Bor (List ℕ) × Value A)
     (old new : Entries (Vec Report)) (k : List ℕ) (v : Vec Report) (b : Bool) (all : Entries (List Statement)) → i < length ms
     → m ≡ get_or ms i m → k ≡ m.0.now → b ≡ is_some (get m.0.now old) → new ≡ insert_entry old k v
@@ -211,7 +211,7 @@ members_next {A = A} p ms i m old new k v b all lt is name known n h each =
     ∙ ap (λ w. repeated_in_members p rest (insert_entry before w.0.now (own w))) (sym is) in
     ap (repeated_in_members p rest) put ∙ sym split ∙ each
 
--- with those of the next entry
+-- with the reports of the next entry, those so far and those of the rest are all
 pub entries_next : (es : Entries (Vec Report)) (e : List ℕ × Vec Report) (left : Entries (Vec Report))
     (old new : List Report) (all : List Statement) → es ≡ e ∷ left → new ≡ old ++ e.1.items
     → map statement_of old ++ of_all (map stated_of_entry es) ≡ all → map statement_of new ++ of_all (map stated_of_entry left) ≡ all
@@ -221,7 +221,7 @@ entries_next es e left old new all is n h =
     ∙ append_assoc (map statement_of old) (map statement_of e.1.items) rest
     ∙ ap (λ l. map statement_of old ++ of_all (map stated_of_entry l)) (sym is) ∙ h
 
--- no entry is left
+-- if no entry is left, the reports so far are all
 pub entries_end : (es : Entries (Vec Report)) (ns all : List Statement) → es ≡ []
     → ns ++ of_all (map stated_of_entry es) ≡ all → ns ≡ all
 entries_end es ns all is h = sym (append-nil ns) ∙ ap (λ l. ns ++ of_all (map stated_of_entry l)) (sym is) ∙ h

@@ -35,7 +35,7 @@ next_element f xs i x lt is =
     ∙ ap (λ y. flat_map f (take i xs ++ y ∷ [])) is
     ∙ ap (flat_map f) (sym (take_more xs i x lt))
 
--- what `{:04x}` writes of a byte
+-- what `{:04x}` writes for a byte
 pub hex_of_control : (n : ℕ) → n < 256
     → padded_integral (format_spec 32 0 4 4 (2 ^ 64 - 1)) false [] (digits 16 false n)
     ≡ 48 ∷ 48 ∷ digit_glyph false (n / 16) ∷ digit_glyph false (n % 16) ∷ []

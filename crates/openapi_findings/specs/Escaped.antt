@@ -10,18 +10,18 @@ use Rattle.openapi_findings.specs.declared.escape.Escape.TheVariants as escape
 
 -- ---- characters
 
--- a character that embeds, overrides or isolates a direction of writing, or ends that
+-- whether a character begins or ends an embedding, an override or an isolate of the writing direction
 abbrev pub is_directional : ℕ → Bool
 is_directional c = is_in_range 0x202A 0x202E c || is_in_range 0x2066 0x2069 c
 
--- for a terminal: a tab is four spaces, and U+FFFD replaces what would move the cursor or turn the text around
+-- for a terminal: a tab is four spaces, and U+FFFD replaces control characters and those that change the writing direction
 unfoldable pub on_terminal : ℕ → List ℕ
 on_terminal c =
     if c == 9 then codes "    "
     else if is_directional c || is_control c then encode_utf8 0xFFFD
     else encode_utf8 c
 
--- as spaces: as many as the character has columns on a terminal
+-- as spaces, one for each character that `on_terminal` writes: four for a tab, and one for any other character
 unfoldable pub in_blank : ℕ → List ℕ
 in_blank c = if c == 9 then codes "    " else codes " "
 
@@ -44,7 +44,7 @@ in_message c =
     else if c == 10 then codes "%0A"
     else encode_utf8 c
 
--- in a property of a workflow command: `:` and `,` too
+-- in a property of a workflow command: `:` and `,` are escaped too
 unfoldable pub in_property : ℕ → List ℕ
 in_property c =
     if c == 58 then codes "%3A"
@@ -60,7 +60,7 @@ escaped escape.Property = in_property
 
 -- ---- texts
 
--- a text whose characters are printed so
+-- a text with each character written by `e`
 abbrev pub written : (ℕ → List ℕ) → List ℕ → List ℕ
 written e text = flat_map e (chars text)
 
@@ -70,7 +70,7 @@ quoted text = 34 ∷ written in_json text ++ 34 ∷ []
 
 -- ---- JSON Pointers (RFC 6901)
 
--- a character of a reference token: `~` is `~0`, and `/` is `~1`
+-- a character of a reference token: `~` is written as `~0`, `/` as `~1`, and any other one by `e`
 abbrev pub in_token : (ℕ → List ℕ) → ℕ → List ℕ
 in_token e c = if c == 126 then codes "~0" else if c == 47 then codes "~1" else e c
 

@@ -1,28 +1,28 @@
--- The part of a line that is shown of a text.
+-- The part of a text that is shown: a line, or a part of one.
 use Rattle.std.specs.Prelude.{ℕ, ◌+◌, ◌-◌, min, Bool, not, ◌&&◌, ◌||◌, ◌==◌, nat_le, nat_lt, if◌then◌else◌, List, [], ◌∷◌, drop, length, reverse, slice_index, slice_range, take}
 use Rattle.std.specs.Fmt.{is_char_start}
 use Rattle.std.specs.Str.Lossy.{utf8_valid_len}
 use Rattle.openapi_findings.specs.declared.excerpt.Excerpt.{Excerpt}
 
--- the longest beginning of some bytes that is text in UTF-8
+-- the longest prefix of some bytes that is valid UTF-8
 abbrev pub valid_text : List ℕ → List ℕ
 valid_text bs = take (utf8_valid_len bs) bs
 
--- how many characters are left of so many behind a byte, if it begins one
+-- how many of n characters are left after a byte: one less if the byte begins a character
 abbrev pub left_behind : ℕ → ℕ → ℕ
 left_behind n b = if is_char_start b then n - 1 else n
 
--- how many bytes a line has from the first of these on, at most those of n characters
+-- how many of these bytes come before the end of the line that the first is in, at most those of n characters
 unfoldable pub front_len : ℕ → List ℕ → ℕ
 front_len n [] = 0
 front_len n (b ∷ bs) = if b == 10 || (is_char_start b && n == 0) then 0 else front_len (left_behind n b) bs + 1
 
--- the same backwards: the last byte comes first, so a character ends with the byte that begins it
+-- the same backwards: the bytes are in reverse order, so a character ends with its first byte
 unfoldable pub back_len : ℕ → List ℕ → ℕ
 back_len n [] = 0
 back_len n (b ∷ bs) = if b == 10 || n == 0 then 0 else back_len (left_behind n b) bs + 1
 
--- where the last n characters of a line before an offset begin, and where the first n from it on end
+-- the offset at which the last n characters before `offset` in its line begin, and that at which the first n from it on end
 abbrev pub start_of : List ℕ → ℕ → ℕ → ℕ
 start_of bs offset n = offset - back_len n (reverse (take offset bs))
 
@@ -33,7 +33,7 @@ end_of bs offset n = offset + front_len n (drop offset bs)
 abbrev pub without_return : List ℕ → List ℕ
 without_return line = if slice_index line (length line - 1) == 13 then take (length line - 1) line else line
 
--- the texts before and behind a point, and whether the line begins before the first and goes on behind the second
+-- the texts before and after a point of a line, and whether the line begins before the first and continues after the second
 pub record Part : Type 0 where
   pub before : List ℕ
   pub after : List ℕ
@@ -43,7 +43,7 @@ pub record Part : Type 0 where
 abbrev pub part_in : Excerpt → Part
 part_in e = record { before = e.before.now; after = e.after.now; cut_before = e.is_cut_before; cut_after = e.is_cut_after }
 
--- the part of a line from one offset to another one, around a third
+-- the part of a line from `start` to `end`, divided at `offset`
 abbrev pub part_between : List ℕ → ℕ → ℕ → ℕ → Part
 part_between bs start offset end = record {
   before = valid_text (slice_range bs start offset);
@@ -52,18 +52,18 @@ part_between bs start offset end = record {
   cut_after = nat_lt end (length bs) && not (slice_index bs end == 10);
 }
 
--- the part with so many characters before an offset, and from it on
+-- the part of a line with at most `before` characters before an offset, and at most `after` from it on
 unfoldable pub part_within : List ℕ → ℕ → ℕ → ℕ → Part
 part_within bs offset before after = part_between bs (start_of bs offset before) offset (end_of bs offset after)
 
 abbrev pub is_whole : Part → Bool
 is_whole p = not p.cut_before && not p.cut_after
 
--- a line of at most 140 bytes as a whole, and else 80 characters before the offset and 60 from it on
+-- `wide` if it is a whole line of at most 140 bytes, and otherwise at most 80 characters before the offset and 60 from it on
 abbrev pub wide_or : List ℕ → ℕ → Part → Part
 wide_or bs offset wide =
     if is_whole wide && nat_le (length wide.before + length wide.after) 140 then wide else part_within bs offset 80 60
 
--- the part of a line around an offset, or around the end of the text if it is before the offset
+-- the part of a line around an offset, or around the end of the text if that is before the offset
 unfoldable pub part_around : List ℕ → ℕ → Part
 part_around bs offset = let at = min offset (length bs) in wide_or bs at (part_within bs at 140 140)

@@ -1,4 +1,4 @@
--- The findings of a text: what is to be reported of it, each at its position, in the order of the text.
+-- The findings of a text: what is to be reported about it, each at its position, in the order of the text.
 use Rattle.std.specs.Prelude.{◌≡◌, ◌⊎◌, ℕ, Bool, cond, List, [], ◌∷◌, ◌++◌, All, Option, Some, None, IfSome, map, option_map}
 use Rattle.std.specs.List.Sorted.{IsNonDecreasingBy, IsPermutation}
 use Rattle.json.specs.Json.{Json}
@@ -21,24 +21,24 @@ use Rattle.openapi_findings.specs.declared.finding.Finding.{Finding}
 abbrev pub place_in : Finding → Option Place
 place_in f = option_map (λ p. map step_of p.items) f.place
 
--- what a finding states
+-- the location and the code of a finding
 abbrev pub finds : Finding → Option Place × Code
 finds f = (place_in f, f.code)
 
--- the same of a statement
+-- the same for a statement
 abbrev pub found : Statement → Option Place × Code
 found s = (Some s.0, s.1)
 
--- the point of a name if there is one and it is asked for, and else that of a value
+-- the point of the name if there is one and `b` is true, and otherwise that of the value
 abbrev pub name_or_value : Bool → Option Point → Point → Point
 name_or_value b None p = p
 name_or_value b (Some q) p = cond b q p
 
--- the point at which a finding is shown: that of the name if it is about a member as a whole
+-- the point at which a finding is shown: that of the name if it is about a member as a whole, and else that of the value
 abbrev pub point_of : Finding → Option Point
 point_of f = option_map (λ p. name_or_value (is_about_member f.code) p.name p.value) f.position
 
--- its offset
+-- the offset of a point; 0 if there is none
 abbrev pub offset_in : Option Point → ℕ
 offset_in None = 0
 offset_in (Some p) = p.offset
@@ -46,27 +46,28 @@ offset_in (Some p) = p.offset
 abbrev pub offset_of : Finding → ℕ
 offset_of f = offset_in (point_of f)
 
--- a finding with a location has the position that the text has there
+-- if a finding has a location, its position is that of the value at the location in the text
 abbrev pub IsPlaced : List ℕ → Finding → Type 0
 IsPlaced bytes f = IfSome (place_in f) (λ p. IsPositionAt bytes p f.position)
 
--- what is to be reported of a document: of its tree with these numbers that no tree holds, and of its value as it is written
+-- what is to be reported about a document: about its node `t`, its numbers `ns` that no node can hold, and its JSON
+-- value `j` as it is written
 abbrev pub stated_in : Tree → List NumberAt → Json → List Statement
 stated_in t ns j = errors_in t ++ numbers_stated t ns ++ losses_in t ++ unresolved_in t ++ repeated_in [] j
 
--- the findings of a document: they state what is to be reported of it
+-- the bytes are JSON in UTF-8, and the findings are what is to be reported about them as a document, in any order
 pub record AreOfDocument (bytes : List ℕ) (fs : List Finding) : Type 0 where
   pub tree : Tree
   pub numbers : List NumberAt
   pub reads : IsTreeWithZeros bytes tree numbers
   pub all : IsPermutation (map found (stated_in tree numbers reads.value)) (map finds fs)
 
--- the one finding of a text that is no JSON
+-- the bytes are not JSON in UTF-8, and the only finding reports this, without a location
 pub record AreOfNoJson (bytes : List ℕ) (fs : List Finding) : Type 0 where
   pub unread : Explains bytes unread.NotJson
   pub one : map finds fs ≡ (None, code.NotJson) ∷ []
 
--- the findings of a text, each at its position, and none before another one that is shown before it
+-- the findings of a text, each at its position, sorted by the offsets at which they are shown
 pub record AreFindings (bytes : List ℕ) (fs : List Finding) : Type 0 where
   pub stated : AreOfDocument bytes fs ⊎ AreOfNoJson bytes fs
   pub placed : All (IsPlaced bytes) fs

@@ -1,4 +1,4 @@
--- What is to be reported of the numbers of a document that no tree holds.
+-- What is to be reported about the numbers of a document that no node can hold.
 use Rattle.std.specs.Prelude.{◌≡◌, ℕ, Bool, true, false, ◌&&◌, ◌==◌, cond, List, [], ◌∷◌, ◌++◌, codes, decimal, flat_map, is_some, map}
 use Rattle.std.specs.List.{list_any}
 use Rattle.std.specs.Str.{bytes_eq}
@@ -30,13 +30,13 @@ same_place (s ∷ p) (t ∷ q) = same_step s t && same_place p q
 abbrev pub is_among : Place → List Place → Bool
 is_among p ps = list_any (same_place p) ps
 
--- What a number at a location states. Where a number within limits is asked it is wrong. Where it is wrong for another reason
--- that is stated anyhow, and elsewhere it is only one that no tree holds.
+-- What is to be reported about a number that no node can hold. Where a number within limits is required, `NotWhole` is
+-- reported. Otherwise, nothing is added where another error is reported anyway, and `Fraction` is reported elsewhere.
 abbrev pub stated_by : Bool → Bool → Place → List Statement
 stated_by is_limited is_wrong p =
     cond is_limited ((p, code.NotWhole) ∷ []) (cond is_wrong [] ((p, code.Fraction) ∷ []))
 
--- the same by the locations at which numbers within limits are asked, and those of errors
+-- the same, given the locations at which numbers within limits are required and the locations of errors
 abbrev pub number_stated : List Place → List Place → NumberAt → List Statement
 number_stated limited wrong n = stated_by (is_among n.0 limited) (is_among n.0 wrong) n.0
 
@@ -44,13 +44,13 @@ number_stated limited wrong n = stated_by (is_among n.0 limited) (is_among n.0 w
 abbrev pub places_of : List Statement → List Place
 places_of ss = map (λ s. s.0) ss
 
--- what these numbers of a document state
+-- what is to be reported about these numbers of a document
 abbrev pub numbers_stated : Tree → List NumberAt → List Statement
 numbers_stated t ns = flat_map (number_stated (limited_in (by open_api) t) (places_of (errors_in t))) ns
 
--- ---- for private clauses: how a location is looked for
+-- ---- for private clauses: the search for a location
 
--- a text that is the same for the same location
+-- the key of a step, and of a location: equal locations have the same key, and different ones may have the same key
 abbrev pub step_key : Step → List ℕ
 step_key (named n) = codes "/" ++ n
 step_key (indexed i) = codes "/" ++ decimal i
@@ -58,14 +58,14 @@ step_key (indexed i) = codes "/" ++ decimal i
 abbrev pub key_text : Place → List ℕ
 key_text p = flat_map step_key p
 
--- a map has exactly the texts of these locations as names
+-- the names in a map are exactly the keys of these locations
 abbrev pub HasKeys : List Place → Entries ℕ → Type 0
 HasKeys ps m = (b : List ℕ) → is_some (get b m) ≡ list_any (λ p. bytes_eq b (key_text p)) ps
 
--- the locations of an index
+-- the locations of a `PlaceIndex`
 abbrev pub places_in : PlaceIndex → List Place
 places_in it = map (λ p. map step_of p.now) it.places.now
 
--- the names of its map are the texts of its locations
+-- the names in the map of a `PlaceIndex` are exactly the keys of its locations
 abbrev pub IsIndexed : PlaceIndex → Type 0
 IsIndexed it = HasKeys (places_in it) it.keys.now

@@ -1,4 +1,4 @@
--- Where a reference leads in its document: a JSON Pointer (RFC 6901) as the fragment of a URI.
+-- The value to which a reference leads in its document. The reference is a JSON Pointer (RFC 6901) as the fragment of a URI.
 use Rattle.std.specs.Prelude.{ℕ, suc, zero, Bool, false, cond, not, ◌&&◌, ◌||◌, ◌==◌, List, [], ◌∷◌, codes, drop, is_some, length, nat_lt, slice_index, Option, Some, None, option_and_then}
 use Rattle.std.specs.Str.{all_ascii_digits, is_utf8}
 use Rattle.std.specs.Str.Parse.{digits_value}
@@ -7,7 +7,7 @@ use Rattle.openapi_node.specs.Tree.{Tree, list, object, Items, no_items, item, f
 use Rattle.openapi_pointer.specs.Tokens.{digit_0, name_in, tokens_in}
 use Rattle.openapi_tables.specs.Kind.{begins}
 
--- whether a token begins with a 0 and goes on
+-- whether a token begins with `0` and is longer than one byte
 abbrev pub has_leading_zero : List ℕ → Bool
 has_leading_zero token = nat_lt 1 (length token) && slice_index token 0 == digit_0
 
@@ -16,7 +16,7 @@ abbrev pub is_index : List ℕ → Bool
 is_index [] = false
 is_index (b ∷ bs) = all_ascii_digits (b ∷ bs) && not (has_leading_zero (b ∷ bs))
 
--- the index that a reference token writes
+-- the index that a reference token represents, if it is one
 abbrev pub index_in : List ℕ → Option ℕ
 index_in token = cond (is_index token) (Some (digits_value 10 token)) None
 
@@ -37,14 +37,14 @@ abbrev pub value_at : List (List ℕ) → Tree → Option Tree
 value_at [] t = Some t
 value_at (token ∷ tokens) t = option_and_then (value_at tokens) (value_below token t)
 
--- whether a pointer leads to a value, behind its first `/`
+-- whether a pointer, given without its first `/`, leads to a value
 abbrev pub pointer_leads : List ℕ → Tree → Bool
 pointer_leads pointer t = is_some (value_at (tokens_in pointer) t)
 
--- the same of the fragment of a URI behind `#/`: a pointer in UTF-8, with escapes
+-- the same for the fragment of a URI after `#/`: a pointer in UTF-8, with percent-encoding
 abbrev pub fragment_leads : List ℕ → Tree → Bool
 fragment_leads fragment t = is_utf8 (percent_decode fragment) && pointer_leads (percent_decode fragment) t
 
--- whether a reference leads to a value of a document, or is none within it: one that does not begin with `#/`
+-- whether a reference leads to a value of a document, or does not begin with `#/`, so is not within it
 abbrev pub leads_to_value : List ℕ → Tree → Bool
 leads_to_value reference t = not (begins (codes "#/") reference) || fragment_leads (drop 2 reference) t

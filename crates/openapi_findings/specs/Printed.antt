@@ -10,7 +10,7 @@ use Rattle.openapi_findings.specs.declared.code.Severity.{Severity}
 use Rattle.openapi_findings.specs.declared.code.Severity.TheVariants as severity
 use Rattle.openapi_findings.specs.declared.finding.Finding.{Finding}
 
--- the words of the severity and of the code of a finding
+-- the word for the severity of a finding
 abbrev pub severity_text : Finding → List ℕ
 severity_text f = severity_word (severity_of f.code)
 
@@ -75,7 +75,7 @@ github_text file f =
 abbrev pub spaces : ℕ → List ℕ
 spaces n = replicate n 32
 
--- the width of the margin beside the lines of the text: that of the number of a line, and one more
+-- the width of the margin beside the lines of the text: one more than that of the line number, and 2 if there is no point
 abbrev pub margin_of : Option Point → ℕ
 margin_of None = 2
 margin_of (Some p) = length (decimal p.line) + 1
@@ -121,15 +121,15 @@ excerpt p =
     ++ written on_terminal p.before ++ written on_terminal p.after
     ++ dots_if p.cut_after ++ codes "\n"
 
--- the space below what is before the part of a line
+-- the spaces below the space and the dots before a part of a line
 abbrev pub blank_before : Bool → List ℕ
 blank_before cut = if cut then codes "    " else codes " "
 
--- the mark below the first character behind the point
+-- the mark below the first character after the point
 unfoldable pub mark : Part → List ℕ
 mark p = blank_before p.cut_before ++ written in_blank p.before ++ codes "^\n"
 
--- the part of the line of a number, with the mark below it
+-- a part of a line beside its line number, with the mark below it
 unfoldable pub marked : ℕ → ℕ → Part → List ℕ
 marked m line p = bar m ++ codes "\n " ++ decimal line ++ codes " |" ++ excerpt p ++ bar m ++ mark p
 
@@ -141,7 +141,7 @@ unfoldable pub where_text : ℕ → List ℕ → List ℕ → Option Point → L
 where_text m file bytes None = file_line file
 where_text m file bytes (Some p) = lines m file bytes p
 
--- a location as a JSON Pointer, and a word for that of the root
+-- a location as a JSON Pointer, or `(root)` for that of the root
 abbrev pub steps_or_root : List PlaceStep → List ℕ
 steps_or_root [] = codes "(root)"
 steps_or_root (s ∷ steps) = pointer_text on_terminal (s ∷ steps)

@@ -1,4 +1,4 @@
--- What is to be reported of a document: codes, each at a location.
+-- What is to be reported about a document: codes, each at a location.
 use Rattle.std.specs.Prelude.{ℕ, Bool, true, false, cond, List, [], ◌∷◌, ◌++◌, Option, Some, None, codes, map, option_and_then}
 use Rattle.openapi_node.specs.Fault.{step_of}
 use Rattle.openapi_node.specs.Place.{Place, named}
@@ -31,7 +31,7 @@ severity_of code.RepeatedName = severity.Warning
 severity_of code.Fraction = severity.Note
 severity_of c = severity.Error
 
--- the words that are printed
+-- the words that are printed for a severity and for a code
 abbrev pub severity_word : Severity → List ℕ
 severity_word severity.Error = codes "error"
 severity_word severity.Warning = codes "warning"
@@ -81,20 +81,21 @@ text_at n ms = option_and_then text_in (find n ms)
 abbrev pub version_at : List ℕ → List Statement
 version_at n = (named n ∷ [], code.Version) ∷ []
 
--- what the texts of `swagger` and of `openapi` state
+-- what is to be reported about the version, given the texts of `swagger` and of `openapi`
 abbrev pub versions : Option (List ℕ) → Option (List ℕ) → List Statement
 versions (Some s) o = version_at (codes "swagger")
 versions None None = []
 versions None (Some v) = cond (begins (codes "3.0.") v) [] (version_at (codes "openapi"))
 
--- a document of another version than 3.0.x: one with a text under `swagger`, or else one with another text under `openapi`
+-- what is to be reported about a document of another version than 3.0.x: one with a text under `swagger`, or else with a
+-- text under `openapi` that does not begin with `3.0.`
 abbrev pub version_in : Tree → List Statement
 version_in (object ms) = versions (text_at (codes "swagger") ms) (text_at (codes "openapi") ms)
 version_in t = []
 
 -- ---- faults
 
--- the code of a cause; one that is none of the tables' has that of a value which is not allowed
+-- the code of a cause of the tables; for any other cause, the code of a value that is not allowed
 abbrev pub cause_code : Option Cause → Code
 cause_code (Some (missing n)) = code.MissingMember
 cause_code (Some (missing_either n m)) = code.MissingEither
@@ -103,7 +104,7 @@ cause_code (Some not_allowed) = code.ValueNotAllowed
 cause_code (Some unknown_variant) = code.UnknownValue
 cause_code None = code.ValueNotAllowed
 
--- the code of a refusal: a number that is not whole is refused where no table is asked
+-- the code of the cause of an error; `NotWhole` has its own, since it is not a cause of the tables
 abbrev pub refusal_code : declared.Cause → Code
 refusal_code refused.NotWhole = code.NotWhole
 refusal_code c = cause_code (cause_in c)
@@ -116,7 +117,7 @@ faults_in t = each fault_stated (told final_tables (by open_api) t)
 
 -- ---- errors
 
--- the errors of a document, beside those of numbers that are not whole
+-- the errors of a document, except for those about numbers that are not whole
 abbrev pub errors_in : Tree → List Statement
 errors_in t = version_in t ++ faults_in t
 
@@ -135,19 +136,19 @@ losses_in t = map dropped_stated (dropped_in (by open_api) t)
 
 -- ---- references
 
--- that a reference leads to no value, at its text
+-- the statement that a reference leads to no value, at the location of its `$ref`
 abbrev pub unresolved_at : Place × List ℕ × Kind → Statement
 unresolved_at r = (r.0 ++ named (codes "$ref") ∷ [], code.UnresolvedReference)
 
--- what is to be reported of a reference in a document: nothing if it leads to a value
+-- what is to be reported about a reference in a document: nothing if it leads to a value or is not within the document
 abbrev pub reference_stated : Tree → Place × List ℕ × Kind → List Statement
 reference_stated t r = cond (leads_to_value r.1 t) [] (unresolved_at r ∷ [])
 
--- the references of a document that lead to no value
+-- the statements about the references within a document that lead to no value
 abbrev pub unresolved_in : Tree → List Statement
 unresolved_in t = flat (each (reference_stated t) (references_in (by open_api) t))
 
--- ---- names that come again
+-- ---- names that occur more than once
 
 abbrev pub repeated_at : Place → Statement
 repeated_at p = (p, code.RepeatedName)

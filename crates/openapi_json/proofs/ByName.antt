@@ -1,4 +1,4 @@
--- What is written of a tree by name is read by name as that tree, with its members by name.
+-- The text that a node is written as by name is read by name as that node, with its members sorted by name.
 use Rattle.std.proofs.Common.{◌≡◌, ℕ, ◌≤◌, List, [], ◌∷◌, ◌++◌, Some, Ordering, Less, Equal, Greater, option_map, option_and_then}
 use Rattle.std.proofs.Common.{false, nat_cmp, Ok, Err, Result, IfOk, OnOk, String, Global, string_bytes, append-nil, refl, sym, ap}
 use Rattle.std.proofs.Common.{subst, ◌∙◌, arith}
@@ -32,7 +32,7 @@ use Rattle.openapi_json.proofs.Ordered.{read_of}
 use Rattle.openapi_json.proofs.ReadBack.{number_again, number_spelled}
 
 -- ---- members in order are read in their order
--- the members with these before them
+-- the second members, with the first ones before them
 abbrev behind : Members → Members → Members
 behind no_members ms = ms
 behind (member k d es) ms = member k d (behind es ms)
@@ -50,7 +50,7 @@ below_in : (l k : List ℕ) (d : Data) (done ms : Members) → Below l (behind d
 below_in l k d no_members ms b = b.0
 below_in l k d (member m e done) ms b = below_in l k d done ms b.1
 
--- a name that is above all others goes last
+-- a name that is greater than all others is put last
 put_last : (k : List ℕ) (d : Data) (done ms : Members) → InOrder (behind done (member k d ms))
     → put k d done ≡ behind done (member k d no_members)
 put_last k d no_members ms o = refl
@@ -60,7 +60,7 @@ put_last k d (member l e done) ms o =
     ap (λ r. match_ordering r (member k d (member l e done)) (member l d done) (member l e (put k d done))) above
     ∙ ap (member l e) (put_last k d done ms o.1)
 
--- ---- what is written of data is read as them
+-- ---- data is read back from the JSON value that it is written as
 record Again (n : ℕ) (d : Data) : Type 0 where
   reads : of_json (outline d) ≡ Some d
   numbers : HasNumbers (outline d)
@@ -163,7 +163,7 @@ mutual
       members_again ms n (put k (data_of t) done) w.1 (omega (arith, s))
       (again_put n k (data_of t) done (again t n w.0 (omega (arith, s))) h) (InOrder-put k (data_of t) done o)
 
--- a text of these tokens, where the tree nests no deeper than may be read
+-- a text with the tokens of a node's data by name is read as the node by name, if it nests at most `max_depth` deep
 pub read_by_name : (text : List ℕ) (t : Tree) → IsUtf8 text → tokens text ≡ data_tokens (data_of t) → AreWhole t
     → nesting t ≤ max_depth → IsTreeOfText text (tree_by_name t)
 read_by_name text t utf8 is whole shallow =
@@ -179,21 +179,21 @@ read_by_name text t utf8 is whole shallow =
       is = record { whole_numbers = a.plain; same = refl };
     }
 
--- the tokens of the compact text of a tree by name are those of its data
+-- the tokens of the compact text of a node by name are those of its data
 pub named_tokens : (t : Tree) → AreWhole t → tokens (compact_text (data_of t)) ≡ data_tokens (data_of t)
 named_tokens t whole =
     let d = data_of t in
     ap tokens (sym (print-outline d))
     ∙ tokens-print (data_tokens d) (ArePrintable-json_tokens (outline d) (again t (nesting t) whole (omega arith)).numbers)
 
--- and so are those of a line of that text
+-- so are the tokens of that text with a line feed at its end
 pub named_line : (t : Tree) → AreWhole t → tokens (compact_text (data_of t) ++ 10 ∷ []) ≡ data_tokens (data_of t)
 named_line t whole =
     let d = data_of t in
     ap (λ l. tokens (l ++ 10 ∷ [])) (sym (print-outline d))
     ∙ compact_line (data_tokens d) (ArePrintable-json_tokens (outline d) (again t (nesting t) whole (omega arith)).numbers)
 
--- what was made of these tokens is read as the tree by name
+-- if a result has these tokens, it is read as the node by name, under the same condition
 pub read_again_by_name : {E : Type 0} (r : Result (String Global) E) (t : Tree)
     → IfOk r (λ s. tokens (string_bytes s) ≡ data_tokens (data_of t)) → AreWhole t
     → IfOk r (λ s. nesting t ≤ max_depth → IsTreeOfText (string_bytes s) (tree_by_name t))
@@ -201,7 +201,7 @@ read_again_by_name (Ok s) t is whole =
     λ shallow. read_by_name (string_bytes s) t (IsUtf8-string_bytes s) is whole shallow
 read_again_by_name (Err e) t is whole = tt
 
--- what was made of the text of a tree is read as that tree by name
+-- if a result is the compact text of a node by name, it is read as the node by name, under the same condition
 pub named_again : {E : Type 0} (r : Result (String Global) E) (t : Tree) → IfOk r (λ s. string_bytes s ≡ compact_text (data_of t))
     → OnOk r (AreWhole t) → IfOk r (λ s. nesting t ≤ max_depth → IsTreeOfText (string_bytes s) (tree_by_name t))
 named_again (Ok s) t is whole =

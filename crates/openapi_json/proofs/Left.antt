@@ -1,4 +1,4 @@
--- What is left of a list after some of it, and its tokens behind those that were written.
+-- The rest of a list after some of its elements, and the tokens of the rest after those that were written.
 use Rattle.std.proofs.Common.{◌≡◌, ℕ, ◌+◌, List, [], ◌∷◌, ◌++◌, drop, slice_get, Some, sym, ap, ◌∙◌, append_assoc}
 use Rattle.std.proofs.lemmas.List.{drop_more}
 use Rattle.std.proofs.lemmas.Option.{get_or_from_slice_get, slice_get_within}
@@ -8,12 +8,12 @@ use Rattle.openapi_node.specs.Tree.{Tree}
 use Rattle.openapi_json.specs.Writing.{data_in, data_tokens, members_data_tokens, standing}
 use Rattle.openapi_json.specs.declared.write.Order.{Order}
 
--- what is left from an index on is the element there, and then what is left behind it
+-- the rest of a list from an index on is the element there, followed by the rest after it
 pub left_after : {A : Type 0} (xs : List A) (i : ℕ) (x : A) → slice_get xs i ≡ Some x → drop i xs ≡ x ∷ drop (i + 1) xs
 left_after xs i x at =
     drop_more xs i x (slice_get_within xs i x at) ∙ ap (λ y. y ∷ drop (i + 1) xs) (get_or_from_slice_get xs i x x at)
 
--- the next member was written
+-- after the next member was written, the tokens written and those of the rest are still those of the whole
 pub member_next : (o : Order) (old named new whole : List Token) (es : Entries Tree) (e : List ℕ × Tree) (rest : Entries Tree)
     → es ≡ e ∷ rest → named ≡ old ++ Token.key e.0 ∷ [] → new ≡ named ++ data_tokens (data_in o e.1)
     → old ++ members_data_tokens (standing o es) ≡ whole → new ++ members_data_tokens (standing o rest) ≡ whole

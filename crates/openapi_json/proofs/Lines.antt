@@ -1,5 +1,5 @@
--- The tokens of a text stay the same with gaps among them and behind the last: those of compact and of pretty text, each with
--- a line feed at its end.
+-- Gaps between the tokens of a text and after its last token leave the tokens the same. So compact and pretty text, each
+-- with a line feed at its end, have the tokens that were printed.
 use Rattle.std.proofs.Common.{◌≡◌, ℕ, zero, suc, ◌*◌, Bool, true, false, cond, ◌&&◌, List, [], ◌∷◌, ◌++◌, map, replicate, inl, inr}
 use Rattle.std.proofs.Common.{refl, sym, subst, ap, ap₂, ◌∙◌, append_assoc, append-nil}
 use Rattle.json.specs.Token.{Token, begin_object, end_object, begin_array, end_array, key, string, number, boolean, null, bad}
@@ -12,7 +12,7 @@ use Rattle.json.proofs.Printed.Numbers.{lex-number, in_word-ended}
 use Rattle.json.proofs.Printed.Strings.{content-escape, lex-escape}
 use Rattle.json.proofs.Printed.Tokens.{tokens-print_spaced}
 
--- ---- what a token is read as, before something that does not belong to it
+-- ---- what a token is read as, if it is followed by something that does not belong to it
 abbrev lexemes_of : Token → List Lexeme
 lexemes_of begin_object = token begin_object ∷ []
 lexemes_of end_object = token end_object ∷ []
@@ -59,7 +59,7 @@ gap_read [] r h = refl
 gap_read (x ∷ g) r (inl e, h) = rw e (gap_read g r h)
 gap_read (x ∷ g) r (inr e, h) = rw e (gap_read g r h)
 
--- ---- a gap behind the last token
+-- ---- a gap after the last token
 gap_ends : (g y : List ℕ) → IsGap g → ends_word y ≡ true → ends_word (g ++ y) ≡ true
 gap_ends [] y h e = e
 gap_ends (x ∷ g) y (inl is, h) e = rw is
@@ -128,7 +128,7 @@ unfolding print_from print_spaced
 compact_spaced c [] = refl
 compact_spaced c (t ∷ ts) = ap (λ l. separator c t ++ (token_text t ++ l)) (compact_spaced (ends t) ts)
 
--- a line of compact text has the tokens that were printed
+-- compact text with a line feed at its end has the tokens that were printed
 pub compact_line : (ts : List Token) → ArePrintable ts → tokens (print ts ++ 10 ∷ []) ≡ ts
 compact_line ts p =
     ap (λ l. tokens (l ++ 10 ∷ [])) (compact_spaced false ts)
@@ -181,7 +181,7 @@ pretty_spaced s (t ∷ ts) =
     ∙ ap (λ l. a ++ (b ++ (token_text t ++ l)))
     (pretty_spaced (step s t) ts ∙ ap (λ e. print_spaced e (spread (step s t) ts)) (ends_same s t))
 
--- pretty text and the end of its last line have the tokens that were printed
+-- pretty text with a line feed at its end has the tokens that were printed
 pub pretty_line : (ts : List Token) → ArePrintable ts → tokens (pretty ts ++ 10 ∷ []) ≡ ts
 pretty_line ts p =
     ap (λ l. tokens (l ++ 10 ∷ [])) (pretty_spaced (nothing, 0) ts)

@@ -1,4 +1,4 @@
--- The first tokens of the values in a value, by their numbers.
+-- The first tokens of the values inside a value, by their numbers.
 use Rattle.std.proofs.Common.{◌≡◌, ℕ, zero, suc, ◌+◌, ◌<◌, ◌≤◌, List, [], ◌∷◌, ◌++◌, Option, Some, None, option_map, drop, get_or, length, take}
 use Rattle.std.proofs.Common.{append-nil, length-append, sym, ap, subst, arith, refl}
 use Rattle.std.proofs.lemmas.List.{drop_all}
@@ -14,7 +14,7 @@ use Rattle.openapi_json.specs.Positions.{flat, IsLastNamed, item_tokens, member_
 use Rattle.openapi_json.specs.declared.first_tokens.FirstToken.{FirstToken}
 use Rattle.openapi_json.proofs.Positions.{item_steps, member_steps}
 
--- there is one for each item, and for each member
+-- there is one first token for each item, and for each member
 pub items_length : {A : Type 0} (vs : List (Value A)) (n : ℕ) (ts : List FirstToken) → ItemsAreFirst (items_view vs) n ts
     → length ts ≡ length vs
 items_length [] n ts h = ap length h
@@ -27,7 +27,7 @@ members_length [] n ts h = ap length h
 members_length (m ∷ ms) n [] h = absurd h
 members_length (m ∷ ms) n (t ∷ ts) h = ap suc (members_length ms (n + 1 + length (json_tokens (value_view m.1))) ts h.1)
 
--- the number is that of the token
+-- the first token of a value has the number of tokens before the value as its number
 pub first_number : (j : Json) (n : ℕ) (t : FirstToken) → IsFirst j n t → number_of t ≡ n
 first_number null n t h = h
 first_number (boolean b) n t h = h
@@ -39,7 +39,7 @@ first_number (object ms) n t h = h.0
 pub first_of_own : (j : Json) (n : ℕ) (t : FirstToken) → IsFirst j n t → IsFirst j (number_of t) t
 first_of_own j n t h = subst (λ m. IsFirst j m t) (sym (first_number j n t h)) h
 
--- the one at an index is that of the item there, and that of the value of the member there
+-- the first token at an index is that of the item there, or that of the value of the member there
 item_first : {A : Type 0} (vs : List (Value A)) (i n : ℕ) (ts : List FirstToken) (d : Value A) (e : FirstToken) → i < length vs
     → ItemsAreFirst (items_view vs) n ts
     → IsFirst (value_view (get_or vs i d)) (n + length (flat item_tokens (take i vs))) (get_or ts i e)
@@ -62,7 +62,7 @@ member_first (m ∷ ms) (suc i) n (t ∷ ts) d e h a =
     (omega (arith, length-append (json_tokens (value_view m.1)) (flat member_tokens (take i ms))))
     (member_first ms i (n + 1 + length (json_tokens (value_view m.1))) ts d e (omega (arith, h)) a.1)
 
--- the loops end with those of all
+-- after the loops, the first tokens are those of all items or members
 pub all_items : {A : Type 0} (vs ws : List (Value A)) (n m i : ℕ) (ts : List FirstToken) → ws ≡ vs → length ws ≤ i
     → ((us : List FirstToken) → ItemsAreFirst (items_view (drop i ws)) m us → ItemsAreFirst (items_view ws) n (ts ++ us))
     → ItemsAreFirst (items_view vs) n ts
@@ -79,7 +79,7 @@ all_members ms ns n m i ts same h f =
     (subst (MembersAreFirst (members_view ns) n) (append-nil ts)
     (f [] (subst (λ xs. MembersAreFirst (members_view xs) m []) (sym (drop_all i ns h)) refl)))
 
--- a step leads to the value at the index
+-- a step leads to the value at the index, whose first token is the one at the index
 pub leads_to_item : {A : Type 0} (vs : List (Value A)) (i n : ℕ) (ts : List FirstToken) (d : Value A) (e : FirstToken)
     → i < length vs → ItemsAreFirst (items_view vs) (n + 1) ts
     → LeadsFrom n (indexed i) (array (items_view vs)) (get_or ts i e) (value_view (get_or vs i d))
@@ -108,7 +108,7 @@ leads_to_member name ms i n ts d e it a =
       first = first_of_own k (n + 1 + 1 + length (flat member_tokens (take i ms))) (get_or ts i e) first;
     }
 
--- the number below a first token before which no token comes
+-- if a first token has the number 0, a number counted from it is the number itself
 pub from_zero : (t n : ℕ) (o : Option ℕ) → t ≡ 0 → Some n ≡ option_map (λ k. t + k) o → o ≡ Some n
 from_zero t n None e h = not_found n (sym h)
 from_zero t n (Some k) e h = let is : k ≡ n = omega (arith, e, Some_inj n (t + k) h) in ap Some is

@@ -5,17 +5,17 @@ use Rattle.openapi_node.specs.Json.{number_tree}
 use Rattle.openapi_node.specs.Tree.{whole}
 use Rattle.openapi_json.specs.Ordered.{is_whole, tree_or_zero}
 
--- the tree of a whole number's data is the number again
+-- the node of the data of a whole number is the number again
 pub whole_tree : (z : ℤ) → number_tree (of_integer z) ≡ whole z
 whole_tree (pos n) = refl
 whole_tree (negsuc n) = refl
 
--- and no 0 is in its place
+-- `tree_or_zero` does not replace it with 0
 pub whole_kept : (z : ℤ) → tree_or_zero (of_integer z) ≡ whole z
 whole_kept (pos n) = refl
 whole_kept (negsuc n) = refl
 
--- it is whole
+-- the number is whole
 pub integer_whole : (z : ℤ) → is_whole (of_integer z) ≡ true
 integer_whole (pos n) = refl
 integer_whole (negsuc n) = refl

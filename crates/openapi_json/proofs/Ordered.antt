@@ -1,4 +1,4 @@
--- The data of a text in its order, beside that by name: what is read by name is what is read in order, sorted.
+-- The data of a text in its order, and by name: what is read by name is what is read in order, sorted.
 use Rattle.std.proofs.Common.{◌≡◌, List, [], ◌∷◌, Bool, true, false, cond, ◌&&◌, Option, Some, None, IfSome, option_map}
 use Rattle.std.proofs.Common.{option_and_then, ℕ, Ordering, Less, Equal, Greater, nat_cmp, refl, sym, ap, subst, ◌∙◌, true≢false}
 use Rattle.std.proofs.lemmas.Cmp.{nat_list_cmp_total, tied_itself}
@@ -27,7 +27,7 @@ apart_names : (k l : List ℕ) → bytes_eq k l ≡ false → k ≡ l → ⊥
 apart_names k l differ is = true≢false (sym ((bytes_eq-Decides k l).1 is) ∙ differ)
 
 -- ---- members that are put among others
--- of one name the last stays
+-- the last value of a repeated name is used
 put_same : (k : List ℕ) (d e : Data) (ms : Members) → put k d (put k e ms) ≡ put k d ms
 put_same k d e no_members =
     ap (λ o. match_ordering o (member k d (member k e no_members)) (member k d no_members) (member k e (member k d no_members)))
@@ -67,7 +67,7 @@ same_found q k l d e ms apart = by (bytes_eq q k) (bytes_eq q l) refl refl
         ∙ sym (get_member-put_other q l e (put k d ms) (apart_names q l y)
         ∙ get_member-put_other q k d ms (apart_names q k x))
 
--- two of different names go in either order
+-- two members with different names may be put in either order
 put_swap : (k l : List ℕ) (d e : Data) (ms : Members) → (k ≡ l → ⊥) → InOrder ms
     → put k d (put l e ms) ≡ put l e (put k d ms)
 put_swap k l d e ms apart o =
@@ -105,7 +105,7 @@ distinct_put k d (member l e ms) h = by (bytes_eq k l) refl (distinct_put k d ms
     by true is rest = h
     by false is rest = (absent_put l k d ms (nat_list_eq_equiv.symm l k ∙ is) h.0, rest)
 
--- a member of another name goes before the others or behind them
+-- a member with a name that the others lack may be put before them or after them
 moved : (k : List ℕ) (d : Data) (ms acc : Members) → IsAbsent k ms → InOrder acc
     → members_by_name ms (put k d acc) ≡ put k d (members_by_name ms acc)
 moved k d no_members acc a o = refl
@@ -113,7 +113,7 @@ moved k d (member l e ms) acc a o =
     ap (members_by_name ms) (put_swap l k (by_name e) d acc (λ s. apart_names k l a.0 (sym s)) o)
     ∙ moved k d ms (put l (by_name e) acc) a.1 (InOrder-put l (by_name e) acc o)
 
--- what is put in its place among members is put among them by name
+-- if a member is put in place and the members are then sorted, the result is as if it were put among the sorted members
 put_by_name : (k : List ℕ) (d : Data) (ms acc : Members) → AreDistinct ms → InOrder acc
     → members_by_name (put_in_place k d ms) acc ≡ put k (by_name d) (members_by_name ms acc)
 put_by_name k d no_members acc h o = refl
@@ -163,7 +163,7 @@ member_read k ms es h (Some d) rest =
     ap (of_members ms) (sym (put_by_name k d es no_members h tt)) ∙ rest (put_in_place k d es) (distinct_put k d es h)
 
 mutual
-  -- by name is read what is read in order, sorted
+  -- reading by name gives what reading in order gives, sorted
   pub read_by_name : (j : json.Json) → of_json j ≡ option_map by_name (in_order j)
   read_by_name json.null = refl
   read_by_name (json.boolean b) = refl
@@ -186,7 +186,7 @@ mutual
       ap (option_and_then (λ d. of_members ms (put k d (members_by_name es no_members)))) (read_by_name j)
       ∙ member_read k ms es h (in_order j) (members_read ms)
 
--- ---- what is read in order has no name twice
+-- ---- what is read in order has no repeated names
 abbrev mutual
   IsClear : Data → Type 0
   IsClear null = Unit {0}
@@ -258,7 +258,7 @@ mutual
   members_clear json.no_members es h = h
   members_clear (json.member k j ms) es h = member_clear k ms es (in_order j) h (read_clear j) (members_clear ms)
 
--- ---- and where none is found in it by name, it has no float
+-- ---- if the data by name has no float, the data in order has none
 put_plain : (k : List ℕ) (d : Data) (ms : Members) → members_have_float (put k d ms) ≡ false → has_float d ≡ false
 put_plain k d no_members h = (none (has_float d) false h).0
 put_plain k d (member l e ms) h = by (slice_cmp nat_cmp k l) h (put_plain k d ms)
@@ -294,8 +294,8 @@ mutual
       both (has_float d) (members_have_float ms) (plain d c.1.0 first)
       (members_plain ms (put k (by_name d) acc) (c.0.1, c.1.1) (InOrder-put k (by_name d) acc o) h)
 
--- ---- the tree of what is read
--- the tree of data, with 0 in place of each number that is not whole
+-- ---- the node of what is read
+-- the node of data, with 0 in place of each number that is not whole
 abbrev mutual
   pub filled : Data → Tree
   filled null = tree.null
@@ -314,7 +314,7 @@ abbrev mutual
   members_filled (member k d ms) = tree.member k (filled d) (members_filled ms)
 
 mutual
-  -- without a float it is the tree of the data
+  -- for data without floats, this is the node of the data
   pub filled_plain : (d : Data) → has_float d ≡ false → filled d ≡ tree_of_data d
   filled_plain null h = refl
   filled_plain (boolean b) h = refl
@@ -390,7 +390,7 @@ member_made k j ms es (Some d) h rest =
     (rest (put_in_place k d es))
 
 mutual
-  -- what is made of a value is the tree of its data in order
+  -- the node of a JSON value is the one of its data in order, with zeros
   pub made : (j : json.Json) → IfSome (in_order j) (λ d. tree_of j ≡ filled d)
   made json.null = refl
   made (json.boolean b) = refl
@@ -408,7 +408,7 @@ mutual
   members_made json.no_members es = refl
   members_made (json.member k j ms) es = member_made k j ms es (in_order j) (made j) (members_made ms)
 
--- ---- where all numbers are whole, there is data without a float
+-- ---- if all numbers are whole, the data has no float
 abbrev pub IsPlain : Option Data → Type 0
 IsPlain None = ⊥
 IsPlain (Some d) = has_float d ≡ false
@@ -487,8 +487,8 @@ mutual
       let parts = and_parts (all_whole j) (members_whole ms) h in
       member_plain k ms es (in_order j) (whole_plain j parts.0) p (λ fs q. members_whole_plain ms fs parts.1 q)
 
--- ---- the tree of a text in order
--- data in order that have no float, and the tree that was made
+-- ---- the node of a text in order
+-- there is data in order without floats, and the node of the JSON value is that of the data
 pub record IsReadInOrder (j : json.Json) : Type 0 where
   pub value : Data
   pub reads : in_order j ≡ Some value
@@ -500,7 +500,7 @@ in_order_from j None e p h = absurd p
 in_order_from j (Some d) e p h =
     record { value = d; reads = e; is = record { whole_numbers = p; same = h ∙ filled_plain d p } }
 
--- where all numbers are whole
+-- this is so if all numbers are whole
 pub read_whole : (j : json.Json) → all_whole j ≡ true → IsReadInOrder j
 read_whole j h = in_order_from j (in_order j) refl (whole_plain j h) (made j)
 
@@ -510,16 +510,16 @@ by_name_from (Some d) v c e h =
     let same : v ≡ by_name d = cc in
     plain d c (ap has_float (sym same) ∙ h)
 
--- and where what is read by name has no float
+-- it is also so if what is read by name has no float
 pub read_either : (j : json.Json) (v : Data) → of_json j ≡ Some v → has_float v ≡ false → IsReadInOrder j
 read_either j v e h =
     in_order_from j (in_order j) refl (by_name_from (in_order j) v (read_clear j) (sym e ∙ read_by_name j) h) (made j)
 
--- what `serde_json` reads of a text, by what the grammar reads
+-- what `serde_json` reads from a text, in terms of what the grammar reads
 pub read_of : (text : List ℕ) (j : json.Json) → parsed text ≡ Some j → read text ≡ of_json j
 read_of text j is = ap (option_and_then of_json) is
 
--- the tree that was made of the value of a text is the tree of that text in order
+-- if the JSON value of a text is read in order, its node is the node of the text in order
 pub in_order_of : (text : List ℕ) (j : json.Json) (t : Tree) → IsUtf8 text → parsed text ≡ Some j → t ≡ tree_of j
     → IsReadInOrder j → IsTreeInOrder text t
 in_order_of text j t utf8 is same r =

@@ -9,11 +9,11 @@ use Rattle.json.specs.Tree.{json_tokens, items_tokens, members_tokens}
 use Rattle.json.proofs.Found.{not_found, Some_inj}
 use Rattle.json.proofs.Grammar.{closed_array, key_token, read_key_is}
 
--- what is read of tokens, and what is left of them
+-- the parser consumes the tokens of what it returns, and leaves the rest
 abbrev Reads : {A : Type 0} → Parse A → (A → List Token) → Type 0
 Reads {A} p f = (ts r : List Token) (a : A) → p ts ≡ Some (a, r) → ts ≡ f a ++ r
 
--- two results that are the same give the same, and leave the same
+-- two equal results have the same value and the same rest
 gives : {A : Type 0} (a b : A) (r s : List Token) → ◌≡◌ {A = Option (A × List Token)} (Some (a, r)) (Some (b, s)) → a ≡ b
 gives {A} a b r s e = ap (λ (p : A × List Token). p.0) (Some_inj (a, r) (b, s) e)
 
@@ -97,7 +97,7 @@ value_with_reads a o f g (Token.boolean b ∷ ts) r j e =
 value_with_reads a o f g (Token.null ∷ ts) r j e = λ i. json_tokens (gives null j ts r e i) ++ leaves null j ts r e i
 value_with_reads a o f g (Token.bad ∷ ts) r j e = not_found (j, r) e
 
--- the tokens of a value that is read are those of that value, before the rest
+-- the parser of values consumes the tokens of the value that it returns, and leaves the rest
 pub value_reads : (d : ℕ) → Reads (value d) json_tokens
 unfolding value
 value_reads zero =

@@ -33,7 +33,7 @@ behind_more before p x h =
       spot = ap (λ s. behind_byte s x) h.spot ∙ sym (spot_more (1, 1) before x);
     }
 
--- the n-th token of a text begins at a point, where some bytes of it are left
+-- the n-th token that begins in `xs`, which follows the bytes `before`, begins at the point `q`
 record IsNext (before : List ℕ) (m : lexing.Mode) (xs : List ℕ) (n : ℕ) (q : Point) : Type 0 where
   offset : slice_get (starts_from m (length before) xs) n ≡ Some q.offset
   point : IsBehind (take q.offset (before ++ xs)) q
@@ -104,7 +104,7 @@ points_count m i p (x ∷ xs) = by (begins m (class x) x) (points_count (next_mo
     by true e = ap suc e
     by false e = e
 
--- and there is one for each token
+-- there is a point for each token
 as_many_points : (text : List ℕ) → length (points text) ≡ length (starts text)
 as_many_points text = points_count lexing.between 0 (point_of 0 (1, 1)) text
 
@@ -134,7 +134,7 @@ module _ (text : List ℕ) (p : Place) (j : Json) (reads : parsed text ≡ Some 
   stands_there utf8 =
       stands text p j s.number reads s.counted it utf8 (point_at text s.number it.value s.value) unnamed named
 
--- what is found by the points of a text is the position in it
+-- what is found by the points of a text is the position in the text
 is_position : (text : List ℕ) (j : Json) (p : Place) (o : Option Position) → IsUtf8 text → parsed text ≡ Some j
     → IsPositionAmong (points text) j p o → IsPositionAt text p o
 is_position text j p None utf8 reads it =
@@ -150,14 +150,14 @@ are_positions text j (p ∷ ps) [] utf8 reads a = a
 are_positions text j (p ∷ ps) (o ∷ os) utf8 reads a =
     (is_position text j p o utf8 reads a.0, are_positions text j ps os utf8 reads a.1)
 
--- the loop ends with those at all places
+-- after the loop, the relation holds for each location and its result
 pub all_places : {X : Type 0} (R : Place → Option Position → Type 0) (f : X → Place) (xs : List X) (i : ℕ)
     (os : List (Option Position)) → length xs ≤ i
     → ((us : List (Option Position)) → AllZip R (map f (drop i xs)) us → AllZip R (map f xs) (os ++ us)) → AllZip R (map f xs) os
 all_places R f xs i os h more =
     subst (AllZip R (map f xs)) (append-nil os) (more [] (subst (λ ys. AllZip R (map f ys) []) (sym (drop_all i xs h)) tt))
 
--- of a text that has no value none is one
+-- if a text has no value, results that are all `None` are the positions at the locations
 no_positions : (text : List ℕ) (ps : List Place) (os : List (Option Position)) → (IsUtf8 text → parsed text ≡ None)
     → length os ≡ length ps → All (λ o. o ≡ None) os → AllZip (IsPositionAt text) ps os
 no_positions text [] [] reads same none = tt

@@ -1,4 +1,4 @@
--- How many tokens of a value come before the one at a place in it, and what stands there in a text.
+-- How many tokens of a value come before the one at a location in it, and which value is there in a text.
 use Rattle.std.proofs.Common.{◌≡◌, ℕ, zero, suc, ◌+◌, ◌-◌, ◌<◌, ◌≤◌, List, [], ◌∷◌, ◌++◌, Bool, true, false, cond, Option, Some, None}
 use Rattle.std.proofs.Common.{IfSome, IsFalse, IsSomeAnd, IsTrue, is_some, MatchOption, option_and_then, option_map, drop, take, get_or}
 use Rattle.std.proofs.Common.{length, drop-drop, append_assoc, append-nil, length-append, length-drop, length-take, take_all, refl, sym, ap, subst, ◌∙◌}
@@ -30,7 +30,7 @@ use Rattle.openapi_json.specs.declared.position.Position.{Position}
 use Rattle.openapi_json.proofs.Parsed.{value_reads}
 use Rattle.openapi_json.proofs.Scanned.{AreOf, behind, byte_step, as_many_starts, good_behind, length_behind, nothing_left, start_is, start_within}
 
--- ---- the tokens of a text that is read
+-- ---- the tokens of a text that is parsed
 -- they are those of its value
 pub text_reads : (text : List ℕ) (j : Json) → parsed text ≡ Some j → tokens text ≡ json_tokens j
 text_reads text j e = by (value max_depth (tokens text)) refl e
@@ -47,7 +47,7 @@ good_append [] us g h = h
 good_append (t ∷ ts) us g h = (g.0, good_append ts us g.1 h)
 
 mutual
-  -- none of them is a fault
+  -- none of them is `bad`
   pub good_tokens : (j : Json) → AreGood (json_tokens j)
   good_tokens null = (λ e. cc, tt)
   good_tokens (boolean b) = (λ e. cc, tt)
@@ -65,7 +65,7 @@ mutual
   good_members (member k j ms) =
       (λ e. cc, good_append (json_tokens j) (members_tokens ms) (good_tokens j) (good_members ms))
 
--- there are no more of them than bytes
+-- there are no more tokens than bytes
 few_tokens : (m : lexing.Mode) (xs : List ℕ) (ts : List Token) → AreGood ts → AreOf (lex m xs) ts → length ts ≤ length xs
 few_tokens m [] ts g a = omega (arith, ap length (nothing_left m ts g a))
 few_tokens m (x ∷ xs) ts g a =
@@ -123,20 +123,20 @@ object_counts v ms w items is =
       ap (λ j. length (json_tokens j)) (ap value_view is ∙ view-Object v),
     )
 
--- one part, and what is left behind it
+-- the tokens of a part and of the rest after it
 pub part_counts : {X : Type 0} (f : X → List Token) (xs : List X) (i : ℕ) (d : X) → i < length xs
     → length (f (get_or xs i d)) + length (flat f (drop (i + 1) xs)) ≡ length (flat f (drop i xs))
 part_counts f xs i d h =
     sym (length-append (f (get_or xs i d)) (flat f (drop (i + 1) xs))) ∙ ap (λ ys. length (flat f ys)) (sym (drop_more xs i d h))
 
--- the first parts have no more than all
+-- the first parts have no more tokens than all
 pub take_counts : {X : Type 0} (f : X → List Token) (xs : List X) (i : ℕ) → length (flat f (take i xs)) ≤ length (flat f xs)
 take_counts f xs zero = omega arith
 take_counts f [] (suc i) = omega arith
 take_counts f (x ∷ xs) (suc i) =
     omega (arith, length-append (f x) (flat f (take i xs)), length-append (f x) (flat f xs), take_counts f xs i)
 
--- ---- a step, by the code
+-- ---- a step, in terms of the code
 pub item_number : {A : Type 0} (vs : List (Value A)) (i : ℕ) → i < length vs
     → length (flat item_tokens (take i vs)) ≡ before_item i (items_view vs)
 item_number [] i h = absurd (omega arith)
@@ -150,7 +150,7 @@ pub item_steps : {A : Type 0} (vs : List (Value A)) (i : ℕ) (d : Value A) → 
 item_steps vs i d h =
     record { found = sym (get_item_within vs i d h); number = ap (λ n. 1 + n) (item_number vs i h) }
 
--- the member at i has the name, and none behind it
+-- a step leads to the member at index `i` if it has the name and no later member has it
 module _ {A : Type 0} (name : List ℕ) (d : Bor (List ℕ) × Value A) where
   pub member_steps : (ms : List (Bor (List ℕ) × Value A)) (i : ℕ) → i < length ms → bytes_eq (get_or ms i d).0.now name ≡ true
       → get_member name (members_view (drop (i + 1) ms)) ≡ None
@@ -181,7 +181,7 @@ module _ {A : Type 0} (name : List ℕ) (d : Bor (List ℕ) × Value A) where
         );
       }
 
--- the members from the end, one by one: where that one has another name, none from it on has the name
+-- the members from the end, one by one: if this one has another name, no member from it on has the name
 pub none_from : {A : Type 0} (ms : List (Bor (List ℕ) × Value A)) (left : ℕ) (m : Bor (List ℕ) × Value A) (name : List ℕ)
     → 0 < left → left ≤ length ms → m ≡ get_or ms (left - 1) m → bytes_eq m.0.now name ≡ false
     → get_member name (members_view (drop left ms)) ≡ None → get_member name (members_view (drop (left - 1) ms)) ≡ None
@@ -193,12 +193,12 @@ none_from ms left m name some within is other none =
     ∙ ap (λ o. later_or o (cond (bytes_eq m.0.now name) (Some (value_view m.1)) None)) none
     ∙ ap (λ (b : Bool). cond b (Some (value_view m.1)) None) other
 
--- ---- a step, by the grammar
--- where a place ends with a name, that is the token before the n-th of a value, from which on they are these
+-- ---- a step, in terms of the grammar
+-- if a location ends with a name, the name is token `n - 1` of the value, followed by these tokens
 abbrev pub IsNamed : Place → Json → ℕ → List Token → Type 0
 IsNamed p j n ts = IfSome (last_name p) (λ k. (1 ≤ n) × (drop (n - 1) (json_tokens j) ≡ Token.key k ∷ ts))
 
--- so many tokens of j come before those of k, to which a step leads
+-- the tokens of `k`, to which a step leads, come after `before s j` tokens of `j`
 record StepsOver (s : Step) (j k : Json) : Type 0 where
   rest : List Token
   there : drop (before s j) (json_tokens j) ≡ json_tokens k ++ rest
@@ -212,7 +212,7 @@ item_there (suc i) (item j js) k e =
     let more = item_there i js k e in
     (more.0, passed (json_tokens j) (items_tokens js) (before_item i js) ∙ more.1)
 
--- the last member of a name, behind n tokens of the members
+-- the last member with a name comes after `n` tokens of the members
 record LastOf (name : List ℕ) (ms : Members) (k : Json) : Type 0 where
   n : ℕ
   rest : List Token
@@ -279,7 +279,7 @@ steps_over (indexed i) (array js) k e =
     record { rest = it.0; there = ap (λ n. drop n (json_tokens (array js))) number ∙ it.1; name = tt }
 steps_over (indexed i) (object ms) k e = not_found k e
 
--- ---- a place
+-- ---- a location
 begins_some : (j : Json) → 0 < length (json_tokens j)
 begins_some null = omega arith
 begins_some (boolean b) = omega arith
@@ -288,7 +288,7 @@ begins_some (string s) = omega arith
 begins_some (array js) = omega arith
 begins_some (object ms) = omega arith
 
--- a place leads to a value behind n tokens of j
+-- a location leads to a value whose tokens come after `n` tokens of `j`
 pub record LeadsTo (p : Place) (j : Json) (n : ℕ) : Type 0 where
   pub value : Json
   pub found : json_at p j ≡ Some value
@@ -296,13 +296,13 @@ pub record LeadsTo (p : Place) (j : Json) (n : ℕ) : Type 0 where
   pub there : drop n (json_tokens j) ≡ json_tokens value ++ rest
   pub name : IsNamed p j n (json_tokens value ++ rest)
 
--- where the tokens of a value stand among others there is room for them
+-- if the tokens of a value follow `n` tokens of a list, the list is long enough for both
 has_room : (ts : List Token) (n : ℕ) (j : Json) (rest : List Token) → drop n ts ≡ json_tokens j ++ rest
     → n + length (json_tokens j) ≤ length ts
 has_room ts n j rest e =
     omega (arith, length-drop n ts, ap length e, length-append (json_tokens j) rest, begins_some j)
 
--- the first of a list, before the others
+-- a list is its first element, followed by the others
 pub first_and_more : {X : Type 0} (xs : List X) (x : X) → 1 ≤ length xs → x ≡ get_or xs 0 x
     → xs ≡ x ∷ take (length xs - 1) (drop 1 xs)
 first_and_more [] x h is = absurd (omega (arith, h))
@@ -350,7 +350,7 @@ module _ (s : Step) (j k : Json) (m : ℕ) (found : child s j ≡ Some k) (a : S
       ))
       b.name
 
-  -- a step, and a place behind it
+  -- a step, followed by a location
   behind_step : (p : Place) → LeadsTo p k m → LeadsTo (s ∷ p) j (skipped + m)
   behind_step p b =
       record {
@@ -363,7 +363,7 @@ module _ (s : Step) (j k : Json) (m : ℕ) (found : child s j ≡ Some k) (a : S
         name = named_there p b;
       }
 
--- the empty place leads to the value itself
+-- the empty location leads to the value itself
 leads_nowhere : (j : Json) → LeadsTo [] j 0
 leads_nowhere j =
     record { value = j; found = refl; rest = []; there = sym (append-nil (json_tokens j)); name = tt }
@@ -372,7 +372,7 @@ summed : (n m : ℕ) (o : Option ℕ) → option_map (λ l. n + l) o ≡ Some m 
 summed n m None e = not_found m e
 summed n m (Some l) e = (l, refl, Some_inj (n + l) m e)
 
--- what the first step of a place leads to, and the number at the rest of the place in that
+-- the value to which the first step of a location leads, and the number of tokens in it before the rest of the location
 record Stepped (s : Step) (p : Place) (j : Json) (m : ℕ) : Type 0 where
   value : Json
   number : ℕ
@@ -390,7 +390,7 @@ stepped s p j m e = by (child s j) refl e
         let it = summed (before s j) m (tokens_before p k) f in
         record { value = k; number = it.0; found = is; counted = it.1; sum = it.2 }
 
--- the number of the tokens before the value at a place is that by which it is found among the tokens
+-- the value at a location is found after as many tokens as `tokens_before` counts
 pub leads : (p : Place) (j : Json) (n : ℕ) → tokens_before p j ≡ Some n → LeadsTo p j n
 leads [] j n e = subst (LeadsTo [] j) (Some_inj 0 n e) (leads_nowhere j)
 leads (s ∷ p) j n e =
@@ -398,7 +398,7 @@ leads (s ∷ p) j n e =
     subst (LeadsTo (s ∷ p) j) it.sum
     (behind_step s j it.value it.number it.found (steps_over s j it.value it.found) p (leads p it.value it.number it.counted))
 
--- there is room for the tokens of the value to which a step leads, and for those before the one at a place in that
+-- the tokens of the value to which a step leads, and those before it, are no more than all tokens
 pub step_room : (s : Step) (j k : Json) (n : ℕ) → StepsTo s j n k → n + length (json_tokens k) ≤ length (json_tokens j)
 step_room s j k n a =
     let it = steps_over s j k a.found in
@@ -409,14 +409,14 @@ place_room p j n e =
     let it = leads p j n e in
     omega (arith, has_room (json_tokens j) n it.value it.rest it.there, begins_some it.value)
 
--- a step, and the number at the place behind it
+-- the number of tokens before a location that begins with a step, by the number after the step
 pub after_step : (s : Step) (p : Place) (j : Json) (n : ℕ) (k : Json) → StepsTo s j n k
     → tokens_before (s ∷ p) j ≡ option_map (λ m. n + m) (tokens_before p k)
 after_step s p j n k a =
     ap (option_and_then (λ w. option_map (λ m. before s j + m) (tokens_before p w))) a.found
     ∙ ap (λ l. option_map (λ m. l + m) (tokens_before p k)) (sym a.number)
 
--- where there is no number there is no value
+-- if there is no number, there is no value
 uncounted : (n : ℕ) (o : Option ℕ) → option_map (λ l. n + l) o ≡ None → o ≡ None
 uncounted n None e = refl
 uncounted n (Some l) e = not_found (n + l) (sym e)
@@ -430,7 +430,7 @@ leads_to_none (s ∷ p) j e = by (child s j) e (leads_to_none p)
     by None f more = refl
     by (Some k) f more = more k (uncounted (before s j) (tokens_before p k) f)
 
--- where a place ends with a name, a token comes before the value
+-- if a location ends with a name, at least one token comes before the value
 pub has_name : (p : Place) (j : Json) (n : ℕ) → tokens_before p j ≡ Some n → IsTrue (is_some (last_name p)) → 1 ≤ n
 has_name p j n counted is = by (last_name p) is (leads p j n counted).name
   where
@@ -442,7 +442,7 @@ has_name p j n counted is = by (last_name p) is (leads p j n counted).name
     by (Some k) is h = h.0
 
 -- ---- a text
--- the point behind the bytes before a token
+-- the point after the bytes before a token is the point of the token
 pub token_at : (text : List ℕ) (n o : ℕ) (q : Point) → slice_get (starts text) n ≡ Some o → IsBehind (take o text) q
     → IsToken text n q
 token_at text n o q is behind =

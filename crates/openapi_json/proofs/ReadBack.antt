@@ -1,4 +1,4 @@
--- What is written of a tree in order is read in order as that tree.
+-- The text that a node is written as in order is read in order as that node.
 use Rattle.std.proofs.Common.{◌≡◌, ℕ, suc, ◌≤◌, max, ℤ, pos, negsuc, List, [], ◌∷◌, ◌++◌, Bool, true, false, not, ◌&&◌, cond, Some, option_and_then}
 use Rattle.std.proofs.Common.{Result, Ok, Err, IfOk, OnOk, String, Global, string_bytes, append-nil, refl, sym, ap, subst, ◌∙◌, true≢false, arith}
 use Rattle.std.proofs.lemmas.Int.{ints}
@@ -50,8 +50,8 @@ pub number_spelled : (z : ℤ) → IsWhole z → IsNumber (number_text (of_integ
 number_spelled (pos n) h = IsNumber-decimal n (omega (arith, ints, h.1))
 number_spelled (negsuc n) h = IsNumber-signed_decimal (negsuc n) (omega (arith, ints, h.0))
 
--- ---- members whose names differ stay in their order
--- the members with these before them
+-- ---- members with different names stay in their order
+-- the members, with these entries before them
 abbrev before : Entries Tree → tree.Members → tree.Members
 before [] ms = ms
 before (e ∷ es) ms = tree.member e.0 e.1 (before es ms)
@@ -102,7 +102,7 @@ apart_none : (ms : tree.Members) → AreApart [] ms
 apart_none tree.no_members = tt
 apart_none (tree.member k t ms) = (tt, apart_none ms)
 
--- ---- the value that is written of a tree
+-- ---- the JSON value that a node is written as
 record Written (t : Tree) (j : json.Json) : Type 0 where
   tree : tree_of j ≡ t
   whole : all_whole j ≡ true
@@ -178,7 +178,7 @@ mutual
         nests = λ i. max (a.nests i) (b.nests i);
       }
 
--- the tokens of the compact text of a tree are those of its data
+-- the tokens of the compact text of a node are those of its data
 pub spelled : (text : List ℕ) (t : Tree) → text ≡ compact_text (data_in_order t) → well_named t ≡ true → AreWhole t
     → tokens text ≡ data_tokens (data_in_order t)
 spelled text t is named whole =
@@ -186,7 +186,7 @@ spelled text t is named whole =
     ap tokens (is ∙ sym (print-outline d))
     ∙ tokens-print (data_tokens d) (ArePrintable-json_tokens (outline d) (written t named whole).numbers)
 
--- so are those of a line of that text, and of pretty text with the end of its last line
+-- so are those of that text with a line feed at its end, and of pretty text with a line feed at its end
 pub line_spelled : (t : Tree) → well_named t ≡ true → AreWhole t
     → tokens (compact_text (data_in_order t) ++ 10 ∷ []) ≡ data_tokens (data_in_order t)
 line_spelled t named whole =
@@ -200,7 +200,7 @@ pretty_spelled t named whole =
     let d = data_in_order t in
     pretty_line (data_tokens d) (ArePrintable-json_tokens (outline d) (written t named whole).numbers)
 
--- a text of these tokens, where the tree nests no deeper than may be read
+-- a text with these tokens is read as the node, if the node nests at most `max_depth` deep
 pub read_again : (text : List ℕ) (t : Tree) → IsUtf8 text → tokens text ≡ data_tokens (data_in_order t) → well_named t ≡ true
     → AreWhole t → nesting t ≤ max_depth → IsTreeInOrder text t
 read_again text t utf8 is named whole shallow =
@@ -211,7 +211,7 @@ read_again text t utf8 is named whole shallow =
     ∙ value-json_tokens j max_depth [] (subst (λ n. n ≤ max_depth) (sym w.nests) shallow)) in
     in_order_of text j t utf8 read (sym w.tree) (read_whole j w.whole)
 
--- and what was made of one
+-- so is a result with these tokens
 pub written_again : {E : Type 0} (r : Result (String Global) E) (t : Tree) → well_named t ≡ true
     → IfOk r (λ s. tokens (string_bytes s) ≡ data_tokens (data_in_order t)) → AreWhole t
     → IfOk r (λ s. nesting t ≤ max_depth → IsTreeInOrder (string_bytes s) t)
@@ -226,7 +226,7 @@ compact_again (Ok s) t named is whole =
     written_again {E = ⊥} (Ok s) t named (spelled (string_bytes s) t is named whole) whole
 compact_again (Err e) t named is whole = tt
 
--- a text has one tree in order
+-- a text has only one node in order
 pub one_in_order : (text : List ℕ) (t u : Tree) → IsTreeInOrder text t → IsTreeInOrder text u → t ≡ u
 one_in_order text t u a b =
     let same : a.value ≡ b.value = some_same (sym a.reads ∙ b.reads) in

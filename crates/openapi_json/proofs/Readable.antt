@@ -1,5 +1,5 @@
--- The tree of a text: it nests no deeper than may be read, and its numbers are whole. In order no object of it holds a name
--- twice.
+-- The node of a text nests at most `max_depth` deep, and its numbers fit an `i64` or a `u64`. If it is read in order, no
+-- object of it has a repeated name.
 use Rattle.std.proofs.Common.{◌≡◌, ℕ, zero, suc, ◌≤◌, ◌<◌, ◌^◌, ◌==◌, ◌&&◌, pos, List, [], ◌∷◌, Bool, true, false, cond, not, Option}
 use Rattle.std.proofs.Common.{Some, None, IfSome, option_map, option_and_then, drop, slice_index, nat_lt, nat_le, refl, subst, sym, ap}
 use Rattle.std.proofs.Common.{◌∙◌, arith, leb-true, ltb-true, nat_cmp, Ordering, Less, Equal, Greater}
@@ -75,7 +75,7 @@ number_whole s = by (slice_index s 0 == minus)
     by false = from_whole false (scan s)
 
 -- ---- data
--- the numbers of data are whole, and no object holds a name twice
+-- each number of data that is not a float fits an `i64` or a `u64`, and no object has a repeated name
 abbrev mutual
   IsFine : Data → Type 0
   IsFine null = Unit {0}
@@ -93,7 +93,7 @@ abbrev mutual
   AreFineMembers no_members = Unit {0}
   AreFineMembers (member k d ms) = IsAbsent k ms × IsFine d × AreFineMembers ms
 
--- and they nest no deeper than so
+-- the data also nests at most `n` deep
 abbrev Fine : ℕ → Data → Type 0
 Fine n d = (depth d ≤ n) × IsFine d
 
@@ -123,7 +123,7 @@ put_fine n k d (member l e ms) p g = by (bytes_eq k l) refl (put_fine n k d ms p
     by false is r =
         (omega (arith, g.0, r.0), (absent_put l k d ms (nat_list_eq_equiv.symm l k ∙ is) g.1.0, g.1.1, r.1))
 
--- what is read of a value in order
+-- what is read from a value in order
 mutual
   fine : (j : json.Json) (n : ℕ) → deep.depth j ≤ n → IfSome (in_order j) (Fine n)
   fine json.null n h = (omega arith, tt)
@@ -152,8 +152,8 @@ mutual
       (λ d p. members_fine ms (put_in_place k d done) n (omega (arith, h)) (put_fine n k d done p g)) (in_order j)
       (fine j n (omega (arith, h)))
 
--- ---- trees
--- what holds of the tree of a text
+-- ---- nodes
+-- what holds of the node of a text in order
 pub record IsReadable (n : ℕ) (t : Tree) : Type 0 where
   pub nests : nesting t ≤ n
   pub whole : AreWhole t
@@ -223,12 +223,12 @@ last_depth None n h = tt
 last_depth (Some (j, [])) n h = h j [] refl
 last_depth (Some (j, t ∷ r)) n h = tt
 
--- what the grammar reads of a text nests no deeper than may be read
+-- what the grammar reads from a text nests at most `max_depth` deep
 pub parsed_depth : (text : List ℕ) → IfSome (parsed text) (λ j. deep.depth j ≤ max_depth)
 parsed_depth text =
     last_depth (json.value max_depth (tokens text)) max_depth (λ j r. value-depth max_depth (tokens text) r j)
 
--- the tree of a text in order is such a tree
+-- the node of a text in order is such a node
 pub read_in_order : (text : List ℕ) (t : Tree) → IsTreeInOrder text t → IsReadable max_depth t
 read_in_order text t it =
     let all : IfSome (option_and_then in_order (parsed text)) (Fine max_depth) =
@@ -304,7 +304,7 @@ mutual
   members_nest_so no_members = omega arith
   members_nest_so (member k d ms) = let a = nests_so d in let b = members_nest_so ms in omega (arith, a, b)
 
--- the tree of a text by name nests no deeper than may be read, and its numbers are whole
+-- the node of a text by name nests at most `max_depth` deep, and its numbers fit an `i64` or a `u64`
 pub read_by_its_names : (text : List ℕ) (t : Tree) → IsTreeOfText text t → (nesting t ≤ max_depth) × AreWhole t
 read_by_its_names text t it =
     let all : IfSome (read text) (λ d. AreWhole (tree_of_data d)) =

@@ -1,4 +1,4 @@
--- What is left of the tokens of a text from a byte on.
+-- The rest of the tokens of a text from a byte on.
 use Rattle.std.proofs.Common.{◌≡◌, ℕ, zero, suc, ◌+◌, ◌<◌, ◌≤◌, List, [], ◌∷◌, Bool, true, false, cond, Some, drop}
 use Rattle.std.proofs.Common.{drop-drop, get_or, length, length-drop, refl, sym, ap, subst, ◌∙◌, arith, true≢false}
 use Rattle.std.specs.Prelude.{slice_get}
@@ -13,7 +13,7 @@ use Rattle.json.specs.Word.{word}
 use Rattle.json.proofs.Found.{not_found, Some_inj}
 use Rattle.openapi_json.specs.Scanned.{AreGood, begins, is_token, next_mode, starts, starts_from}
 
--- the byte x of a class before xs, whose lexeme stands before these
+-- the lexeme that the byte `x` of a class adds, if it adds one, before the lexemes `ls`; `xs` are the bytes after `x`
 abbrev emits : lexing.Mode → Class → ℕ → List ℕ → List Lexeme → List Lexeme
 emits lexing.between quote x xs ls = token (string_token (content plain xs)) ∷ ls
 emits lexing.between backslash x xs ls = token bad ∷ ls
@@ -57,7 +57,7 @@ allowed : (b : Bool) (t : Token) (k : Place → List Token) (next : Place) → A
 allowed true t k next g = refl
 allowed false t k next g = absurd (g.0 refl)
 
--- a token that may stand at a place, with what goes on behind it; it may stand at the beginning too
+-- a token that is allowed in a state, followed by those from the next state; it is allowed in the state `fresh` too
 record Placed (q : Place) (t : Token) (b : Bool) (k : Place → List Token) : Type 0 where
   first : Token
   next : Place
@@ -93,11 +93,11 @@ punctuated after_value t ls = refl
 punctuated after_comma t ls = refl
 punctuated after_key t ls = refl
 
--- the tokens are those of the lexemes from some place on
+-- the tokens are those of the lexemes, read from some state on
 abbrev pub AreOf : List Lexeme → List Token → Type 0
 AreOf ls ts = (q : Place) × (ts ≡ punctuate q ls)
 
--- once a token has begun, the rest are those behind it
+-- the tokens after the first one if a token has begun, and all tokens otherwise
 abbrev pub behind : Bool → List Token → List Token
 behind true ts = drop 1 ts
 behind false ts = ts
@@ -200,19 +200,19 @@ emit_some lexing.in_word other x xs ls ts is good a = absurd (true≢false (sym 
 emit_some lexing.in_string c x xs ls ts is good a = absurd (true≢false (sym is))
 emit_some lexing.in_escape c x xs ls ts is good a = absurd (true≢false (sym is))
 
--- behind a byte the tokens are those of the rest, in the mode behind it
+-- after a byte, the tokens are those of the rest of the bytes, in the mode after the byte
 pub byte_step : (m : lexing.Mode) (x : ℕ) (xs : List ℕ) (ts : List Token) → AreGood ts → AreOf (lex m (x ∷ xs)) ts
     → AreOf (lex (next_mode m (class x)) xs) (behind (begins m (class x) x) ts)
 byte_step m x xs ts good a =
     emit_step m (class x) x xs (lex (next_mode m (class x)) xs) ts good (a.0, a.1 ∙ ap (punctuate a.0) (lexed m x xs))
 
--- and where one begins at it, there is one
+-- if a token begins at a byte, there is a token
 byte_some : (m : lexing.Mode) (x : ℕ) (xs : List ℕ) (ts : List Token) → begins m (class x) x ≡ true → AreGood ts
     → AreOf (lex m (x ∷ xs)) ts → 1 ≤ length ts
 byte_some m x xs ts is good a =
     emit_some m (class x) x xs (lex (next_mode m (class x)) xs) ts is good (a.0, a.1 ∙ ap (punctuate a.0) (lexed m x xs))
 
--- they are those of the text from it on then
+-- if a token begins at a byte, the tokens are those of the text from that byte on
 byte_first : (m : lexing.Mode) (x : ℕ) (xs : List ℕ) (ts : List Token) → begins m (class x) x ≡ true → AreGood ts
     → AreOf (lex m (x ∷ xs)) ts → ts ≡ punctuate fresh (lex lexing.between (x ∷ xs))
 byte_first m x xs ts is good a =
@@ -228,7 +228,7 @@ pub length_behind : (b : Bool) (ts : List Token) → length ts ≤ length (behin
 length_behind true ts = omega (arith, length-drop 1 ts)
 length_behind false ts = omega arith
 
--- at the end no tokens are left
+-- at the end, no tokens are left
 pub nothing_left : (m : lexing.Mode) (ts : List Token) → AreGood ts → AreOf (lex m []) ts → ts ≡ []
 unfolding lex punctuate
 nothing_left m ts good (fresh, is) = is
@@ -237,7 +237,7 @@ nothing_left m ts good (after_comma, is) = absurd ((subst AreGood is good).0 ref
 nothing_left m ts good (after_key, is) = absurd ((subst AreGood is good).0 refl)
 
 -- ---- the offsets of the tokens
--- an offset k bytes further on: from there on the tokens are these
+-- an offset `k` bytes further on, from which the tokens are these
 record Starts (i : ℕ) (xs : List ℕ) (o : ℕ) (ts : List Token) : Type 0 where
   k : ℕ
   is : o ≡ i + k
@@ -290,11 +290,11 @@ starts_below m i (x ∷ xs) n o e = by (begins m (class x) x) n e (starts_below 
     by true (suc l) f more = omega (arith, more l o f)
     by false l f more = omega (arith, more l o f)
 
--- each offset is that of a byte
+-- each offset is that of a byte of the text
 pub start_within : (text : List ℕ) (n o : ℕ) → slice_get (starts text) n ≡ Some o → o < length text
 start_within text n o e = omega (arith, starts_below lexing.between 0 text n o e)
 
--- from the n-th offset of a text without faults on its tokens are those from the n-th on
+-- the tokens of a text without `bad` tokens, from its n-th offset on, are those from the n-th token on
 pub start_is : (text : List ℕ) (n o : ℕ) → AreGood (tokens text) → slice_get (starts text) n ≡ Some o
     → tokens (drop o text) ≡ drop n (tokens text)
 start_is text n o good e =
@@ -333,7 +333,7 @@ as_many_starts text good = starts_count lexing.between 0 text (tokens text) good
 from_byte : (text : List ℕ) (i : ℕ) → i < length text → drop i text ≡ get_or text i 0 ∷ drop (i + 1) text
 from_byte text i h = drop_more text i 0 h
 
--- the offsets from a byte on, where a token begins at it or not
+-- the offsets from a byte on, by whether a token begins at the byte
 from_here : (m : lexing.Mode) (text : List ℕ) (i x : ℕ) (b : Bool) → i < length text → x ≡ get_or text i 0
     → begins m (class x) x ≡ b
     → starts_from m i (drop i text)
@@ -345,14 +345,14 @@ from_here m text i x b h byte is =
     ∙ ap (λ (c : Bool). cond c (i ∷ later) later) is
 
 module _ (m : lexing.Mode) (text : List ℕ) (i : ℕ) (h : i < length text) where
-  -- the token that is looked for begins at the byte
+  -- the token searched for begins at the byte
   pub start_here : (n : ℕ) → begins m (class (get_or text i 0)) (get_or text i 0) ≡ true → n ≡ 0
       → slice_get (starts_from m i (drop i text)) n ≡ Some i
   start_here n is none =
       ap (slice_get (starts_from m i (drop i text))) none
       ∙ ap (λ os. slice_get os 0) (from_here m text i (get_or text i 0) true h refl is)
 
-  -- another one does, or none
+  -- another token begins at the byte, or none
   pub start_passed : (next : lexing.Mode) (n k : ℕ) → next ≡ next_mode m (class (get_or text i 0))
       → begins m (class (get_or text i 0)) (get_or text i 0) ≡ true → n ≡ k + 1
       → slice_get (starts_from next (i + 1) (drop (i + 1) text)) k ≡ slice_get (starts_from m i (drop i text)) n

@@ -1,4 +1,4 @@
--- Members that are sorted by their names: they have the data that they had, and each name is below the next.
+-- Members that are sorted by their names: they have the same data as before, and each name is less than the next.
 use Rattle.std.proofs.Common.{◌≡◌, ℕ, zero, suc, ◌+◌, ◌≤◌, List, [], ◌∷◌, get_or, All, Bor, Ordering, Less, Equal}
 use Rattle.std.proofs.Common.{Greater, is_lt, false, true≢false, nat_cmp, refl, sym, subst, ◌∙◌, arith}
 use Rattle.std.proofs.lemmas.List.Elements.{All-from_recursion, recursion_from_All}
@@ -22,7 +22,7 @@ use Rattle.openapi_json.specs.declared.write.Order.TheVariants.{ByName}
 use Rattle.openapi_json.proofs.Order.{equal_names, turned}
 use Rattle.openapi_json.proofs.Sorted.{fits_in, members-by_name}
 
--- the numbers of members are whole where those of each are
+-- the numbers of members fit an `i64` or a `u64` if and only if those of each member do
 whole_each : (es : Entries Tree) → MembersAreWhole (members_of es) → AllByRecursion (λ e. AreWhole e.1) es
 whole_each [] h = tt
 whole_each (e ∷ es) h = (h.0, whole_each es h.1)
@@ -33,14 +33,14 @@ whole_all (e ∷ es) h = (h.0, whole_all es h.1)
 
 -- members in another order
 module _ (ms ns : Entries Tree) (shuffled : IsPermutation ms ns) where
-  -- they fit what all did
+  -- each of them is no larger than all members together
   pub fit_still : AllFit (members_size (members_of ms)) ns
   fit_still =
       let P : List ℕ × Tree → Type 0 = λ e. size_of e.1 ≤ members_size (members_of ms) in
       recursion_from_All P ns (All-permutation P ms ns shuffled
       (λ k d h. fits_in ms k (get_or ms k d) (slice_get-get_or ms k d h)))
 
-  -- where their numbers are whole, those of the members before were
+  -- if their numbers fit, those of the members in the first order do
   pub whole_before : MembersAreWhole (members_of ns) → MembersAreWhole (members_of ms)
   whole_before h =
       let P : List ℕ × Tree → Type 0 = λ e. AreWhole e.1 in
@@ -48,7 +48,7 @@ module _ (ms ns : Entries Tree) (shuffled : IsPermutation ms ns) where
       (All-from_recursion P ns (whole_each ns h))))
 
   module _ (distinct : HasDistinctNames ms) where
-    -- their names still differ
+    -- their names are still distinct
     pub distinct_still : HasDistinctNames ns
     distinct_still = IsDistinct-IsPermutation bytes_eq nat_list_eq_equiv.symm (keys_of ms) (keys_of ns)
         (IsPermutation-map (λ e. e.0) ms ns shuffled) distinct
@@ -65,12 +65,12 @@ module _ (ms ns : Entries Tree) (shuffled : IsPermutation ms ns) where
         (as_found ms (recursion_from_All (IsFoundIn ns) ms all)) in
         cc
 
-    -- and they have the same data by name
+    -- they have the same data by name
     pub data_still : arranged ByName (standing ByName ms) ≡ arranged ByName (standing ByName ns)
     data_still =
         sym (members-by_name (members_of ms) no_members) ∙ sym same_data ∙ members-by_name (members_of ns) no_members
 
--- what is lent, in an order in which no name is below the one before it
+-- borrowed members in an order in which no name is less than the one before it
 abbrev Sorted : List (Bor (List ℕ) × Bor Tree) → Type 0
 Sorted vs = IsSortedByKey (λ e. e.0) (λ (a b : Bor (List ℕ)). slice_cmp nat_cmp a.now b.now) vs
 
@@ -91,7 +91,7 @@ lent_rises v (w ∷ vs) d s = (
       {x = suc k + 1} {y = suc (k + 1)} (omega arith) (s (suc k) x (omega arith) (omega (arith, b)))),
 )
 
--- stands in the order of the names, where no two are the same
+-- these are in the order of their names, if no two names are the same
 pub lent_ascends : (vs : List (Bor (List ℕ) × Bor Tree)) → HasDistinctNames (lent vs) → Sorted vs → Ascends (lent vs)
 lent_ascends [] d s = tt
 lent_ascends (v ∷ vs) d s = lent_rises v vs d s

@@ -1,4 +1,4 @@
--- Members in the order of their names, as they stand and as data.
+-- Members in the order of their names, as they are and as data.
 use Rattle.std.proofs.Common.{◌≡◌, ℕ, zero, suc, ◌<◌, ◌≤◌, List, [], ◌∷◌, ◌++◌, slice_get, length, Some}
 use Rattle.std.proofs.Common.{Less, Greater, nat_cmp, refl, sym, ap, ◌∙◌, arith, append_assoc, append-nil}
 use Rattle.std.proofs.lemmas.Cmp.{nat_list_cmp_total}
@@ -17,7 +17,7 @@ use Rattle.openapi_json.specs.declared.write.Order.TheVariants.{ByName, AsTheySt
 abbrev Named : Type 0
 Named = List ℕ × Tree
 
--- what two equal options hold is the same
+-- the values in two equal options are the same
 pub some_same : {A : Type 0} {x y : A} → Some x ≡ Some y → x ≡ y
 some_same e = cc
 
@@ -31,7 +31,7 @@ all_below-push n [] e b h = (h, tt)
 all_below-push n (x ∷ es) e b h = (b.0, all_below-push n es e b.1 h)
 
 module _ (w : Order) where
-  -- a name that is above all others goes last
+  -- a name that is greater than all others is put last
   put_end : (n : List ℕ) (t : Tree) (es : Entries Tree) → AllBelow n es
       → put n (data_in w t) (standing w es) ≡ standing w (es ++ (n, t) ∷ [])
   put_end n t [] b = refl
@@ -50,18 +50,18 @@ module _ (w : Order) where
       ∙ in_turn (done ++ last ∷ []) e es below r.1
       ∙ ap (standing w) (append_assoc (done ++ last ∷ []) (e ∷ []) es)
 
-  -- members of which each name is below the next stand as they are put
+  -- members of which each name is less than the next stay the same when they are put by name
   ascending : (es : Entries Tree) → Ascends es → put_all (standing w es) no_members ≡ standing w es
   ascending [] r = refl
   ascending (e ∷ es) r = in_turn [] e es tt r
 
--- and so they stand in whichever order they are written
+-- so they stay the same in either order, by name or as they are
 pub stand : (o : Order) (es : Entries Tree) → Ascends es → arranged o (standing o es) ≡ standing o es
 stand ByName es r = ascending ByName es r
 stand AsTheyStand es r = refl
 
 mutual
-  -- the data of a tree go by name
+  -- the data of a node is its data with the members by name
   pub data-by_name : (t : Tree) → data_of t ≡ data_in ByName t
   data-by_name tree.null = refl
   data-by_name (tree.flag b) = refl
@@ -79,7 +79,7 @@ mutual
   members-by_name (tree.member k t ms) ds =
       members-by_name ms (put k (data_of t) ds) ∙ ap (λ d. put_all (members_in ByName ms) (put k d ds)) (data-by_name t)
 
--- each is below the next, as far as they were looked at
+-- among the first `i` entries, each name is less than the next
 abbrev pub AscendsTo : ℕ → Entries Tree → Type 0
 AscendsTo i es =
     (j : ℕ) (a b : Named) → suc j < i → slice_get es j ≡ Some a → slice_get es (suc j) ≡ Some b
@@ -90,7 +90,7 @@ rises e [] h = tt
 rises e (f ∷ es) h =
     (h zero e f (omega arith) refl refl, rises f es (λ j a b l p q. h (suc j) a b (omega (arith, l)) p q))
 
--- members are in order where each was seen to be below the next, as far as the last
+-- members are in order if each name is less than the next, as far as the last
 pub all_ascending : (es : Entries Tree) → AscendsTo (length es) es → Ascends es
 all_ascending [] h = tt
 all_ascending (e ∷ es) h = rises e es h

@@ -16,7 +16,7 @@ use Rattle.openapi_node.specs.Tree as tree
 use Rattle.openapi_json.specs.Reading.{Pair, pairs_data}
 use Rattle.openapi_json.proofs.Order.{members-insert}
 
--- whatever is read of the rest of an array, with the values that were read before it, is read of the whole
+-- if items are read from the rest of an array, the whole array is read, and its data is `done` followed by the data of these
 abbrev pub ItemsGoOn : Option (json.Items × List Token) → List Data → Parse json.Items → List Token → Type 0
 ItemsGoOn whole done more rest =
     (js : json.Items) (end : List Token) → more rest ≡ Some (js, end)
@@ -28,7 +28,7 @@ with_item : (j : json.Json) (js : json.Items) (d : Data) (ds : List Data) → of
 with_item j js d ds e f =
     ap (option_and_then (λ x. option_map (item x) (of_items js))) e ∙ ap (option_map (item d)) f
 
--- once the next value of an array was read, what is read of the rest goes on behind it
+-- after the next value of an array was read, the same holds for the rest after it
 pub next_item : (p : Parse json.Json) (whole : Option (json.Items × List Token)) (done : List Data) (n : ℕ)
     (ts r : List Token) (j : json.Json) (d : Data) → 0 < n → after_end_array ts ≡ None → p ts ≡ Some (j, r)
     → of_json j ≡ Some d → ItemsGoOn whole done (json.items p n) ts
@@ -45,23 +45,23 @@ grows : (b c d : Bool) → (c ≡ false → d ≡ false) → (b || c) ≡ false 
 grows true c d f e = e
 grows false c d f e = f e
 
--- values without floats, and one more without, have none together
+-- values without floats, with one more without floats, have none
 pub whole-push : (ds : List Data) (d : Data) → items_have_float (views.items_of ds) ≡ false → has_float d ≡ false
     → items_have_float (views.items_of (ds ++ d ∷ [])) ≡ false
 whole-push [] d e f = ap (λ b. b || false) f
 whole-push (x ∷ ds) d e f = grows (has_float x) _ _ (λ r. whole-push ds d r f) e
 
--- the trees of values and of one more are their trees, and its tree
+-- the nodes of values and of one more are the nodes of the values, followed by its node
 pub trees-push : (ds : List Data) (d : Data) → map tree_of_data (ds ++ d ∷ []) ≡ map tree_of_data ds ++ tree_of_data d ∷ []
 trees-push [] d = refl
 trees-push (x ∷ ds) d = ap (λ ts. tree_of_data x ∷ ts) (trees-push ds d)
 
--- the list that the trees make is that of the data
+-- the list made of the nodes is that of the data
 pub list_of_values : (ds : List Data) → tree.items_of (map tree_of_data ds) ≡ items_of_data (views.items_of ds)
 list_of_values [] = refl
 list_of_values (d ∷ ds) = ap (λ is. tree.item (tree_of_data d) is) (list_of_values ds)
 
--- whatever is read of the rest of an object goes among the members that were read before it
+-- if members are read from the rest of an object, the whole object is read, and its data is that of these put among `done`
 abbrev pub MembersGoOn : Option (json.Members × List Token) → List Pair → Parse json.Members → List Token → Type 0
 MembersGoOn whole done more rest =
     (ms : json.Members) (end : List Token) → more rest ≡ Some (ms, end)
@@ -72,7 +72,7 @@ with_member : (k : List ℕ) (j : json.Json) (ms : json.Members) (d : Data) (old
     → of_members ms (put k d old) ≡ Some found → of_members (json.member k j ms) old ≡ Some found
 with_member k j ms d old found e f = ap (option_and_then (λ x. of_members ms (put k x old))) e ∙ f
 
--- once the next member of an object was read, what is read of the rest goes on with it among the others
+-- after the next member of an object was read, the same holds for the rest after it
 pub next_member : (p : Parse json.Json) (whole : Option (json.Members × List Token)) (done : List Pair) (n : ℕ)
     (k : List ℕ) (ts s r : List Token) (j : json.Json) (d : Data) → 0 < n
     → read_key ts ≡ Some (Some k, s) → p s ≡ Some (j, r) → of_json j ≡ Some d

@@ -1,4 +1,4 @@
--- The numbers that no tree holds: there are some exactly where the data of a value have a float, and how they are collected.
+-- The numbers that no node holds: there are some exactly if the data of a value has a float. Then how they are collected.
 use Rattle.std.proofs.Common.{◌≡◌, ℕ, ℤ, ◌+◌, ◌-◌, ◌<◌, ◌≤◌, Bool, true, false, cond, not, ◌&&◌, ◌||◌, List, [], ◌∷◌, ◌++◌}
 use Rattle.std.proofs.Common.{Option, Some, None, IfSome, option_map, option_and_then, length, map, drop, take, get_or}
 use Rattle.std.proofs.Common.{append_assoc, append-nil, length-append, take_all, refl, sym, ap, subst, ◌∙◌, arith, true≢false}
@@ -26,7 +26,7 @@ use Rattle.openapi_json.specs.declared.zeros.ReplacedNumber.{ReplacedNumber}
 use Rattle.openapi_json.proofs.Numbers.{integer_whole}
 use Rattle.openapi_json.proofs.Ordered.{filled, filled_plain, in_order_from, IsPlain, IsReadInOrder, made, read_by_name}
 
--- ---- a list is empty exactly where there is no float
+-- ---- a list of such numbers is empty exactly if there is no float
 abbrev is_nil : {A : Type 0} → List A → Bool
 is_nil [] = true
 is_nil (x ∷ xs) = false
@@ -50,7 +50,7 @@ is_not false h = refl
 abbrev Agrees : List NumberAt → Bool → Type 0
 Agrees ns b = is_nil ns ≡ not b
 
--- what two parts have
+-- if the numbers of two parts agree with their floats, so do those of both together
 both_agree : (ns ms : List NumberAt) (a b : Bool) → Agrees ns a → Agrees ms b → Agrees (ns ++ ms) (a || b)
 both_agree ns ms a b h k = nil_append ns ms ∙ (λ i. h i && k i) ∙ neither a b
 
@@ -73,7 +73,7 @@ item_agrees ns ms None p c h = tt
 item_agrees ns ms (Some d) None c h = tt
 item_agrees ns ms (Some d) (Some ds) c h = both_agree ns ms (has_float d) (items_have_float ds) c h
 
--- the numbers of members beside their data, name by name
+-- the numbers of members agree with their data, name by name
 abbrev Beside : Entries (List NumberAt) → Members → Type 0
 Beside [] no_members = Unit {0}
 Beside [] (member k d ms) = ⊥
@@ -140,18 +140,18 @@ mutual
       member_agrees p k (numbers_in (p ++ named k ∷ []) j) ms es fs (in_order j) (agrees (p ++ named k ∷ []) j) h
       (λ gs hs b. members_agree p ms gs hs b)
 
--- ---- the tree of a text without such numbers
+-- ---- the node of a text without such numbers
 plain_without : (ns : List NumberAt) (o : Option Data) (d : Data) → Some d ≡ option_map by_name o
     → IfSome o (λ e. Agrees ns (has_float e)) → ns ≡ [] → IsPlain o
 plain_without ns None d e a n = not_found d (sym e)
 plain_without ns (Some f) d e a n = is_not (has_float f) (ap is_nil (sym n) ∙ a)
 
--- what is read in order of a value without such numbers, if there are data of it
+-- if a value has data and none of these numbers, it is read in order
 pub read_without : (j : json.Json) (d : Data) → of_json j ≡ Some d → numbers_in [] j ≡ [] → IsReadInOrder j
 read_without j d e n =
     in_order_from j (in_order j) refl (plain_without (numbers_in [] j) (in_order j) d (sym e ∙ read_by_name j) (agrees [] j) n) (made j)
 
--- the tree of a text is one with zeros, of which there are none
+-- the node of a text in order is also its node with zeros, with no replaced numbers
 pub without_zeros : (text : List ℕ) (t : Tree) → IsTreeInOrder text t → IsTreeWithZeros text t []
 without_zeros text t is = by (parsed text) refl is.reads
   where
@@ -176,7 +176,7 @@ whole_text p s w e =
     let one : List NumberAt = (p, s) ∷ [] in
     ap (λ b. cond {A = List NumberAt} b [] one) (ap holds_whole e ∙ integer_whole w)
 
--- a list of which the last was taken is what it was before that came
+-- a list without its last element is what it was before that was pushed
 pub popped : {X : Type 0} (n : ℕ) (xs zs ps : List X) (p : X) → length xs ≡ n → xs ≡ ps ++ p ∷ [] → zs ≡ take (n - 1) xs → zs ≡ ps
 popped n xs zs ps p w e h =
     let l : length xs ≡ length (ps ++ p ∷ []) = ap length e in
@@ -184,7 +184,7 @@ popped n xs zs ps p w e h =
     h ∙ ap (take (n - 1)) e ∙ ap (λ k. take k (ps ++ p ∷ [])) m ∙ take-append-le (length ps) ps (p ∷ []) (omega arith)
     ∙ take_all (length ps) ps (omega arith)
 
--- with those of the next item
+-- after the numbers of the next item are added, those so far and those of the rest are still all
 pub items_next : {A : Type 0} (p : Place) (vs : List (Value A)) (i : ℕ) (v : Value A) (old new more : List ReplacedNumber)
     (all : List NumberAt) → i < length vs → v ≡ get_or vs i v → new ≡ old ++ more
     → map replaced_of more ≡ numbers_in (p ++ indexed i ∷ []) (value_view v)
@@ -218,7 +218,7 @@ numbers_put (e ∷ es) k v = by (bytes_eq k e.0) (numbers_put es k v)
     by true rest = refl
     by false rest = ap (λ l. numbers_of_entry e ∷ l) rest
 
--- with those of the next member
+-- the same after the numbers of the next member are inserted
 pub members_next : {A : Type 0} (p : Place) (ms : List (Bor (List ℕ) × Value A)) (i : ℕ) (m : Bor (List ℕ) × Value A)
     (old new : Entries (Vec ReplacedNumber)) (k : List ℕ) (v : Vec ReplacedNumber) (all : Entries (List NumberAt)) → i < length ms
     → m ≡ get_or ms i m → k ≡ m.0.now → new ≡ insert_entry old k v
@@ -236,7 +236,7 @@ members_next p ms i m old new k v all lt is name n h each =
     ∙ ap (λ w. numbers_in_members p rest (insert_entry before w.0.now (numbers_in (p ++ named w.0.now ∷ []) (value_view w.1)))) (sym is) in
     ap (numbers_in_members p rest) put ∙ sym split ∙ each
 
--- with those of the next entry
+-- the same after the numbers of the next entry are added
 pub entries_next : (es : Entries (Vec ReplacedNumber)) (e : List ℕ × Vec ReplacedNumber) (left : Entries (Vec ReplacedNumber))
     (old new : List ReplacedNumber) (all : List NumberAt) → es ≡ e ∷ left → new ≡ old ++ e.1.items
     → map replaced_of old ++ of_all (map numbers_of_entry es) ≡ all → map replaced_of new ++ of_all (map numbers_of_entry left) ≡ all

@@ -14,7 +14,8 @@ abbrev pub below_of : FirstToken → List FirstToken
 below_of t = (out-FirstToken t).below.items
 
 abbrev mutual
-  -- t is the first token of a value, with n tokens of the text before it, and has the first tokens of the values in that
+  -- `t` is the first token of a value that has `n` tokens of the text before it. For an array or an object, `below_of t`
+  -- holds the first tokens of the values directly inside
   pub IsFirst : Json → ℕ → FirstToken → Type 0
   IsFirst null n t = number_of t ≡ n
   IsFirst (boolean b) n t = number_of t ≡ n
@@ -23,19 +24,19 @@ abbrev mutual
   IsFirst (array js) n t = (number_of t ≡ n) × ItemsAreFirst js (n + 1) (below_of t)
   IsFirst (object ms) n t = (number_of t ≡ n) × MembersAreFirst ms (n + 1) (below_of t)
 
-  -- they are those of items, with n tokens of the text before the first item
+  -- the tokens are the first ones of items, with `n` tokens of the text before the first item
   pub ItemsAreFirst : Items → ℕ → List FirstToken → Type 0
   ItemsAreFirst no_items n ts = ts ≡ []
   ItemsAreFirst (item j js) n [] = ⊥
   ItemsAreFirst (item j js) n (t ∷ ts) = IsFirst j n t × ItemsAreFirst js (n + length (json_tokens j)) ts
 
-  -- they are those of the values of members, with n tokens of the text before the name of the first member
+  -- the tokens are the first ones of the values of members, with `n` tokens of the text before the name of the first member
   pub MembersAreFirst : Members → ℕ → List FirstToken → Type 0
   MembersAreFirst no_members n ts = ts ≡ []
   MembersAreFirst (member k j ms) n [] = ⊥
   MembersAreFirst (member k j ms) n (t ∷ ts) = IsFirst j (n + 1) t × MembersAreFirst ms (n + 1 + length (json_tokens j)) ts
 
--- a step leads from j, whose first token has the number n, to k with the first token t
+-- a step leads from `j`, whose first token has the number `n`, to `k`, whose first token is `t`
 pub record LeadsFrom (n : ℕ) (s : Step) (j : Json) (t : FirstToken) (k : Json) : Type 0 where
   pub more : ℕ
   pub step : StepsTo s j more k

@@ -1,4 +1,4 @@
--- Members of an object in the order of their names, and what holds them while the object is read.
+-- Members of an object in the order of their names, and the type that holds them while the object is read.
 use Rattle.std.specs.Prelude.{◌≡◌, ℕ, List, [], ◌∷◌, map}
 use Rattle.std.specs.Ordering.{nat_cmp}
 use Rattle.std.specs.declared.cmp.Ordering.TheVariants.{Less}
@@ -8,17 +8,17 @@ use Rattle.openapi_json.specs.declared.members.Members.{Members}
 use Rattle.openapi_json.specs.declared.members.Members.TheVariants.{InOrder, ByName, Few}
 use Rattle.openapi_node.specs.Tree.{Tree}
 
--- each name is below a name
+-- each name of the entries is less than the name `n`
 abbrev pub AllBelow : List ℕ → Entries Tree → Type 0
 AllBelow n [] = Unit {0}
 AllBelow n (e ∷ es) = (slice_cmp nat_cmp e.0 n ≡ Less) × AllBelow n es
 
--- the first of the rest is above a name, and each is below the next
+-- the first name of the entries is greater than the name `n`, and each name is less than the next
 abbrev pub Rises : List ℕ → Entries Tree → Type 0
 Rises n [] = Unit {0}
 Rises n (e ∷ es) = (slice_cmp nat_cmp n e.0 ≡ Less) × Rises e.0 es
 
--- each name is below the next
+-- each name is less than the next
 abbrev pub Ascends : Entries Tree → Type 0
 Ascends [] = Unit {0}
 Ascends (e ∷ es) = Rises e.0 es
@@ -29,7 +29,7 @@ entries_in (Few v) = map owned_entry v.items
 entries_in (InOrder m) = m
 entries_in (ByName m) = map owned_entry m.entries
 
--- what is held in a list, or in a map that keeps its order, stands in the order of the names
+-- the members held in a list, or in a map that keeps its order, are in the order of their names
 abbrev pub IsInOrder : Members → Type 0
 IsInOrder (Few v) = Ascends (map owned_entry v.items)
 IsInOrder (InOrder m) = Ascends m

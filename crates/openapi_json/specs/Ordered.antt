@@ -1,4 +1,4 @@
--- The tree of a JSON text whose members stand in the order of the text, beside the tree by name.
+-- The node that a JSON text is read as with members in the order of the text, in relation to the data with members by name.
 use Rattle.std.specs.Prelude.{◌≡◌, ℕ, pos, List, [], ◌∷◌, cond, Bool, ◌&&◌, true, false, Option, Some, None, option_map, option_and_then}
 use Rattle.std.specs.Str.{bytes_eq, IsUtf8}
 use Rattle.json.specs.Json as json
@@ -10,12 +10,13 @@ use Rattle.openapi_node.specs.Json.{IsTreeOf, number_tree}
 use Rattle.openapi_node.specs.Tree as tree
 use Rattle.openapi_node.specs.Tree.{Tree, items_of, members_of}
 
--- the members with d at k: in the place of the one of that name, or last where there is none
+-- the members with the value `d` at the name `k`: it replaces the first value of that name, or is last if there is none
 abbrev pub put_in_place : List ℕ → Data → Members → Members
 put_in_place k d no_members = member k d no_members
 put_in_place k d (member l e ms) = cond (bytes_eq k l) (member l d ms) (member l e (put_in_place k d ms))
 
--- The data of a JSON value in the order of the text. Of a name that comes again the last value counts, in the first place.
+-- The data of a JSON value in the order of the text. If a name is repeated, its last value is used, at the position of the
+-- first one.
 abbrev mutual
   pub in_order : json.Json → Option Data
   in_order json.null = Some null
@@ -52,12 +53,12 @@ abbrev mutual
   members_by_name no_members found = found
   members_by_name (member k d ms) found = members_by_name ms (put k (by_name d) found)
 
--- what the grammar of JSON reads of a text as a whole
+-- the JSON value that the grammar reads from a whole text, if it reads one
 abbrev pub parsed : List ℕ → Option json.Json
 parsed text = option_and_then (λ p. json.if_last p.0 p.1) (json.value max_depth (tokens text))
 
--- The text is in UTF-8 and JSON whose numbers are whole, and the tree is that of its data in the order of the text. What is
--- read of it by name are these data, sorted.
+-- The text is JSON in UTF-8 whose numbers are whole, and the node is that of its data in the order of the text. Reading the
+-- text by name gives the same data with the members sorted by name.
 pub record IsTreeInOrder (text : List ℕ) (t : Tree) : Type 0 where
   pub utf8 : IsUtf8 text
   pub value : Data
@@ -65,19 +66,19 @@ pub record IsTreeInOrder (text : List ℕ) (t : Tree) : Type 0 where
   pub is : IsTreeOf value t
   pub sorted : read text ≡ Some (by_name value)
 
--- ---- what is made of a value whose numbers may not be whole
+-- ---- nodes of values whose numbers may not be whole
 
--- the tree of a number if it is whole, and else that of 0
+-- the node of a number if it is whole, and the node of 0 otherwise
 abbrev pub tree_or_zero : Num → Tree
 tree_or_zero (float x) = tree.whole (pos 0)
 tree_or_zero n = number_tree n
 
--- the same where there may be no number
+-- the same where there may be no number: the node of 0 if there is none
 abbrev pub tree_of_any : Option Num → Tree
 tree_of_any None = tree.whole (pos 0)
 tree_of_any (Some n) = tree_or_zero n
 
--- the tree of the text of a number
+-- the node of a number by its text
 abbrev pub tree_of_number : List ℕ → Tree
 tree_of_number s = tree_of_any (number_of s)
 
@@ -86,7 +87,7 @@ is_whole (unsigned n) = true
 is_whole (negative z) = true
 is_whole (float x) = false
 
--- whether there is a number, and it is whole
+-- whether there is a number and it is whole
 abbrev pub holds_whole : Option Num → Bool
 holds_whole None = false
 holds_whole (Some n) = is_whole n
@@ -95,8 +96,8 @@ holds_whole (Some n) = is_whole n
 abbrev pub writes_whole : List ℕ → Bool
 writes_whole s = holds_whole (number_of s)
 
--- The tree of a JSON value, with 0 in place of each number that is not whole. Of a name that comes again the last value counts, in the
--- first place.
+-- The node of a JSON value, with 0 in place of each number that is not whole. If a name is repeated, its last value is used,
+-- at the position of the first one.
 abbrev mutual
   pub tree_of : json.Json → Tree
   tree_of json.null = tree.null
@@ -114,7 +115,7 @@ abbrev mutual
   entries_of json.no_members es = es
   entries_of (json.member k j ms) es = entries_of ms (insert_entry es k (tree_of j))
 
--- whether all numbers are whole
+-- whether all numbers in a JSON value are whole
 abbrev mutual
   pub all_whole : json.Json → Bool
   all_whole json.null = true

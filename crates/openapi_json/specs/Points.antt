@@ -13,11 +13,11 @@ use Rattle.openapi_json.specs.declared.position.Position.{Position}
 abbrev pub point_of : ℕ → Spot → Point
 point_of i s = record { offset = i; line = s.0; column = s.1 }
 
--- the point behind a byte more
+-- the point after one more byte
 abbrev pub next_point : Point → ℕ → Point
 next_point p b = point_of (p.offset + 1) (behind_byte (p.line, p.column) b)
 
--- the points at which tokens begin, in a mode from a byte at a point on
+-- the points at which tokens begin in bytes, where the first byte is at the point `p` and is read in the mode `m`
 abbrev pub points_from : lexing.Mode → Point → List ℕ → List Point
 points_from m p [] = []
 points_from m p (x ∷ xs) =
@@ -28,14 +28,14 @@ points_from m p (x ∷ xs) =
 abbrev pub points : List ℕ → List Point
 points text = points_from lexing.between (point_of 0 (1, 1)) text
 
--- the value at a place of j has this position, by the points of the tokens of j
+-- the value at the location `p` of `j` has the position `it`, where `ps` are the points at which the tokens of `j` begin
 pub record StandsAmong (ps : List Point) (p : Place) (j : Json) (it : Position) : Type 0 where
   pub number : ℕ
   pub counted : tokens_before p j ≡ Some number
   pub value : slice_get ps number ≡ Some it.value
   pub name : it.name ≡ cond (is_some (last_name p)) (slice_get ps (number - 1)) None
 
--- the position at a place of j, by the points of its tokens, if it has a value there
+-- the position of the value at a location of `j`, if there is one, by the points `ps` at which the tokens of `j` begin
 pub record IsPositionAmong (ps : List Point) (j : Json) (p : Place) (o : Option Position) : Type 0 where
   pub some : IfSome o (StandsAmong ps p j)
   pub none : o ≡ None → tokens_before p j ≡ None

@@ -1,4 +1,4 @@
--- The tree that is read of the tokens of a JSON text, beside the grammar of JSON and the data that `serde_json` makes of
+-- The node read from the tokens of a JSON text, in terms of the grammar of JSON and of the data that `serde_json` gives for
 -- what that grammar reads.
 use Rattle.std.specs.Prelude.{◌≡◌, ℕ, List, [], ◌∷◌, false, map, Option, Some, None}
 use Rattle.std.specs.Str.{IsUtf8}
@@ -18,16 +18,16 @@ use Rattle.openapi_node.specs.Tree.{Tree}
 abbrev pub Pair : Type 0
 Pair = List ℕ × Data
 
--- the name beside the tree of that data
+-- the name beside the node of that data
 abbrev pub tree_pair : Pair → List ℕ × Tree
 tree_pair p = (p.0, tree_of_data p.1)
 
--- the members that names and data make
+-- the members with these names and data
 abbrev pub pairs_data : List Pair → Members
 pairs_data [] = no_members
 pairs_data (p ∷ ps) = member p.0 p.1 (pairs_data ps)
 
--- The grammar read a value, and the tree is that of its data, which has no float.
+-- The grammar read a value and left the rest of the tokens. The node is that of the value's data, which has no float.
 pub record ReadsTree (parsed : Option (json.Json × List Token)) (t : Tree) (rest : List Token) : Type 0 where
   pub json : json.Json
   pub reads : parsed ≡ Some (json, rest)
@@ -35,7 +35,7 @@ pub record ReadsTree (parsed : Option (json.Json × List Token)) (t : Tree) (res
   pub converts : of_json json ≡ Some value
   pub is : IsTreeOf value t
 
--- The same for the values of an array.
+-- The same for the items of an array.
 pub record ReadsItems (parsed : Option (json.Items × List Token)) (ts : List Tree) (rest : List Token) : Type 0 where
   pub json : json.Items
   pub reads : parsed ≡ Some (json, rest)
@@ -53,15 +53,15 @@ pub record ReadsMembers (parsed : Option (json.Members × List Token)) (es : Ent
   pub whole : members_have_float (pairs_data pairs) ≡ false
   pub same : es ≡ map tree_pair pairs
 
--- The text is in UTF-8 and JSON whose numbers are whole, and the tree is that of its data.
+-- The text is JSON in UTF-8 whose numbers are whole, and the node is that of its data.
 pub record IsTreeOfText (text : List ℕ) (t : Tree) : Type 0 where
   pub utf8 : IsUtf8 text
   pub value : Data
   pub reads : read text ≡ Some value
   pub is : IsTreeOf value t
 
--- why bytes were not read: they are no text in UTF-8 or no JSON, or they are both and a number of their data is not whole,
--- or memory ran out
+-- why bytes were not read: they are not UTF-8 or not JSON; or they are both, and a number of their data is not whole; or an
+-- allocation failed
 abbrev pub Explains : List ℕ → JsonFault → Type 0
 Explains bytes NotJson = IsUtf8 bytes → read bytes ≡ None
 Explains bytes (NotWhole f) = IsUtf8 bytes × (d : Data) × (read bytes ≡ Some d) × IsNotWhole d f

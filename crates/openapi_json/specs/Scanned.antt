@@ -1,4 +1,4 @@
--- Where the tokens of a JSON text begin, byte by byte, beside what the grammar of `json` makes of its bytes.
+-- Where the tokens of a JSON text begin, byte by byte, in terms of the modes and the byte classes of the lexer of `json`.
 use Rattle.std.specs.Prelude.{◌≡◌, ℕ, ◌+◌, List, [], ◌∷◌, Bool, true, false, cond}
 use Rattle.std.specs.List.{AllByRecursion}
 use Rattle.json.specs.Lex.{Class, quote, backslash, operator, space, other, class, Lexeme, token, comma, colon, operator_lexeme}
@@ -7,14 +7,14 @@ use Rattle.json.specs.Token.{Token, bad}
 use Rattle.openapi_json.specs.declared.scan.Mode.{Mode}
 use Rattle.openapi_json.specs.declared.scan.Mode.TheVariants.{Between, Word, Text, Escape}
 
--- the mode of the grammar
+-- the mode of the lexer of `json` that a `Mode` represents
 abbrev pub mode_of : Mode → lexing.Mode
 mode_of Between = lexing.between
 mode_of Word = lexing.in_word
 mode_of Text = lexing.in_string
 mode_of Escape = lexing.in_escape
 
--- the mode behind a byte of a class
+-- the mode after a byte of a class
 abbrev pub next_mode : lexing.Mode → Class → lexing.Mode
 next_mode lexing.between quote = lexing.in_string
 next_mode lexing.between backslash = lexing.in_word
@@ -38,7 +38,7 @@ is_token (token t) = true
 is_token comma = false
 is_token colon = false
 
--- whether a token begins at the byte x of a class
+-- whether a token begins at the byte `x` of a class, in a mode
 abbrev pub begins : lexing.Mode → Class → ℕ → Bool
 begins lexing.between quote x = true
 begins lexing.between backslash x = true
@@ -53,17 +53,17 @@ begins lexing.in_word other x = false
 begins lexing.in_string c x = false
 begins lexing.in_escape c x = false
 
--- the offsets at which tokens begin, in a mode from a byte of an offset on
+-- the offsets at which tokens begin in bytes, where the first byte has the offset `i` and is read in the mode `m`
 abbrev pub starts_from : lexing.Mode → ℕ → List ℕ → List ℕ
 starts_from m i [] = []
 starts_from m i (x ∷ xs) =
     let later = starts_from (next_mode m (class x)) (i + 1) xs in
     cond (begins m (class x) x) (i ∷ later) later
 
--- the offsets at which the tokens of a text begin, one after the other
+-- the offsets at which the tokens of a text begin, one after another
 abbrev pub starts : List ℕ → List ℕ
 starts text = starts_from lexing.between 0 text
 
--- none of the tokens is a fault
+-- none of the tokens is `bad`
 abbrev pub AreGood : List Token → Type 0
 AreGood ts = AllByRecursion (λ t. t ≡ bad → ⊥) ts

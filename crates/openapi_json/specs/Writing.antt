@@ -1,4 +1,4 @@
--- The tokens that a tree is written as, with its members by name or as they stand.
+-- The tokens that a node is written as, with its members sorted by name or in their order.
 use Rattle.std.specs.Prelude.{ℕ, suc, max, ◌≤◌, List, map, ⊤}
 use Rattle.std.specs.Borrow.{Bor}
 use Rattle.std.specs.List.{AllByRecursion}
@@ -15,7 +15,7 @@ use Rattle.openapi_node.specs.Whole.{IsWhole}
 use Rattle.openapi_json.specs.declared.write.Order.{Order}
 use Rattle.openapi_json.specs.declared.write.Order.TheVariants.{ByName, AsTheyStand}
 
--- the tokens of data that have no float
+-- the tokens of data without floats
 abbrev pub data_tokens : Data → List Token
 data_tokens d = json_tokens (outline d)
 
@@ -25,17 +25,17 @@ items_data_tokens ds = items_tokens (items_outline ds)
 abbrev pub members_data_tokens : Members → List Token
 members_data_tokens ms = members_tokens (members_outline ms)
 
--- the members with each of these put among them
+-- the members `found`, with each of the other members put among them by name
 abbrev pub put_all : Members → Members → Members
 put_all no_members found = found
 put_all (member k d ms) found = put_all ms (put k d found)
 
--- members in an order
+-- members sorted by name, or in their order
 abbrev pub arranged : Order → Members → Members
 arranged ByName ms = put_all ms no_members
 arranged AsTheyStand ms = ms
 
--- the data of a tree, with the members of each object in an order
+-- the data of a node, with the members of each object in an order
 abbrev mutual
   pub data_in : Order → Tree → Data
   data_in o tree.null = null
@@ -49,32 +49,32 @@ abbrev mutual
   items_in o tree.no_items = no_items
   items_in o (tree.item t ts) = item (data_in o t) (items_in o ts)
 
-  -- as they stand
+  -- the members of one object in their order, each with the data of its node in the order `o`
   pub members_in : Order → tree.Members → Members
   members_in o tree.no_members = no_members
   members_in o (tree.member k t ms) = member k (data_in o t) (members_in o ms)
 
--- the data of a tree whose members stay as they stand
+-- the data of a node, with the members of each object in their order
 abbrev pub data_in_order : Tree → Data
 data_in_order t = data_in AsTheyStand t
 
--- the tree with the members of each object in the order of their names
+-- the node with the members of each object sorted by name
 abbrev pub tree_by_name : Tree → Tree
 tree_by_name t = tree_of_data (data_of t)
 
--- members as they stand, each by the data of its tree
+-- entries as members in their order, each with the data of its node
 abbrev pub standing : Order → Entries Tree → Members
 standing o es = members_in o (members_of es)
 
--- the members of names and trees that are lent
+-- the entries of borrowed names and nodes
 abbrev pub lent : List (Bor (List ℕ) × Bor Tree) → Entries Tree
 lent es = map (λ e. (e.0.now, e.1.now)) es
 
--- none of the trees is larger than a size
+-- no node has more than `s` values
 abbrev pub AllFit : ℕ → Entries Tree → Type 0
 AllFit s es = AllByRecursion (λ e. size_of e.1 ≤ s) es
 
--- how deep lists and objects nest in a tree
+-- how deep lists and objects nest in a node
 abbrev mutual
   pub nesting : Tree → ℕ
   nesting tree.null = 0
@@ -92,7 +92,7 @@ abbrev mutual
   members_nesting tree.no_members = 0
   members_nesting (tree.member k t ms) = max (nesting t) (members_nesting ms)
 
--- for private clauses: each whole number of a tree fits an `i64` or a `u64`
+-- for contracts of private functions: each whole number of a node fits an `i64` or a `u64`
 abbrev mutual
   pub AreWhole : Tree → Type 0
   AreWhole tree.null = ⊤

@@ -1,4 +1,4 @@
--- What is listed of a document: its operations and its references, each at its location.
+-- What is listed for a document: its operations and its references, each at its location.
 use Rattle.std.specs.Prelude.{◌≡◌, ℕ, true, List, [], ◌∷◌, Option, codes, map, string_bytes}
 use Rattle.std.specs.List.{AllZip}
 use Rattle.openapi_json.specs.Ordered.{IsTreeInOrder}
@@ -35,7 +35,7 @@ operation_place o = map step_of o.place.items
 abbrev pub listed_of : ListedOperation → Place × List ℕ × List ℕ
 listed_of o = (operation_place o, string_bytes o.path, string_bytes o.method)
 
--- the bytes are the text of a document, and these are its operations, at these positions
+-- the bytes are the text of a document that conforms, and these are its operations, at these positions
 pub record AreOperations (bytes : List ℕ) (os : List ListedOperation) (ps : List (Option Position)) : Type 0 where
   pub tree : Tree
   pub reads : IsTreeInOrder bytes tree
@@ -46,13 +46,13 @@ pub record AreOperations (bytes : List ℕ) (os : List ListedOperation) (ps : Li
 abbrev pub reference_place : Reference → Place
 reference_place r = map step_of r.place.items
 
--- these are the references that a tree has as a document, at their positions in a text
+-- these are the references of a node that is read as a document, at their positions in a text
 pub record AreReferencesOf (tree : Tree) (bytes : List ℕ) (rs : List Reference) (ps : List (Option Position)) : Type 0 where
   pub all : map reference_of rs ≡ references_in (by open_api) tree
   pub placed : AllZip (IsPositionAt bytes) (map reference_place rs) ps
 
--- The bytes are JSON, of which the tree is read, with 0 in place of these numbers that are not whole. These are the references that it has
--- as a document, at their positions.
+-- The bytes are JSON in UTF-8, and the node is that of their value, with 0 in place of `numbers`, which are not whole.
+-- These are the references of the node that is read as a document, at their positions.
 pub record AreReferences (bytes : List ℕ) (rs : List Reference) (ps : List (Option Position)) : Type 0 where
   pub tree : Tree
   pub numbers : List NumberAt

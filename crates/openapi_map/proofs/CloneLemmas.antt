@@ -1,4 +1,4 @@
--- A clone of what the code keeps, beside the entries.
+-- Clones of the contents of a map, and of its entries.
 use Rattle.std.proofs.Common.{◌≡◌, ℕ, List, [], ◌∷◌, Option, Some, None, Vec, String, string_bytes, refl, ◌∙◌, get_or, length}
 use Rattle.std.proofs.Common.{slice_index, vec_len, sym, ap, arith}
 use Rattle.std.proofs.lemmas.List.Elements.{same_from_all_zip}
@@ -27,7 +27,7 @@ names_of-clone [] (m ∷ ms) h = absurd h
 names_of-clone (n ∷ ns) [] h = absurd h
 names_of-clone (n ∷ ns) (m ∷ ms) h = λ i. h.0 i ∷ names_of-clone ns ms h.1 i
 
--- clones of values beside the same names
+-- clones of values, beside the same names
 zip-clone : {V : Type 0} (C : V → V → Type 0) (ks : List (List ℕ)) (vs ws : List V) → AllZip C vs ws
     → IsCloneOf C (zip ks vs) (zip ks ws)
 zip-clone C [] vs ws h = tt
@@ -64,7 +64,7 @@ IsFinderClone (Few m) (Many c) = ⊥
 IsFinderClone (Many b) (Few n) = ⊥
 IsFinderClone (Many b) (Many c) = AreLinkClones b.value.heads c.value.heads × AreLinkClones b.value.next c.value.next
 
--- a clone finds the same names
+-- a clone of a finder finds the same names
 IsIndexAt-clone : (names : List (List ℕ)) (a b : Finder) → IsFinderClone a b → IsIndexAt names a → IsIndexAt names b
 IsIndexAt-clone names (Few m) (Few n) h is = subst (AreMarked names) (sym h) is
 IsIndexAt-clone names (Few m) (Many c) h is = absurd h
@@ -72,14 +72,14 @@ IsIndexAt-clone names (Many b) (Few n) h is = absurd h
 IsIndexAt-clone names (Many b) (Many c) h is = IsIndex-clone names b.value c.value h is
 
 module _ {V : Type 0} (C : V → V → Type 0) where
-  -- the second keeps clones of the first's names, values and finder
+  -- the second has clones of the first's names, values and finder
   abbrev pub IsColumnsClone : Held V → Held V → Type 0
   IsColumnsClone b c =
       (AllZip IsNameClone b.names.items c.names.items × (vec_len c.names ≡ vec_len b.names))
       × ((AllZip C b.values.items c.values.items × (vec_len c.values ≡ vec_len b.values))
       × IsFinderClone b.finder c.finder)
 
-  -- both maps keep entries, and the second the clones of the first's, or neither does
+  -- both maps have contents, and the second has clones of the first's, or neither has contents
   abbrev pub IsHeldClone : Option (Box (Held V) Global) → Option (Box (Held V) Global) → Type 0
   IsHeldClone None None = Unit {0}
   IsHeldClone None (Some c) = ⊥

@@ -1,4 +1,4 @@
--- Equality of maps, which one look-up for each name decides where the lengths are the same.
+-- Equality of maps of the same length is decided by one lookup for each name.
 use Rattle.std.proofs.Common.{◌≡◌, ℕ, ◌≤◌, Bool, true, false, cond, List, [], ◌∷◌, ◌++◌, map, length, Option, Some}
 use Rattle.std.proofs.Common.{None, is_some, IsSome, Bor, refl, sym, ap, ◌∙◌, subst, arith, true≢false}
 use Rattle.std.proofs.lemmas.List.{map-append}
@@ -30,7 +30,7 @@ module _ {V : Type 0} where
       omega (arith, long, length-keys_of es)
 
 module _ {V : Type 0} (E : V → V → Bool) where
-  -- equal values are both there, or neither
+  -- equal optional values are both `Some`, or both `None`
   is_some-agree : (p q : Option V) → option_eq E p q ≡ true → is_some p ≡ is_some q
   is_some-agree None None h = refl
   is_some-agree None (Some w) h = h
@@ -48,7 +48,7 @@ module _ {V : Type 0} (E : V → V → Bool) where
           let agree = get_from_hash_map_eq bytes_eq E nat_list_eq_equiv (as_map es) (as_map fs) p name in
           absurd (true≢false (sym agree ∙ differs))
 
-  -- nor are maps of two lengths
+  -- maps of different lengths are not equal
   pub unequal-length : (es fs : Entries V) → HasDistinctNames es → HasDistinctNames fs
       → (length es ≡ length fs → ⊥) → false ≡ entries_eq E es fs
   unequal-length es fs distinct distinct' differ = by (entries_eq E es fs) refl
@@ -62,7 +62,7 @@ module _ {V : Type 0} (E : V → V → Bool) where
           let least = length-covered fs es distinct' (λ name h. agree name ∙ h) in
           absurd (differ (omega (arith, most, least)))
 
-  -- the map fs has at the name of each entry a value that is equal to the entry's
+  -- the map `fs` has, at the name of each entry of `es`, a value that is equal to the entry's
   abbrev pub AllAgree : Entries V → Entries V → Type 0
   AllAgree fs es = AllByRecursion (λ e. option_eq E (Some e.1) (get e.0 fs) ≡ true) es
 
@@ -71,7 +71,7 @@ module _ {V : Type 0} (E : V → V → Bool) where
   AllAgree-push fs [] e all h = (h, tt)
   AllAgree-push fs (x ∷ es) e all h = (all.0, AllAgree-push fs es e all.1 h)
 
-  -- what holds of the entries that an iterator gave holds with one more
+  -- what holds of the entries that an iterator returned holds with one more
   pub AllAgree-next : (fs : Entries V) (xs : List (Bor (List ℕ) × Bor V)) (x : Bor (List ℕ) × Bor V)
       → AllAgree fs (map deref_pair xs) → option_eq E (Some x.1.now) (get x.0.now fs) ≡ true
       → AllAgree fs (map deref_pair (xs ++ x ∷ []))
@@ -97,7 +97,7 @@ module _ {V : Type 0} (E : V → V → Bool) where
       covers name None p h = absurd (true≢false (sym h))
       covers name (Some v) p h = sym (is_some-agree (Some v) (get name fs) (agree-found es all name v p))
 
-      -- a name more would be one too many
+      -- if `fs` has a name that `es` lacks, it has more entries than `es`
       length-more : (name : List ℕ) (w : V) → get name es ≡ None → get name fs ≡ Some w
           → length ((name, w) ∷ es) ≤ length fs
       unfolding IsDistinct
@@ -118,7 +118,7 @@ module _ {V : Type 0} (E : V → V → Bool) where
         agree-at name None None p q = λ i. option_eq E (p i) (q i)
         agree-at name None (Some w) p q = absurd (omega (arith, length-more name w p q))
 
-        -- maps of one length are equal where each entry of the one has an equal value in the other
+        -- maps of the same length are equal if each entry of the first has an equal value in the second
         pub equal-by_names : true ≡ entries_eq E es fs
         equal-by_names =
             sym (hash_map_eq_from_get bytes_eq E (as_map es) (as_map fs)

@@ -1,4 +1,4 @@
--- What a map keeps.
+-- The contents of a map.
 use Rattle.std.proofs.Common.{◌≡◌, ℕ, ◌<◌, ◌^◌, List, [], length, set, Option, Some, None, refl, sym, ap, subst, ◌∙◌, arith}
 use Rattle.std.proofs.lemmas.List.{length-set}
 use Rattle.std.specs.List.{IsDistinct, length_refill, zip}
@@ -16,7 +16,7 @@ use Rattle.openapi_map.specs.declared.Held.{Held}
 use Rattle.openapi_map.proofs.ZipLemmas.{length-zip, keys_of-zip, values_of-zip, keys_of-set_values, zip-set_value, zip-set_values}
 
 module _ {V : Type 0} (h : Held V) (is : IsConsistent h) where
-  -- a value for each name by its bytes
+  -- there is a value for each name as bytes
   pub even_names : length h.values.items ≡ length (names_of h.names.items)
   even_names = is.even ∙ sym (length-names_of h.names.items)
 
@@ -29,13 +29,13 @@ module _ {V : Type 0} (h : Held V) (is : IsConsistent h) where
   pub length-held : length (held_entries h) ≡ length h.names.items
   length-held = length-zip (names_of h.names.items) h.values.items even_names ∙ length-names_of h.names.items
 
-  -- the names stay beside other values, of which there are as many
+  -- the names stay the same beside other values, if there are as many
   same_names : (vs : List V) → length vs ≡ length h.values.items
       → keys_of (zip (names_of h.names.items) vs) ≡ keys_of (held_entries h)
   same_names vs e = keys_of-zip (names_of h.names.items) vs (e ∙ even_names) ∙ held_names
 
   module _ (i : ℕ) (w : V) where
-    -- w is put at a place
+    -- the contents with `w` as the value at a place
     abbrev put : Held V
     put = record { names = h.names; values = with_item h.values i w; finder = h.finder }
 
@@ -49,12 +49,12 @@ module _ {V : Type 0} (h : Held V) (is : IsConsistent h) where
           record { even = same ∙ is.even; index = is.index },
         )
 
--- no list of entries is too long for memory
+-- the number of entries of a map is less than 2^63
 pub small-kept : {V : Type 0} (o : Option (Box (Held V) Global)) → IsHeldConsistent o → length (kept o) < 2 ^ 63
 small-kept None is = omega arith
 small-kept (Some b) is = omega (arith, length-held b.value is, b.value.names.ok.0, b.value.names.small)
 
--- what is kept once other values are written
+-- the entries after other values are written
 pub kept-written : {V : Type 0} (o : Option (Box (Held V) Global)) → IsHeldConsistent o → (ws : List V)
     → kept (with_kept_values o ws) ≡ set_values (kept o) ws
 kept-written None is ws = zip-set_values [] [] ws 0 refl refl
@@ -72,7 +72,7 @@ consistent-written (Some b) is ws =
       index = is.index;
     }
 
--- so distinct names stay distinct
+-- distinct names stay distinct after other values are written
 pub distinct-written : {V : Type 0} (o : Option (Box (Held V) Global)) → IsHeldConsistent o → HasDistinctNames (kept o)
     → (ws : List V) → HasDistinctNames (kept (with_kept_values o ws))
 distinct-written o is distinct ws =

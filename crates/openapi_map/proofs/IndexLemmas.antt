@@ -1,4 +1,4 @@
--- The index: what it is once a name comes or goes, and what a look-up by it finds.
+-- The index: what it is after a name is appended or removed, and what a lookup in it finds.
 use Rattle.std.proofs.Common.{◌≡◌, ◌≢◌, ℕ, suc, ◌+◌, ◌-◌, ◌<◌, ◌≤◌, Bool, true, false, cond, eqb, nat_lt, List, [], ◌∷◌}
 use Rattle.std.proofs.Common.{◌++◌, length, get_or, set, remove, replicate, position, Some, None, Vec}
 use Rattle.std.proofs.Common.{vec_len, slice_index, refl, sym, ap, subst, ◌∙◌, arith, true≢false, get_or-set_other}
@@ -33,14 +33,14 @@ pub distinct-nil : IsDistinct bytes_eq []
 unfolding IsDistinct
 distinct-nil = tt
 
--- a name that the map lacks goes with its names
+-- names stay distinct if one that the map lacks is appended
 pub distinct-names : {V : Type 0} (name : List ℕ) (m : Entries V) (v : V) → HasDistinctNames m → get name m ≡ None
     → HasDistinctNames (m ++ (name, v) ∷ [])
 distinct-names name m v distinct absent =
     subst (IsDistinct bytes_eq) (sym (map-append (λ x. x.0) m ((name, v) ∷ [])))
     (IsDistinct-push nat_list_eq_equiv (keys_of m) name distinct (none-among name m absent))
 
--- ---- a name goes last
+-- ---- a name is appended
 module _ (names : List (List ℕ)) (name : List ℕ) (index : NameIndex) (is : IsIndex names index) where
   abbrev n : ℕ
   n = vec_len index.heads
@@ -91,8 +91,8 @@ module _ (names : List (List ℕ)) (name : List ℕ) (index : NameIndex) (is : I
           ∙ ap (λ x. link_at n (bucket n x) longer p) (sym (get_or-append names (name ∷ []) [] p low))
     ]
 
-    -- the index of the longer list: the new place is the last of its bucket, and its link leads
-    -- to the place that was the last before
+    -- the index of the longer list: the new place is the last of its bucket, and its link leads to the place that was the
+    -- last before
     pub IsIndex-push : (link : ℕ) (next : Vec ℕ Global) → link ≡ slice_index index.heads.items b
         → next.items ≡ index.next.items ++ link ∷ [] → vec_len next ≡ vec_len index.next + 1
         → IsIndex longer (record { heads = with_item index.heads b last; next = next })
@@ -103,7 +103,7 @@ module _ (names : List (List ℕ)) (name : List ℕ) (index : NameIndex) (is : I
       next = λ p h. ap (λ xs. slice_index xs p) items ∙ next-push link p read h;
     }
 
--- ---- a place goes
+-- ---- a place is removed
 module _ (names : List (List ℕ)) (index : NameIndex) (is : IsIndex names index) (i : ℕ) (within : i < length names) where
   abbrev buckets : ℕ
   buckets = vec_len index.heads
@@ -150,7 +150,7 @@ module _ (names : List (List ℕ)) (index : NameIndex) (is : IsIndex names index
       down : (p : ℕ) → p + 1 - 1 ≡ p
       down p = omega arith
 
-  -- where all links that are left are moved, the index is one of the names that are left
+  -- if all links that are left are moved, the result is an index of the names that are left
   pub IsIndex-remove : (heads next : Vec ℕ Global) → vec_len heads ≡ buckets → vec_len next + 1 ≡ vec_len index.next
       → ((b : ℕ) → b < length heads.items
       → slice_index heads.items b ≡ moved_link i before (slice_index index.heads.items b))
@@ -167,7 +167,7 @@ module _ (names : List (List ℕ)) (index : NameIndex) (is : IsIndex names index
         ∙ next-left p h ∙ (λ j. link_at (sym same j) (bucket (sym same j) (get_or left p [])) left p);
   }
 
--- an index has a link at each place
+-- an index has a link for each place
 pub linked : (names : List (List ℕ)) (found : Finder) (i : ℕ) → IsIndexAt names found → i < length names → HasPlace i found
 linked names (Few marks) i is within = tt
 linked names (Many b) i is within = omega (arith, is.len, within)
@@ -183,15 +183,15 @@ IsIndex-none heads next n items len some none = record {
   next = λ p h. absurd (omega (arith, h));
 }
 
--- ---- a look-up
+-- ---- a lookup
 module _ (name : List ℕ) (names : List (List ℕ)) where
-  -- how far it has come: the link leads to a name of the same bucket, and none behind that one is the name
+  -- the progress: the link leads to a name of the same bucket, and the name is at none of the places after that one
   pub record Passed (n link : ℕ) : Type 0 where
     pub le : link ≤ length names
     pub there : (p : ℕ) → link ≡ p + 1 → bucket n (get_or names p []) ≡ bucket n name
     pub none : (p : ℕ) → link ≤ p → p < length names → bytes_eq name (get_or names p []) ≡ false
 
-  -- a name of another bucket is another
+  -- a name of another bucket is another name
   apart : (n : ℕ) (other : List ℕ) → bucket n other ≢ bucket n name → bytes_eq name other ≡ false
   apart n other differ = by (bytes_eq name other) refl
     where
@@ -211,7 +211,7 @@ module _ (name : List ℕ) (names : List (List ℕ)) where
   }
 
   module _ (index : NameIndex) (is : IsIndex names index) where
-    -- it begins at the name's bucket
+    -- the lookup begins at the bucket of the name
     pub Passed-first : (b link : ℕ) → b ≡ bucket (vec_len index.heads) name → b < vec_len index.heads
         → link ≡ slice_index index.heads.items b → Passed (vec_len index.heads) link
     Passed-first b link falls within read =
@@ -221,14 +221,14 @@ module _ (name : List ℕ) (names : List (List ℕ)) where
         from_Leads n (length names) link (subst (Leads n (bucket n name) names (length names)) (sym link_is) leads)
         (omega arith) (λ p h l. absurd (omega (arith, h, l)))
 
-    -- a link at a place leads to one before it
+    -- the link of a place leads to a place before it
     pub next-below : (p next : ℕ) → p < length names → next ≡ slice_index index.next.items p → next ≤ p
     next-below p next within read =
         let n = vec_len index.heads in
         let b = bucket n (get_or names p []) in
         omega (arith, read, is.next p within, (link_at-Leads n b names p).le)
 
-    -- and goes on where the name at the place is another
+    -- the lookup continues if the name at the place is another
     pub Passed-next : (p link next : ℕ) → Passed (vec_len index.heads) link → link ≡ p + 1
         → bytes_eq name (get_or names p []) ≡ false → next ≡ slice_index index.next.items p
         → Passed (vec_len index.heads) next
@@ -243,7 +243,7 @@ module _ (name : List ℕ) (names : List (List ℕ)) where
           | inr low ↦ let same : p ≡ q = omega (arith, h, low) in subst (λ r. bytes_eq name (get_or names r []) ≡ false) same other
         ])
 
-  -- what it finds is the place of the name
+  -- the place that it finds is the place of the name
   pub position-found : (p : ℕ) → IsDistinct bytes_eq names → p < length names → bytes_eq name (get_or names p []) ≡ true
       → Some p ≡ position (bytes_eq name) names
   position-found p distinct within found =
@@ -256,7 +256,7 @@ module _ (name : List ℕ) (names : List (List ℕ)) where
       sym (ap (λ t. cond t (Some p) None) (lt-ltb p (length names) within))
       ∙ ap (λ q. cond (nat_lt q (length names)) (Some q) None) (sym first)
 
-  -- where each is another, there is none
+  -- if each of the names is another one, there is no place
   pub none-position : ((k : ℕ) → k < length names → bytes_eq name (get_or names k []) ≡ false)
       → None ≡ position (bytes_eq name) names
   none-position apart =
@@ -267,6 +267,6 @@ module _ (name : List ℕ) (names : List (List ℕ)) where
       sym (ap (λ t. cond t (Some end) None) past)
       ∙ ap (λ q. cond (nat_lt q end) (Some q) None) (sym none)
 
-  -- so there is none where it comes to an end
+  -- so there is no place if the lookup comes to an end
   pub position-none : (n link : ℕ) → Passed n link → link ≡ 0 → None ≡ position (bytes_eq name) names
   position-none n link passed at = none-position (λ k h. passed.none k (omega (arith, at)) h)

@@ -1,4 +1,4 @@
--- Links: what they lead to, and what becomes of them as names come and go.
+-- Links: where they lead, and what they become as names are appended and removed.
 use Rattle.std.proofs.Common.{◌≡◌, ◌≢◌, ℕ, zero, suc, ◌+◌, ◌-◌, ◌<◌, ◌≤◌, Bool, true, false, cond, eqb, List, [], ◌∷◌}
 use Rattle.std.proofs.Common.{◌++◌, length, get_or, remove, refl, sym, ap, subst, ◌∙◌, arith, true≢false}
 use Rattle.std.proofs.Math.ListN.{get_or-append}
@@ -9,9 +9,9 @@ use Rattle.std.proofs.lemmas.List.Edits.{get_or-remove_below, get_or-remove_abov
 use mathlib.Core.Logic.{inl, inr}
 use Rattle.openapi_map.specs.Index.{bucket, falls_into, link_at, moved_link}
 
--- ---- a link as the place i goes, which led to before
+-- ---- a link when the place `i` is removed, whose own link was `before`
 module _ (i before : ℕ) where
-  -- it stays where it leads to a place before i, or to none
+  -- it stays the same if it leads to a place before `i`, or to none
   pub moved-low : (link : ℕ) → link ≤ i → moved_link i before link ≡ link
   moved-low link low = grind (arith, nat_tests)
 
@@ -21,9 +21,9 @@ module _ (i before : ℕ) where
   moved-high : (link : ℕ) → suc i < link → moved_link i before link ≡ link - 1
   moved-high link high = grind (arith, nat_tests)
 
--- ---- the links of bucket b, of n
+-- ---- the links of bucket `b`, out of `n` buckets
 module _ (n b : ℕ) where
-  -- names that stand alike below k have the same link there
+  -- lists with the same names below `k` have the same link there
   pub link_at-same : (ms ns : List (List ℕ)) (k : ℕ) → ((j : ℕ) → j < k → get_or ms j [] ≡ get_or ns j [])
       → link_at n b ms k ≡ link_at n b ns k
   unfolding link_at
@@ -33,7 +33,7 @@ module _ (n b : ℕ) where
       let below = link_at-same ms ns k (λ j h. same j (omega (arith, h))) in
       λ i. cond (eqb (bucket n (here i)) b) (suc k) (below i)
 
-  -- a link below k leads to a name of the bucket, and none behind that one falls into it
+  -- a link below `k` leads to a name of the bucket, and none after that one falls into it
   pub record Leads (ns : List (List ℕ)) (k link : ℕ) : Type 0 where
     pub le : link ≤ k
     pub there : (p : ℕ) → link ≡ p + 1 → bucket n (get_or ns p []) ≡ b
@@ -56,7 +56,7 @@ module _ (n b : ℕ) where
     ];
   }
 
-  -- the link below k leads to the last name below k that is in the bucket, if there is one
+  -- the link below `k` leads to the last name below `k` that is in the bucket, if there is one
   pub link_at-Leads : (ns : List (List ℕ)) (k : ℕ) → Leads ns k (link_at n b ns k)
   unfolding link_at
   link_at-Leads ns zero = record {
@@ -71,7 +71,7 @@ module _ (n b : ℕ) where
       by true e leads = here ns k (eqb-true _ _ e)
       by false e leads = past ns k _ (λ q. true≢false (sym (eq-eqb _ _ q) ∙ e)) leads
 
-  -- a name that goes last moves the link of its own bucket alone
+  -- a name that is appended changes only the link of its own bucket
   pub link_at-push : (ns : List (List ℕ)) (name : List ℕ) → link_at n b (ns ++ name ∷ []) (suc (length ns))
       ≡ cond (eqb (bucket n name) b) (suc (length ns)) (link_at n b ns (length ns))
   unfolding link_at
@@ -80,13 +80,13 @@ module _ (n b : ℕ) where
       let below = link_at-same (ns ++ name ∷ []) ns (length ns) (λ j h. get_or-append ns (name ∷ []) [] j h) in
       λ i. cond (eqb (bucket n (last i)) b) (suc (length ns)) (below i)
 
-  -- a place that goes leaves the links below it
+  -- a place that is removed leaves the links below it as they are
   pub link_at-below : (ns : List (List ℕ)) (i k : ℕ) → i < length ns → k ≤ i
       → link_at n b (remove ns i) k ≡ link_at n b ns k
   link_at-below ns i k within low =
       link_at-same (remove ns i) ns k (λ j h. get_or-remove_below ns i [] j (omega (arith, h)) within)
 
-  -- and the links above it are moved
+  -- the links above it are moved
   module _ (ns : List (List ℕ)) (i before : ℕ) (within : i < length ns)
       (led : before ≡ link_at n (bucket n (get_or ns i [])) ns i) where
     first : (t : Bool) → falls_into n b ns i ≡ t
@@ -102,7 +102,7 @@ module _ (n b : ℕ) where
     step k link true low = sym (moved-high i before (suc (suc k)) (omega (arith, low)) ∙ omega arith)
     step k link false low = refl
 
-    -- for each k from place i on, the link below k is then the one that was below k + 1, moved
+    -- for each `k` from place `i` on, the link below `k` is then the one that was below `k + 1`, moved
     pub link_at-moved : (k : ℕ) → i ≤ k
         → link_at n b (remove ns i) k ≡ moved_link i before (link_at n b ns (suc k))
     unfolding link_at

@@ -1,4 +1,4 @@
--- The marks of names: what becomes of them as a name comes or goes, and what they tell of a name.
+-- The marks of names: what they become as a name is appended or removed, and what they show of a name.
 use Rattle.std.proofs.Common.{◌≡◌, ℕ, zero, suc, ◌^◌, ◌<◌, ◌==◌, Bool, true, false, List, [], ◌∷◌, ◌++◌, length, get_or}
 use Rattle.std.proofs.Common.{bit_or, remove, refl, sym, ap, ◌∙◌, arith, true≢false}
 use Rattle.std.proofs.lemmas.Nat.Bits.{bit_at_or, bit_at-pow_same}
@@ -11,17 +11,17 @@ use Rattle.openapi_map.specs.Index.{AreMarked, mark}
 bit-stays : (m k i : ℕ) → bit_at m i ≡ 1 → bit_at (bit_or m (2 ^ k)) i ≡ 1
 bit-stays m k i is = omega (arith, bit_at_or m (2 ^ k) i, is)
 
--- and the one that is put is set
+-- the bit that is added is set
 bit-put : (m k : ℕ) → bit_at (bit_or m (2 ^ k)) k ≡ 1
 bit-put m k = omega (arith, bit_at_or m (2 ^ k) k, bit_at-pow_same k)
 
--- one more name, with its mark
+-- marks of one more name, with its mark added
 pub marked-push : (names : List (List ℕ)) (n : List ℕ) (m : ℕ) → AreMarked names m
     → AreMarked (names ++ n ∷ []) (bit_or m (2 ^ mark n))
 marked-push [] n m is = (bit-put m (mark n), tt)
 marked-push (x ∷ names) n m is = (bit-stays m (mark n) (mark x) is.0, marked-push names n m is.1)
 
--- with one name less, its mark may stay
+-- if a name is removed, its mark may stay
 pub marked-remove : (names : List (List ℕ)) (i m : ℕ) → AreMarked names m → AreMarked (remove names i) m
 marked-remove [] zero m is = tt
 marked-remove [] (suc i) m is = tt
@@ -33,7 +33,7 @@ marked-at [] m k is h = absurd (omega (arith, h))
 marked-at (x ∷ names) m zero is h = is.0
 marked-at (x ∷ names) m (suc k) is h = marked-at names m k is.1 (omega (arith, h))
 
--- a name whose mark is not there is none of the names
+-- a name whose mark is not set is none of the names
 pub unmarked : (name : List ℕ) (names : List (List ℕ)) (m : ℕ) → AreMarked names m → (bit_at m (mark name) == 1) ≡ false
     → (k : ℕ) → k < length names → bytes_eq name (get_or names k []) ≡ false
 unmarked name names m is none k h = by (bytes_eq name (get_or names k [])) refl

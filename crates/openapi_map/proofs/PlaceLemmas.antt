@@ -1,4 +1,4 @@
--- What an entry shows: the value at its place, and the map once a value is put there.
+-- What contracts see of an entry: the value at its place, and the map after a value is set there.
 use Rattle.std.proofs.Common.{◌≡◌, ℕ, zero, suc, ◌<◌, List, [], ◌∷◌, ◌++◌, length, slice_get, Some, None, refl, sym, ap}
 use Rattle.std.proofs.Common.{◌∙◌, string_bytes, arith}
 use Rattle.std.proofs.lemmas.Option.{same_Some}
@@ -29,12 +29,12 @@ module _ {V : Type 0} where
   value-there (x ∷ es) zero e h = ap (λ y. Some y.1) (same_Some x e h)
   value-there (x ∷ es) (suc i) e h = value-there es i e h
 
-  -- an entry that went last
+  -- the value at the place of an entry that was appended
   pub value-last : (es : Entries V) (name : List ℕ) (v : V) → slice_get (values_of (es ++ (name, v) ∷ [])) (length es) ≡ Some v
   value-last [] name v = refl
   value-last (e ∷ es) name v = value-last es name v
 
-  -- to write over the value of a new entry that went last is to insert what is written
+  -- setting the value of a new entry that was appended is the same as inserting that value
   pub write-last : (es : Entries V) (name : List ℕ) (v w : V) → get name es ≡ None
       → set_value_at (es ++ (name, v) ∷ []) (length es) w ≡ insert_entry es name w
   write-last es name v w absent = set_middle es [] name v w ∙ insert-missing name es w absent
@@ -46,11 +46,11 @@ module _ {V : Type 0} where
     pub occupied_within : o.place < length o.map.now
     occupied_within = at.within
 
-    -- the value of an entry that is there is the one at its place
+    -- the value of an occupied entry is the one at its place
     pub occupied_value : entry_value (Occupied o) ≡ slice_get (values_of o.map.now) o.place
     occupied_value = at.value
 
-    -- a value that is put at its place is inserted under its name
+    -- setting the value at its place inserts it at its name
     pub occupied_writes : (v : V) → set_value_at o.map.now o.place v ≡ map_with_value (Occupied o) v
     occupied_writes v = insert-found (string_bytes o.name) o.map.now o.place v (sym o.found)
 
@@ -58,14 +58,14 @@ module _ {V : Type 0} where
     abbrev d : OccupiedEntry V
     d = with_entry_value o v
 
-    -- an insert ends in the same map, whether or not another value was put at its place before
+    -- an insert has the same result, whether or not another value was set at its place before
     pub written_writes : (w : V) → map_with_value (Occupied d) w ≡ map_with_value (Occupied o) w
     written_writes w = sym (occupied_writes d w) ∙ set-twice o.map.now o.place v w ∙ occupied_writes o w
 
-    -- once a value was put at its place, it is the value of the entry
+    -- after a value is set at its place, it is the value of the entry
     pub written_value : entry_value (Occupied d) ≡ Some v
     written_value = occupied_value d ∙ value-set o.map.now o.place v (occupied_within o)
 
-    -- so with a value put at its place it is the entry that it was, once that is its value
+    -- so with a value set at its place, it is the same entry, with that value
     pub occupied_written : IsWritten (Occupied o) v (Occupied d)
     occupied_written = (refl, occupied_writes o v, refl, written_value, written_writes)

@@ -1,4 +1,4 @@
--- What is left of a map, and of the names in its index, once a name is gone.
+-- The rest of a map, and of the names in its index, after a name is removed.
 use Rattle.std.proofs.Common.{◌≡◌, ℕ, Bool, true, false, cond, List, [], ◌∷◌, remove, position, Some, None}
 use Rattle.std.proofs.Common.{refl, sym, ap, subst, ◌∙◌}
 use Rattle.std.specs.List.{IsDistinct, AllByRecursion}
@@ -9,7 +9,7 @@ use Rattle.indexmap.proofs.CallerLemmas.{keys-shift_remove_entry}
 use Rattle.indexmap.proofs.MapLemmas.{Found-position, remove_entry-first}
 use Rattle.openapi_map.specs.Entries.{Entries, get, remove_entry, HasDistinctNames}
 
--- what all names are like, those that are left are
+-- what holds of all names holds of those that are left
 left : (P : List ℕ → Type 0) (t : List ℕ → Bool) (ns : List (List ℕ)) → AllByRecursion P ns
     → AllByRecursion P (remove_key t ns)
 left P t [] h = tt
@@ -33,17 +33,17 @@ distinct-left t (n ∷ ns) h = by (t n) (distinct-left t ns h.1)
 
 module _ {V : Type 0} where
   module _ (name : List ℕ) (m : Entries V) (i : ℕ) (found : Some i ≡ position (bytes_eq name) (keys_of m)) where
-    -- the entry at the place of a name goes
+    -- removing the entry at the place of a name removes the entry of the name
     pub entry-gone : remove m i ≡ remove_entry name m
     entry-gone = sym (remove_entry-first (bytes_eq name) m i (Found-position (bytes_eq name) m i (sym found)).first)
 
-    -- and its name with it, so that distinct names stay distinct
+    -- distinct names stay distinct without the removed one
     pub distinct-gone : HasDistinctNames m → HasDistinctNames (remove m i)
     distinct-gone distinct =
         let gone = ap keys_of entry-gone ∙ keys-shift_remove_entry (bytes_eq name) m in
         subst (IsDistinct bytes_eq) (sym gone) (distinct-left (bytes_eq name) (keys_of m) distinct)
 
-  -- where a name is absent nothing goes
+  -- if a name is absent, nothing is removed
   pub none-gone : (name : List ℕ) (es : Entries V) → None ≡ get name es → es ≡ remove_entry name es
   none-gone name [] h = refl
   none-gone name (e ∷ es) h = by (bytes_eq name e.0) h (none-gone name es)

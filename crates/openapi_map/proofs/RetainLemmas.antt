@@ -47,18 +47,18 @@ module _ {X : Type 0} where
       drop-cons xs i x lt ∙ (λ j. sym e j ∷ drop (next j) xs)
 
 module _ {F V : Type 0} (T : F → List ℕ → V → Bool → V → F → Type 0) where
-  -- the first i entries were asked about, and the first n are those that stay
+  -- the first `i` entries have been visited, and the first `n` of the list are those of them that are kept
   pub record Sifted (f₀ : F) (es₀ : Entries V) (f : F) (es : Entries V) (n i : ℕ) : Type 0 where
     pub rest : (left : Entries V) → RetainsPairs T f (drop i es) left
         → RetainsPairs T f₀ es₀ (take n es ++ left)
 
   module _ {f₀ : F} {es₀ : Entries V} {f : F} {es : Entries V} {n i : ℕ} (s : Sifted f₀ es₀ f es n i)
       (le : n ≤ i) (within : i < length es) (e : List ℕ × V) (at : e ≡ get_or es i e) (w : V) (f' : F) where
-    -- the next entry, with what was left at its value
+    -- the next entry, with the value that the call left
     abbrev written : List ℕ × V
     written = (e.0, w)
 
-    -- what is found of the entries behind it
+    -- the entries that are left overall, by whether the next entry is kept and which entries after it are left
     onward : (b : Bool) (left left' : Entries V) → T f e.0 e.1 b w f'
         → RetainsPairs T f' (drop (i + 1) es) left
         → left' ≡ cond b ((e.0, w) ∷ left) left
@@ -67,7 +67,7 @@ module _ {F V : Type 0} (T : F → List ℕ → V → Bool → V → F → Type 
         s.rest left'
         (subst (λ xs. RetainsPairs T f xs left') (sym (begins es i e within at)) (b, w, f', left, t, on, is))
 
-    -- the next one goes
+    -- the next entry is removed
     pub sifted-passed : T f e.0 e.1 false w f' → Sifted f₀ es₀ f' (set es i written) n (i + 1)
     sifted-passed t = record {
       rest = λ left r.
@@ -76,7 +76,7 @@ module _ {F V : Type 0} (T : F → List ℕ → V → Bool → V → F → Type 
           (onward false left left t on refl);
     }
 
-    -- the next one stays
+    -- the next entry is kept
     pub sifted-kept : T f e.0 e.1 true w f'
         → Sifted f₀ es₀ f' (swap (set es i written) n i) (n + 1) (i + 1)
     sifted-kept t =
@@ -96,14 +96,14 @@ module _ {F V : Type 0} (T : F → List ℕ → V → Bool → V → F → Type 
               (onward true left (entry ∷ left) t on refl);
         }
 
-  -- and so on to the last
+  -- after the last entry, the first `n` entries are those that are left
   pub sifted-all : {f₀ : F} {es₀ : Entries V} {f : F} {es : Entries V} {n i : ℕ} → Sifted f₀ es₀ f es n i
       → length es ≤ i → RetainsPairs T f₀ es₀ (take n es)
   sifted-all {f₀ = f₀} {es₀ = es₀} {f = f} {es = es} {n = n} {i = i} s done =
       let none = subst (λ xs. RetainsPairs T f xs []) (sym (drop_all i es done)) refl in
       subst (RetainsPairs T f₀ es₀) (append-nil (take n es)) (s.rest [] none)
 
-  -- a name that is none of the entries' is none of those that are left
+  -- a name that no entry has, no entry that is left has
   apart-retained : (name : List ℕ) (f : F) (es left : Entries V) → RetainsPairs T f es left
       → AllByRecursion (λ n. bytes_eq name n ≡ false) (keys_of es) → AllByRecursion (λ n. bytes_eq name n ≡ false) (keys_of left)
   apart-retained name f [] left r a = subst (λ es. AllByRecursion (λ n. bytes_eq name n ≡ false) (keys_of es)) (sym r) tt
@@ -133,7 +133,7 @@ module _ {V : Type 0} (ns : List (String Global)) (vs : List V) where
       → entries_of ns (set vs i w) ≡ set (entries_of ns vs) i (string_bytes n, w)
   column-written i n w is = zip-put (names_of ns) vs i (string_bytes n) w (ap string_bytes is ∙ names_of-get_or ns i n)
 
-  -- names and values that change places
+  -- names and values that are swapped
   pub columns-swapped : (i j : ℕ) → length vs ≡ length ns
       → entries_of (swap ns i j) (swap vs i j) ≡ swap (entries_of ns vs) i j
   columns-swapped i j even =

@@ -1,4 +1,4 @@
--- Names and values side by side as one list of entries.
+-- A list of names and a list of values as one list of entries.
 use Rattle.std.proofs.Common.{◌≡◌, ℕ, zero, suc, ◌<◌, List, [], ◌∷◌, ◌++◌, length, get_or, set, take, remove}
 use Rattle.std.proofs.Common.{slice_get, Some, refl, sym, ap, ◌∙◌, arith}
 use Rattle.std.proofs.lemmas.List.{length-map}
@@ -24,7 +24,7 @@ module _ {K V : Type 0} where
   values_of-zip (k ∷ ks) [] e = absurd (omega (arith, e))
   values_of-zip (k ∷ ks) (v ∷ vs) e = ap (λ l. v ∷ l) (values_of-zip ks vs (omega (arith, e)))
 
-  -- an entry that goes last
+  -- an entry that is appended
   pub zip-push : (ks : List K) (vs : List V) (k : K) (v : V) → length vs ≡ length ks
       → zip (ks ++ k ∷ []) (vs ++ v ∷ []) ≡ zip ks vs ++ (k, v) ∷ []
   zip-push [] [] k v e = refl
@@ -32,7 +32,7 @@ module _ {K V : Type 0} where
   zip-push (x ∷ ks) [] k v e = absurd (omega (arith, e))
   zip-push (x ∷ ks) (y ∷ vs) k v e = ap (λ l. (x, y) ∷ l) (zip-push ks vs k v (omega (arith, e)))
 
-  -- an entry that goes
+  -- an entry that is removed
   pub zip-remove : (ks : List K) (vs : List V) (i : ℕ) → length vs ≡ length ks
       → zip (remove ks i) (remove vs i) ≡ remove (zip ks vs) i
   zip-remove [] [] zero e = refl
@@ -42,14 +42,14 @@ module _ {K V : Type 0} where
   zip-remove (x ∷ ks) (y ∷ vs) zero e = refl
   zip-remove (x ∷ ks) (y ∷ vs) (suc i) e = ap (λ l. (x, y) ∷ l) (zip-remove ks vs i (omega (arith, e)))
 
-  -- a value that is put at a place
+  -- a value that is set at a place
   pub zip-set_value : (ks : List K) (vs : List V) (i : ℕ) (v : V) → zip ks (set vs i v) ≡ set_value_at (zip ks vs) i v
   zip-set_value [] vs i v = refl
   zip-set_value (x ∷ ks) [] i v = refl
   zip-set_value (x ∷ ks) (y ∷ vs) zero v = refl
   zip-set_value (x ∷ ks) (y ∷ vs) (suc i) v = ap (λ l. (x, y) ∷ l) (zip-set_value ks vs i v)
 
-  -- the same with the name that is there
+  -- the same with the name at that place
   pub zip-put : (ks : List K) (vs : List V) (i : ℕ) (k : K) (v : V) → k ≡ get_or ks i k
       → zip ks (set vs i v) ≡ set (zip ks vs) i (k, v)
   zip-put [] vs i k v is = refl
@@ -75,7 +75,7 @@ module _ {K V : Type 0} where
   get_or-zip (x ∷ ks) (y ∷ vs) zero k v e = refl
   get_or-zip (x ∷ ks) (y ∷ vs) (suc i) k v e = get_or-zip ks vs i k v (omega (arith, e))
 
-  -- names and values that change places
+  -- names and values that are swapped
   pub zip-swap : (ks : List K) (vs : List V) (i j : ℕ) → length vs ≡ length ks
       → zip (swap ks i j) (swap vs i j) ≡ swap (zip ks vs) i j
   zip-swap [] [] i j e = refl
@@ -104,7 +104,7 @@ module _ {K V : Type 0} where
   slice_get-zip (x ∷ ks) (y ∷ vs) zero k v e h = refl
   slice_get-zip (x ∷ ks) (y ∷ vs) (suc i) k v e h = slice_get-zip ks vs i k v (omega (arith, e)) (omega (arith, h))
 
-  -- a list of entries is its names and its values side by side
+  -- a list of entries is its names zipped with its values
   pub zip-columns : (es : List (K × V)) → zip (keys_of es) (values_of es) ≡ es
   zip-columns [] = refl
   zip-columns (e ∷ es) = ap (λ l. e ∷ l) (zip-columns es)
@@ -128,7 +128,7 @@ module _ {K V : Type 0} where
   length-set_values es ws =
       length-zip (keys_of es) (refill (length es) (values_of es) ws) (length-refilled es ws) ∙ length-keys_of es
 
-  -- values that are written beside the names are written over the entries
+  -- writing values beside the names writes them over the values of the entries
   pub zip-set_values : (ks : List K) (vs ws : List V) (n : ℕ) → length vs ≡ length ks → n ≡ length vs
       → zip ks (refill n vs ws) ≡ set_values (zip ks vs) ws
   zip-set_values ks vs ws n e is =

@@ -1,4 +1,4 @@
--- A list of entries as a former of its values.
+-- A list of entries as a `Former` of its values.
 use Rattle.std.specs.Prelude.{◌≡◌, ℕ, suc, length, max, Bool, true, false, cond, ◌&&◌, List, [], ◌∷◌, map, Option, Some, None}
 use Rattle.std.specs.Prelude.{String}
 use Rattle.std.specs.HashMap.{entries_eq}
@@ -30,15 +30,15 @@ use Rattle.openapi_map.specs.declared.index.NameIndex.{NameIndex}
 use Rattle.openapi_map.specs.declared.lookup.Finder.{Finder}
 use Rattle.openapi_map.specs.declared.lookup.Finder.TheVariants.{Few, Many}
 
--- a name beside one of g's values
+-- a name beside one of the values of `g`
 abbrev pub entry : Former {0} → Former {0}
 entry g = pair (const (List ℕ)) g
 
--- the entry, with h applied to its value
+-- the entry, with `h` applied to its value
 abbrev pub on_value : {X Y : Type 0} → (X → Y) → List ℕ × X → List ℕ × Y
 on_value h p = (p.0, h p.1)
 
--- names weigh nothing
+-- names add nothing to the weight of entries
 most_values : {Y : Type 0} (f : Y → ℕ) (es : Entries Y) → most (λ p. max 0 (f p.1)) es ≡ most f (values_of es)
 most_values f [] = refl
 most_values f (e ∷ es) = λ i. max (sym (none_max (f e.1)) i) (most_values f es i)
@@ -62,7 +62,7 @@ entries_recoded R R' h e es =
     let code' = (coded× (coded_list coded_ℕ) R'.coded).code in
     sym (code_map code code' (on_value h) (λ x i. gcons ((coded_list coded_ℕ).code x.0) (sym (e x.1) i)) es)
 
--- values that are mapped before they stand beside their names, or after
+-- mapping values before they are zipped with names is the same as mapping the entries afterwards
 pub zip-map : {X Y : Type 0} (h : X → Y) (ns : List (List ℕ)) (vs : List X)
     → zip ns (map h vs) ≡ map (on_value h) (zip ns vs)
 zip-map h [] vs = refl
@@ -99,7 +99,7 @@ IsConsistent-prop h p q = λ i. record {
   index = IsIndexAt-prop (names_of h.names.items) h.finder p.index q.index i;
 }
 
--- what holds of what a map keeps
+-- the invariant of the contents of a map
 abbrev pub IsKept : {X : Type 0} → Option (Box (Held X) Global) → Type 0
 IsKept o = HasDistinctNames (kept o) × IsHeldConsistent o
 
@@ -110,7 +110,7 @@ IsHeldConsistent-prop (Some b) = IsConsistent-prop b.value
 pub IsKept-prop : {X : Type 0} (o : Option (Box (Held X) Global)) → IsProp (IsKept o)
 IsKept-prop o = ×_prop (IsDistinct-prop bytes_eq (keys_of (kept o))) (IsHeldConsistent-prop o)
 
--- whether both entries are there and have equal values, or neither is there
+-- whether both entries exist and have equal values, or neither exists
 abbrev agree : {V : Type 0} → (V → V → Bool) → Option (List ℕ × V) → Option (List ℕ × V) → Bool
 agree eq = option_eq (λ e f. eq e.1 f.1)
 
@@ -120,14 +120,14 @@ agree_at eq es fs =
     list_all (λ name. agree eq (lookup_entry (bytes_eq name) es) (lookup_entry (bytes_eq name) fs))
 
 module _ {X Y : Type 0} (h : X → Y) where
-  -- an entry is chosen before its value is mapped or after
+  -- choosing an entry commutes with mapping its value
   chosen-map : (b : Bool) (e : List ℕ × X) (rest : Option (List ℕ × X))
       → cond b (Some (on_value h e)) (option_map (on_value h) rest)
       ≡ option_map (on_value h) (cond b (Some e) rest)
   chosen-map true e rest = refl
   chosen-map false e rest = refl
 
-  -- the entry of a name among mapped ones is its entry, mapped
+  -- the entry of a name among mapped entries is the entry of that name, mapped
   found-map : (name : List ℕ) (es : Entries X)
       → lookup_entry (bytes_eq name) (map (on_value h) es)
       ≡ option_map (on_value h) (lookup_entry (bytes_eq name) es)
@@ -136,17 +136,17 @@ module _ {X Y : Type 0} (h : X → Y) where
       ap (λ rest. cond (bytes_eq name e.0) (Some (on_value h e)) rest) (found-map name es)
       ∙ chosen-map (bytes_eq name e.0) e (lookup_entry (bytes_eq name) es)
 
-  -- a map of the values keeps the names
+  -- mapping the values keeps the names
   pub keys_of-map : (es : Entries X) → keys_of (map (on_value h) es) ≡ keys_of es
   keys_of-map [] = refl
   keys_of-map (e ∷ es) = ap (λ names. e.0 ∷ names) (keys_of-map es)
 
   module _ (eq : Y → Y → Bool) where
-    -- whether two values are equal once they are mapped
+    -- whether two values are equal after they are mapped
     abbrev eq_after : X → X → Bool
     eq_after x y = eq (h x) (h y)
 
-    -- mapped entries agree where the entries do by the mapped values
+    -- mapped entries agree exactly if the entries agree by their mapped values
     agree-map : (p q : Option (List ℕ × X))
         → agree eq (option_map (on_value h) p) (option_map (on_value h) q) ≡ agree eq_after p q
     agree-map None None = refl
@@ -165,7 +165,7 @@ module _ {X Y : Type 0} (h : X → Y) where
           let first = (λ i. agree eq (found-map name es i) (found-map name fs i)) ∙ agree-map p q in
           λ i. first i && agree_at-map names i
 
-      -- maps of mapped values are equal where the maps are by the mapped values
+      -- two maps of mapped values are equal exactly if the maps are equal by their mapped values
       pub entries_eq-map : entries_eq bytes_eq (λ e f. eq e.1 f.1) (map (on_value h) es) (map (on_value h) fs)
           ≡ entries_eq bytes_eq (λ e f. eq_after e.1 f.1) es fs
       unfolding entries_eq

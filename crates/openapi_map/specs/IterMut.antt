@@ -1,4 +1,4 @@
--- What the iterators that borrow the values of a map mutably show.
+-- What contracts see of the iterators that borrow the values of a map mutably.
 use Rattle.std.specs.Prelude.{◌≡◌, List, Option, length}
 use Rattle.std.specs.Borrow.{GName, MutBor}
 use Rattle.std.specs.Slice.Iter as slice
@@ -11,7 +11,7 @@ module _ {V : Type 0} where
   abbrev pub iter_mut_rest : IterMut V → Entries V
   iter_mut_rest it = entries_of (slice.iter_rest it.names) (slice.iter_mut_rest it.values)
 
-  -- the name of its borrow
+  -- the ghost name of its borrow
   abbrev pub iter_mut_name : IterMut V → GName
   iter_mut_name it = slice.iter_mut_name it.values
 
@@ -23,10 +23,10 @@ module _ {V : Type 0} where
   abbrev pub values_mut_rest : ValuesMut V → List V
   values_mut_rest it = slice.iter_mut_rest it.values
 
-  -- the name of its borrow
+  -- the ghost name of its borrow
   abbrev pub values_mut_name : ValuesMut V → GName
   values_mut_name it = slice.iter_mut_name it.values
 
-  -- a call of `next` at s gave r and left t
+  -- a call of `next` on `s` returned `r` and left `t`
   abbrev pub values_mut_steps : ValuesMut V → Option (MutBor V) → ValuesMut V → Type 0
   values_mut_steps s r t = slice.iter_mut_steps s.values r t.values

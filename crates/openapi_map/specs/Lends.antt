@@ -1,4 +1,4 @@
--- What a map ends as, once a `&mut` into it has ended.
+-- What a map holds once a `&mut` to its values has ended.
 use Rattle.std.specs.Prelude.{◌≡◌, ℕ, List, Option, length}
 use Rattle.std.specs.Borrow.{Fml, GName, RattleType, MutBor, Array, Lends, LendsIf, follows}
 use Rattle.std.specs.Map.{keys_of}
@@ -17,35 +17,35 @@ use Rattle.openapi_map.specs.contracts.OrderedMap.{the_row}
 use Rattle.openapi_map.specs.declared.Held.{Held}
 
 module _ (V : RattleType) (m : MutBor (Entries V.Denot)) where
-  -- the value at the place is the last one written through r
+  -- once the borrow `r` ends, the map is as before, with the last value written through `r` at index `i`
   abbrev pub lends_place : ℕ → MutBor V.Denot → Fml
   lends_place i r = Lends (the_row V) V m r (set_value_at m.now i)
 
-  -- the same where r is a reference, and at `None` the map stays as it is
+  -- the same if `r` is `Some`; at `None` the map stays as it is
   abbrev pub lends_index : ℕ → Option (MutBor V.Denot) → Fml
   lends_index i r = LendsIf (the_row V) V m r (set_value_at m.now i) m.now
 
-  -- the map is as after an insert of the last value written through r at the name, and at `None` it stays as it is
+  -- the map is as after an insert of the last value written through `r` at the name; at `None` it stays as it is
   abbrev pub lends_name : List ℕ → Option (MutBor V.Denot) → Fml
   lends_name name r = LendsIf (the_row V) V m r (insert_entry m.now name) m.now
 
-  -- the map has the last values written through the borrow with this name
+  -- the values of the map are the last ones written through the borrow with this ghost name
   abbrev pub lends_values : GName → Fml
   lends_values r = follows (the_row V) (Array V 0) m.ghost_name r (set_values m.now)
 
--- whatever values are written, the names and their number stay
+-- whatever values are written, the names and their number stay the same
 abbrev pub KeepsNames : {V : Type 0} → Entries V → Type 0
 KeepsNames {V} m =
     ((ws : List V) → keys_of (set_values m ws) ≡ keys_of m) × ((ws : List V) → length (set_values m ws) ≡ length m)
 
--- the type of what a map keeps, as the logic holds it
+-- the type of the contents of a map, as the logic has it
 abbrev pub kept_row : RattleType → RattleType
 kept_row V = option.the_row (box.the_row (held.the_row V) heap.the_row ghosts)
 
--- the values have the last values written through the borrow with this name
+-- the values of the contents are the last ones written through the borrow with this ghost name
 abbrev pub lends_held : (V : RattleType) → MutBor (Held V.Denot) → GName → Fml
 lends_held V h r = follows (held.the_row V) (Array V 0) h.ghost_name r (with_held_values h.now)
 
--- the same of what is kept
+-- the same for the contents of a map, if it has any
 abbrev pub lends_kept : (V : RattleType) → MutBor (Option (Box (Held V.Denot) Global)) → GName → Fml
 lends_kept V o r = follows (kept_row V) (Array V 0) o.ghost_name r (with_kept_values o.now)

@@ -52,7 +52,7 @@ use Rattle.openapi_media_types.specs.declared.format.ParameterSchemaOrContent.Th
 use Rattle.openapi_media_types.specs.declared.format.ParameterSchemaOrContent.TheOpen.{MediaType-F}
 use denote.Hole.Carrier.{roll}
 
--- one level of each type, and the same with what stands inside seen as forms
+-- one level of each type, and the same with the values inside replaced with their forms
 abbrev Format : Type 0
 Format = ParameterSchemaOrContent-F the_data the_data-1 the_data-2 the_data-3
 
@@ -81,7 +81,7 @@ abbrev media_type_level : AMediaType → MediaType-F Form (List Form) (List Form
 media_type_level d = map-MediaType the_data the_data-1 the_data-2 the_data-3 Form (List Form) (List Form) (List Form)
     format_form encoding_rows header_rows media_type_rows d
 
--- what a parameter or a header is like
+-- a schema: `schema` decides, with its form
 pub format-schema : (x : ReferenceOr Schema) → format_form (format.Schema x)
     ≡ deciding (codes "schema") (reference_form schema_form x)
 format-schema x = search (rules, the_lemmas)
@@ -95,7 +95,7 @@ content_level : (es : Entries MediaType) → content_pairs (format_level (Parame
 content_level [] = refl
 content_level ((n, x) ∷ es) = ap (λ l. record { key = name n; value = media_type_form x } ∷ l) (content_level es)
 
--- contents in the place of a schema: `content` decides, with the map of their forms
+-- contents instead of a schema: `content` decides, with the map of their forms
 pub format-content : (m : Entries MediaType) → format_form (format.Content m)
     ≡ deciding (codes "content") (map_form media_type_form m)
 unfolding roll-ParameterSchemaOrContent roll
@@ -120,7 +120,7 @@ header_parts d =
 header_step-level : (d : AHeader) → header_step (header_level d) ≡ header_parts d
 header_step-level d = refl
 
--- the rows of a header are the forms of its fields
+-- the forms that the fold gives for a header are those of its fields
 pub header_rows-out : (x : Header) → header_rows x ≡ header_fields x
 header_rows-out x =
     fold_out-Header Form (List Form) (List Form) (List Form) format_step encoding_step header_step media_type_step x
@@ -156,7 +156,7 @@ media_type_step-level d =
     ∷ map_form example_ref_form d.examples ∷ named (named_of (encodings_level d d.encoding i))
     ∷ extensions_form d.extensions ∷ [])
 
--- the rows of a media type are the forms of its fields
+-- the forms that the fold gives for a media type are those of its fields
 pub media_type_rows-out : (x : MediaType) → media_type_rows x ≡ media_type_fields x
 media_type_rows-out x =
     fold_out-MediaType Form (List Form) (List Form) (List Form) format_step encoding_step header_step media_type_step x
@@ -197,7 +197,7 @@ encoding_step-level d =
     ∷ optional_form (word_form query_style_word) d.style ∷ flag_form d.explode ∷ flag_form d.allow_reserved
     ∷ extensions_form d.extensions ∷ [])
 
--- the rows of an encoding are the forms of its fields
+-- the forms that the fold gives for an encoding are those of its fields
 pub encoding_rows-out : (x : Encoding) → encoding_rows x ≡ encoding_fields x
 encoding_rows-out x =
     fold_out-Encoding Form (List Form) (List Form) (List Form) format_step encoding_step header_step media_type_step x
@@ -212,19 +212,19 @@ encoding_read d ms h =
     (sym (fold-roll-Encoding Form (List Form) (List Form) (List Form) format_step encoding_step header_step
     media_type_step d ∙ encoding_step-level d) ∙ encoding_rows-out (roll-Encoding d)) h
 
--- for headers, the forms of the fields and the rows are one function
+-- for headers, the forms of the fields and those of the fold are one function
 pub header_same : header_fields ≡ header_rows
 header_same i x = sym (header_rows-out x) i
 
--- for media types, the forms of the fields and the rows are one function
+-- for media types, the forms of the fields and those of the fold are one function
 pub media_type_same : media_type_fields ≡ media_type_rows
 media_type_same i x = sym (media_type_rows-out x) i
 
--- for encodings, the forms of the fields and the rows are one function
+-- for encodings, the forms of the fields and those of the fold are one function
 pub encoding_same : encoding_fields ≡ encoding_rows
 encoding_same i x = sym (encoding_rows-out x) i
 
--- one of the two names decides, with what stands under it
+-- one of the two names decides, with the value under it
 step_decides : (d : Format) → format_step (format_level d)
     ≡ deciding (deciding_name (format_step (format_level d))) (deciding_value (format_step (format_level d)))
 step_decides (ParameterSchemaOrContent-F.Schema x) = refl
@@ -240,7 +240,7 @@ opened x =
     fold_out-ParameterSchemaOrContent Form (List Form) (List Form) (List Form) format_step encoding_step header_step
     media_type_step x
 
--- what was written of it may stand among slots that hold it
+-- what was written for its value is what slots hold that contain its form
 pub format_held : (ss : List Slot) (x : ParameterSchemaOrContent) (n : List ℕ) (w : Result Node Fault)
     → slot_where (is_named (codes "schema")) ss ≡ Some (format_row, format_form x)
     → n ≡ deciding_name (format_form x)
@@ -264,7 +264,7 @@ format_held ss x n w at is h =
       is = h;
     })
 
--- it is the only row of its own table
+-- its row is the only one of its own table
 pub only_format : (r : Result ParameterSchemaOrContent Fault) (ms : Members)
     → RowReadAs format_form r (by schema_or_content) format_row ms
     → RowsReadAs format_fields r (by schema_or_content) ms

@@ -1,4 +1,4 @@
--- The forms of headers and contents: a fold over the types that hold one another.
+-- The forms of headers and contents: a fold over these mutually recursive types.
 use Rattle.std.specs.Prelude.{ℕ, List, [], ◌∷◌, codes}
 use Rattle.openapi_tables.specs.Form.{Form, absent, leaf, deciding}
 use Rattle.openapi_fields.specs.Forms.{
@@ -36,11 +36,11 @@ use Rattle.openapi_media_types.specs.declared.format.ParameterSchemaOrContent.Th
 abbrev pub example_ref_form : ReferenceOr Example → Form
 example_ref_form = reference_form (record_form example_rows)
 
--- an object whose rows are seen as forms already
+-- the form of an object, given the forms of its fields
 abbrev pub of_rows : List Form → Form
 of_rows = record_form (λ fs. fs)
 
--- one level of each type, with what stands inside seen as its forms already
+-- the forms of one level of each type, given those of the values of these types inside
 abbrev pub format_step : ParameterSchemaOrContent-F Form (List Form) (List Form) (List Form) → Form
 format_step (ParameterSchemaOrContent-F.Schema r) = deciding (codes "schema") (reference_form schema_form r)
 format_step (ParameterSchemaOrContent-F.Content m) = deciding (codes "content") (map_form of_rows m)
@@ -76,12 +76,12 @@ media_type_step x =
     ∷ extensions_form x.extensions
     ∷ []
 
--- what a parameter or a header is like: what stands under the name that decides
+-- the form of the schema or the content of a parameter or a header, with the name `schema` or `content`
 abbrev pub format_form : ParameterSchemaOrContent → Form
 format_form = fold-ParameterSchemaOrContent Form (List Form) (List Form) (List Form) format_step encoding_step header_step
     media_type_step
 
--- the rows of an encoding, of a header and of a media type
+-- the forms of the fields of an encoding, of a header and of a media type
 abbrev pub encoding_rows : Encoding → List Form
 encoding_rows = fold-Encoding Form (List Form) (List Form) (List Form) format_step encoding_step header_step
     media_type_step
@@ -93,7 +93,7 @@ abbrev pub media_type_rows : MediaType → List Form
 media_type_rows = fold-MediaType Form (List Form) (List Form) (List Form) format_step encoding_step header_step
     media_type_step
 
--- and each as an object
+-- the form of each as an object
 abbrev pub encoding_form : Encoding → Form
 encoding_form = record_form encoding_rows
 
@@ -103,7 +103,7 @@ header_form = record_form header_rows
 abbrev pub media_type_form : MediaType → Form
 media_type_form = record_form media_type_rows
 
--- the name that decides, and what stands under it
+-- the name and the inner form of a `deciding` form; the empty name and `absent` for every other form
 abbrev pub deciding_name : Form → List ℕ
 deciding_name (deciding n f) = n
 deciding_name _ = []

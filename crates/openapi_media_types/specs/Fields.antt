@@ -1,4 +1,4 @@
--- The forms of the fields of headers, media types and encodings, in the order of the rows of their tables.
+-- The forms of the fields of headers, media types and encodings, in the order of their field tables.
 use Rattle.std.specs.Prelude.{List, [], ◌∷◌, codes}
 use Rattle.openapi_tables.specs.Kind.{Row, either, encoding, header, media_type}
 use Rattle.openapi_tables.specs.Tables.{content, schema_ref}
@@ -14,11 +14,11 @@ use Rattle.openapi_media_types.specs.declared.encoding.Encoding.{Encoding, out-E
 use Rattle.openapi_media_types.specs.declared.header.Header.{Header, out-Header}
 use Rattle.openapi_media_types.specs.declared.media_type.MediaType.{MediaType, out-MediaType}
 
--- the row of what a parameter or a header is like
+-- the row of a parameter or a header that holds its `schema` or its `content`
 abbrev pub format_row : Row
 format_row = either (codes "schema") schema_ref (codes "content") content
 
--- the same by itself
+-- the forms of an object that has this field only
 abbrev pub format_fields : ParameterSchemaOrContent → List Form
 format_fields x = format_form x ∷ []
 

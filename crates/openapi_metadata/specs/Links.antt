@@ -1,4 +1,4 @@
--- The forms of links, and of the operation that a link leads to, by their fields in the order of the rows.
+-- The forms of the fields of links, and of the operation that a link refers to, in the order of their field tables.
 use Rattle.std.specs.Prelude.{List, [], ◌∷◌, codes}
 use Rattle.openapi_tables.specs.Kind.{any_text, Row, either}
 use Rattle.openapi_tables.specs.Form.{Form, leaf, deciding}
@@ -8,16 +8,16 @@ use Rattle.openapi_metadata.specs.declared.link.Link.{Link}
 use Rattle.openapi_metadata.specs.declared.link_operation.LinkOperation.{LinkOperation}
 use Rattle.openapi_metadata.specs.declared.link_operation.LinkOperation.TheVariants.{OperationRef, OperationId}
 
--- the row of the operation
+-- the row of the operation: `operationRef` or `operationId`
 abbrev pub operation_row : Row
 operation_row = either (codes "operationRef") any_text (codes "operationId") any_text
 
--- the operation that a link leads to
+-- the form of the operation that a link refers to
 abbrev pub operation_form : LinkOperation → Form
 operation_form (OperationRef s) = deciding (codes "operationRef") (text_form s)
 operation_form (OperationId s) = deciding (codes "operationId") (text_form s)
 
--- the same by itself
+-- the forms of an object that has this field only
 abbrev pub link_operation_rows : LinkOperation → List Form
 link_operation_rows x = operation_form x ∷ []
 

@@ -1,4 +1,4 @@
--- The forms of the fields of each object that is read by a table, in the order of its rows.
+-- The forms of the fields of each object that is read by a field table, in the order of that table.
 use Rattle.std.specs.Prelude.{List, [], ◌∷◌}
 use Rattle.openapi_tables.specs.Form.{Form, leaf}
 use Rattle.openapi_fields.specs.Forms.{

@@ -1,4 +1,4 @@
--- The members of an object stand in the order of their names, so what is found at each name says what they are.
+-- The members of an object in data are in the order of their names, so the value found at each name determines the object.
 use Rattle.std.proofs.Common.{◌≡◌, ℕ, ◌≤◌, List, Option, Some, None, Ordering, Less, Equal, Greater, nat_cmp, is_eq}
 use Rattle.std.proofs.Common.{is_some, refl, sym, ap, ◌∙◌, true≢false, arith}
 use Rattle.std.proofs.lemmas.Cmp.{nat_list_cmp_total, tied_itself}
@@ -10,12 +10,12 @@ use Rattle.serde_json.specs.Data.{Data, Members, no_members, member, put}
 use Rattle.serde_json.specs.Events.{members_len}
 use Rattle.serde_json.specs.Find.{get_member}
 
--- a name is below those of all members
+-- a name is less than those of all members
 abbrev pub Below : List ℕ → Members → Type 0
 Below k no_members = Unit {0}
 Below k (member l d ms) = (slice_cmp nat_cmp k l ≡ Less) × Below k ms
 
--- each name is below those after it
+-- each name is less than those after it
 abbrev pub InOrder : Members → Type 0
 InOrder no_members = Unit {0}
 InOrder (member k d ms) = Below k ms × InOrder ms
@@ -37,7 +37,7 @@ Below-put k l d (member m e ms) h b = by (slice_cmp nat_cmp l m) (Below-put k l 
 turned : (k l : List ℕ) → slice_cmp nat_cmp k l ≡ Greater → slice_cmp nat_cmp l k ≡ Less
 turned k l h = nat_list_cmp_total.antisymm l k ∙ ap ordering_reverse h
 
--- members in order stay in order when one is put among them
+-- members in order stay in order if one is put among them
 pub InOrder-put : (k : List ℕ) (d : Data) (ms : Members) → InOrder ms → InOrder (put k d ms)
 InOrder-put k d no_members o = (tt, tt)
 InOrder-put k d (member l e ms) o = by (slice_cmp nat_cmp k l) refl (InOrder-put k d ms o.1)
@@ -57,7 +57,7 @@ first_found : (k : List ℕ) (d : Data) (ms : Members) → get_member k (member 
 first_found k d ms =
     ap (λ o. match_ordering o (get_member k ms) (Some d) (get_member k ms)) (tied_itself nat_list_cmp_total k)
 
--- two names of which none is below the other are the same
+-- two names that compare as equal are the same
 pub tied : (k l : List ℕ) → slice_cmp nat_cmp k l ≡ Equal → k ≡ l
 tied k l h = (bytes_eq-Decides k l).0 (sym (is_eq-slice_cmp k l) ∙ ap is_eq h)
 
@@ -70,11 +70,11 @@ skips k l d ms apart = by (slice_cmp nat_cmp k l) refl
     by Equal h = absurd (apart (tied k l h))
     by Greater h = refl
 
--- what is missing is not found
+-- a missing value is not found
 pub not_both : {A : Type 0} {r : Option A} {x : A} → r ≡ None → r ≡ Some x → ⊥
 not_both n s = true≢false (sym (ap is_some s) ∙ ap is_some n)
 
--- a name that a member's name is below is not that of the member
+-- a name that is found among members is not a name that is less than those of all of them
 other_name : (k l : List ℕ) (c : Data) (ms : Members) → Below l ms → get_member k ms ≡ Some c → k ≡ l → ⊥
 other_name k l c ms b found same = not_both (ap (λ n. get_member n ms) same ∙ missing l ms b) found
 
@@ -82,7 +82,7 @@ other_name k l c ms b found same = not_both (ap (λ n. get_member n ms) same ∙
 abbrev pub Within : Members → Members → Type 0
 Within ms ns = (k : List ℕ) (d : Data) → get_member k ms ≡ Some d → get_member k ns ≡ Some d
 
--- the first has no more members, and where it has as many it is the second
+-- the first has no more members than the second, and if it has as many it is the second
 pub record Fits (ms ns : Members) : Type 0 where
   pub fewer : members_len ms ≤ members_len ns
   pub same : members_len ns ≤ members_len ms → ms ≡ ns

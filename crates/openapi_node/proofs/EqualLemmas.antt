@@ -1,4 +1,4 @@
--- When the data of two lists or of two objects is the same, told child by child.
+-- When the data of two lists or of two objects is the same, in terms of their children.
 use Rattle.std.proofs.Common.{◌≡◌, ℕ, zero, suc, ◌+◌, ◌<◌, Bool, true, false, cond, List, [], ◌∷◌, ◌++◌, length, get_or}
 use Rattle.std.proofs.Common.{slice_get, Option, Some, None, Ordering, Less, Equal, Greater, nat_cmp, refl, sym, ap}
 use Rattle.std.proofs.Common.{subst, ◌∙◌, true≢false, arith}
@@ -29,16 +29,16 @@ get_item-items_data [] i t h = absurd (omega arith)
 get_item-items_data (x ∷ ts) zero t h = refl
 get_item-items_data (x ∷ ts) (suc i) t h = get_item-items_data ts i t (omega arith)
 
--- lists with the same data are as long, and their items have the same data
+-- lists with the same data have the same length, and their items have the same data
 module _ (ts us : List Tree) (same : data_of (list (items_of ts)) ≡ data_of (list (items_of us))) where
   same_items : items_data (items_of ts) ≡ items_data (items_of us)
   same_items = cc
 
-  -- they are as long
+  -- they have the same length
   pub same_length : length ts ≡ length us
   same_length = sym (items_len-items_data ts) ∙ ap items_len same_items ∙ items_len-items_data us
 
-  -- and their items at an index have the same data
+  -- their items at an index have the same data
   pub same_item : (i : ℕ) (t u : Tree) → i < length ts → t ≡ get_or ts i t → u ≡ get_or us i u → data_of t ≡ data_of u
   same_item i t u h e f =
       let found : Some (data_of (get_or ts i t)) ≡ Some (data_of (get_or us i u)) =
@@ -51,7 +51,7 @@ module _ (ts us : List Tree) (same : data_of (list (items_of ts)) ≡ data_of (l
 apart_names : (k l : List ℕ) → bytes_eq k l ≡ false → k ≡ l → ⊥
 apart_names k l e same = true≢false (sym ((bytes_eq-Decides k l).1 same) ∙ e)
 
--- a name that no member has adds nothing
+-- members without a name leave what is found at the name as it is
 absent : (k : List ℕ) (ms : Entries Tree) (ds : json.Members) → get k ms ≡ None
     → get_member k (members_data (members_of ms) ds) ≡ get_member k ds
 absent k [] ds none = refl
@@ -107,7 +107,7 @@ members_len-put k d (json.member l e ds) none = by (slice_cmp nat_cmp k l) none 
     by Equal n rest = absurd (not_both n refl)
     by Greater n rest = ap suc (rest n)
 
--- no member has a name of the data
+-- the data has none of the members' names
 abbrev AreNew : Entries Tree → json.Members → Type 0
 AreNew ms ds = AllByRecursion (λ k. get_member k ds ≡ None) (keys_of ms)
 
@@ -144,7 +144,7 @@ pub record IsFoundIn (ms : Entries Tree) (m : List ℕ × Tree) : Type 0 where
   pub there : get m.0 ms ≡ Some found
   pub same : data_of m.1 ≡ data_of found
 
--- and it is the one that a look for the name gives
+-- this is the member that a lookup of the name returns
 pub same_found : (ms : Entries Tree) (m : List ℕ × Tree) (t : Tree) → IsFoundIn ms m → Some t ≡ get m.0 ms
     → data_of m.1 ≡ data_of t
 same_found ms m t f there =
@@ -157,7 +157,7 @@ abbrev pub AreFoundIn : Entries Tree → Entries Tree → Type 0
 AreFoundIn ns [] = Unit {0}
 AreFoundIn ns (m ∷ ms) = IsFoundIn ns m × AreFoundIn ns ms
 
--- where members are found in an object and one more is, all of these are
+-- if members are found in an object and one more is, all of these are
 pub AreFoundIn-push : (ns ms : Entries Tree) (m : List ℕ × Tree) → AreFoundIn ns ms → IsFoundIn ns m
     → AreFoundIn ns (ms ++ m ∷ [])
 AreFoundIn-push ns [] m h f = (f, tt)
@@ -200,7 +200,7 @@ get-at (e ∷ es) (suc i) m d at =
     ap (λ b. cond b (Some e.1) (get m.0 es)) (nat_list_eq_equiv.symm m.0 e.0 ∙ apart_at e.0 es i m d.0 at)
     ∙ get-at es i m d.1 at
 
--- what the data of an object with these members has
+-- the members of the data of an object with these members
 abbrev data_members : Entries Tree → json.Members
 data_members ms = members_data (members_of ms) json.no_members
 
@@ -216,7 +216,7 @@ module _ (ms ns : Entries Tree) (distinct : HasDistinctNames ms) (others : HasDi
           present k f.found ns json.no_members others f.there ∙ ap Some (sym f.same)
           ∙ sym (present k t ms json.no_members distinct e) ∙ found
 
-  -- two objects with as many members have the same data where each member of the one is found in the other
+  -- two objects with as many members have the same data if each member of the first is found in the second
   pub equal_members : length ms ≡ length ns → AreFoundIn ns ms
       → data_of (object (members_of ms)) ≡ data_of (object (members_of ns))
   equal_members as_many all =
@@ -233,7 +233,7 @@ module _ (ms ns : Entries Tree) (distinct : HasDistinctNames ms) (others : HasDi
     as_many = sym (members_len-members_data ms distinct) ∙ ap members_len same_members
         ∙ members_len-members_data ns others
 
-    -- and each member of the one is found in the other
+    -- and each member of the first is found in the second
     pub found_from_equal : (i : ℕ) (m : List ℕ × Tree) → slice_get ms i ≡ Some m → IsFoundIn ns m
     found_from_equal i m at = by (get m.0 ns) refl
       where

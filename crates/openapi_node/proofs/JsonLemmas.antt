@@ -1,4 +1,4 @@
--- Where a number that is no integer stands, and the trees of lists and maps of values.
+-- The location of a number that is not an integer, and the nodes of lists and maps of values.
 use Rattle.std.proofs.Common.{◌≡◌, ℕ, ◌<◌, List, [], ◌∷◌, ◌++◌, map, length, get_or, Some, None, Bool, true, false}
 use Rattle.std.proofs.Common.{cond, ◌||◌, string_bytes, string_cmp, Less, Greater, nat_cmp, Float, ◌⊎◌, inl, inr, refl}
 use Rattle.std.proofs.Common.{sym, ap, ◌∙◌, subst, option_and_then, is_eq}
@@ -41,14 +41,14 @@ module _ (step : Step) (inside outside : Data) (below above : Fault) (up : GoesU
     there = ap (λ p. data_at p outside) s.1 ∙ goes (place_of below) ∙ w.there;
   }
 
-  -- a refusal of data inside, for want of memory or for a number that is not whole, is one of the
-  -- data around it
+  -- if the fault inside is a failed allocation or a number that is not whole, the fault one step above is one of these
+  -- for the data around it
   pub goes_up : ((p : List Step) → data_at (step ∷ p) outside ≡ data_at p inside)
       → IsMemory below ⊎ IsNotWhole inside below → IsMemory above ⊎ IsNotWhole outside above
   goes_up goes (inl m) = inl (up.keeps_memory m)
   goes_up goes (inr w) = elim up.otherwise [ inl m ↦ inl m | inr s ↦ inr (moved w.number goes w s) ]
 
--- a place that begins with an index leads where its rest leads in the item there
+-- a location that begins with an index leads where its rest leads in the item there
 pub at_item : (vs : List Value) (i : ℕ) (v : Value) → i < length vs → v ≡ get_or vs i v → (p : List Step)
     → data_at (indexed i ∷ p) (json.array (items_view vs)) ≡ data_at p (view v)
 at_item vs i v h e p = ap (option_and_then (data_at p)) (sym (get_item_within vs i v h))
@@ -72,7 +72,7 @@ found_middle (first ∷ done) e more h =
     ∙ ap ordering_reverse (below_middle first done e more h.0) in
     rw above (found_middle done e more h.1)
 
--- a place that begins with a name leads where its rest leads in the member of that name
+-- a location that begins with a name leads where its rest leads in the member of that name
 pub at_member : (done : List Entry) (e : Entry) (more es : List Entry) (name : List ℕ) → es ≡ done ++ e ∷ more
     → name ≡ string_bytes e.0 → IsStrictlySortedBy string_cmp (keys_of es)
     → (p : List Step) → data_at (named name ∷ p) (json.object (members_view es)) ≡ data_at p (view e.1)
@@ -81,20 +81,20 @@ at_member done e more es name split is ordered p =
     ((λ j. get_member (is j) (members_view (split j)))
     ∙ found_middle done e more (subst (λ l. IsStrictlySortedBy string_cmp (keys_of l)) split ordered))
 
--- the trees of the values and of the members, one by one
+-- the node of each value
 abbrev pub trees : List Value → List Tree
 trees vs = map (λ v. tree_of_data (view v)) vs
 
--- the tree of each member, beside the bytes of its name
+-- the node of each member, beside the bytes of its name
 abbrev pub named_trees : List Entry → List (List ℕ × Tree)
 named_trees es = map (λ e. (string_bytes e.0, tree_of_data (view e.1))) es
 
--- the items that the trees of values make are those of the data of the values
+-- the items made of the nodes of values are those of the data of the values
 pub items_of-trees : (vs : List Value) → items_of (trees vs) ≡ items_of_data (items_view vs)
 items_of-trees [] = refl
 items_of-trees (v ∷ vs) = ap (λ is. item (tree_of_data (view v)) is) (items_of-trees vs)
 
--- the members that these trees make are those of the data of the members
+-- the members made of these nodes are those of the data of the members
 pub members_of-named_trees : (es : List Entry) → members_of (named_trees es) ≡ members_of_data (members_view es)
 members_of-named_trees [] = refl
 members_of-named_trees (e ∷ es) =
@@ -104,30 +104,30 @@ grows : (b c d : Bool) → (c ≡ false → d ≡ false) → (b || c) ≡ false 
 grows true c d f e = e
 grows false c d f e = f e
 
--- values without floats, and one more without, have none together
+-- values without floats, with one more without floats, have none
 pub no_float-push : (vs : List Value) (v : Value) → items_have_float (items_view vs) ≡ false
     → has_float (view v) ≡ false → items_have_float (items_view (vs ++ v ∷ [])) ≡ false
 no_float-push [] v e f = ap (λ b. b || false) f
 no_float-push (w ∷ vs) v e f = grows (has_float (view w)) _ _ (λ s. no_float-push vs v s f) e
 
--- members without floats, and one more without, have none together
+-- members without floats, with one more without floats, have none
 pub no_float-member : (es : List Entry) (e : Entry) → members_have_float (members_view es) ≡ false
     → has_float (view e.1) ≡ false → members_have_float (members_view (es ++ e ∷ [])) ≡ false
 no_float-member [] e s f = ap (λ b. b || false) f
 no_float-member (x ∷ es) e s f = grows (has_float (view x.1)) _ _ (λ r. no_float-member es e r f) s
 
--- the trees of values and of one more are their trees, and its tree
+-- the nodes of values and of one more are the nodes of the values, followed by its node
 pub trees-push : (vs : List Value) (v : Value) → trees (vs ++ v ∷ []) ≡ trees vs ++ tree_of_data (view v) ∷ []
 trees-push [] v = refl
 trees-push (w ∷ vs) v = ap (λ ts. tree_of_data (view w) ∷ ts) (trees-push vs v)
 
--- the trees of members and of one more, beside their names, are theirs and then its own
+-- the nodes of members and of one more, beside their names, are those of the members, followed by its own
 pub named_trees-push : (es : List Entry) (e : Entry)
     → named_trees (es ++ e ∷ []) ≡ named_trees es ++ (string_bytes e.0, tree_of_data (view e.1)) ∷ []
 named_trees-push [] e = refl
 named_trees-push (x ∷ es) e = ap (λ ts. (string_bytes x.0, tree_of_data (view x.1)) ∷ ts) (named_trees-push es e)
 
--- a name that is above those before it is none of them
+-- a name in strictly sorted names is none of those before it
 pub absent_last : (done : List Entry) (e : Entry) (more : List Entry)
     → IsStrictlySortedBy string_cmp (keys_of (done ++ e ∷ more))
     → entries.get (string_bytes e.0) (named_trees done) ≡ None
@@ -142,7 +142,7 @@ absent_last (first ∷ done) e more h =
     ap (λ b. cond b (Some (tree_of_data (view first.1))) (entries.get (string_bytes e.0) (named_trees done)))
     apart ∙ absent_last done e more h.1
 
--- a number that is no integer stands at the root
+-- the fault of a number that is not an integer, at the root
 pub not_whole_here : (f : Fault) (n : Num) (d : Data) → f.place.items ≡ [] → f.cause ≡ NotWhole
     → d ≡ json.number n → None ≡ as_integer n → IsNotWhole d f
 not_whole_here f n d place cause is none =
@@ -153,7 +153,7 @@ not_whole_here f n d place cause is none =
       there = ap (λ steps. data_at (map step_of steps) d) place ∙ ap Some (is ∙ ap json.number x.1);
     }
 
--- the data of trees, as the items of an array, is the data of the list of these trees
+-- the data of nodes, as the items of an array, is the data of the list of these nodes
 pub items_data-items_of : (ts : List Tree) → view_items_of (map data_of ts) ≡ items_data (items_of ts)
 items_data-items_of [] = refl
 items_data-items_of (t ∷ ts) = ap (λ ds. json.item (data_of t) ds) (items_data-items_of ts)
@@ -167,7 +167,7 @@ members_data-push : (ms : List (List ℕ × Tree)) (name : List ℕ) (t : Tree) 
 members_data-push [] name t ds = refl
 members_data-push (m ∷ ms) name t ds = members_data-push ms name t (put m.0 (data_of m.1) ds)
 
--- one more is made of one more
+-- if two lists map to the same, and two elements do, so do the lists with the elements appended
 pub push_made : {A B C : Type 0} (f : A → C) (g : B → C) (xs : List A) (x : A) (ys : List B) (y : B)
     → map f xs ≡ map g ys → f x ≡ g y → map f (xs ++ x ∷ []) ≡ map g (ys ++ y ∷ [])
 push_made f g xs x ys y made here =

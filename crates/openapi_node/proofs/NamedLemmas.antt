@@ -1,4 +1,4 @@
--- A node whose children hold no name twice holds none twice.
+-- A node has no repeated names if the names of its members are distinct and its children have no repeated names.
 use Rattle.std.proofs.Common.{◌≡◌, ℕ, zero, suc, ◌+◌, ◌<◌, not, true, false, List, [], ◌∷◌, ◌++◌, length, take}
 use Rattle.std.proofs.Common.{slice_get, Some, refl, sym, ap, subst, ◌∙◌, arith}
 use Rattle.std.proofs.lemmas.Bool.{and_parts, and_from}
@@ -18,7 +18,7 @@ items_named-push (u ∷ ts) t h g =
     let p = and_parts (well_named u) (items_named (items_of ts)) h in
     and_from (well_named u) _ p.0 (items_named-push ts t p.1 g)
 
--- the first so many, and then one more
+-- if the first `i` items and the next one have no repeated names, the first `i + 1` items have none
 pub items_named-next : (ts : List Tree) (i : ℕ) (t : Tree) → slice_get ts i ≡ Some t
     → items_named (items_of (take i ts)) ≡ true → well_named t ≡ true
     → items_named (items_of (take (i + 1) ts)) ≡ true
@@ -28,7 +28,7 @@ items_named-next ts i t at h g =
     take_more ts i t within ∙ ap (λ x. take i ts ++ x ∷ []) (get_or_from_slice_get ts i t t at) in
     subst (λ us. items_named (items_of us) ≡ true) (sym more) (items_named-push (take i ts) t h g)
 
--- all of them, once so many are all
+-- all items have no repeated names, if the first `i` items have none and are all
 pub items_named-all : (ts : List Tree) (i : ℕ) → length ts < i + 1 → items_named (items_of (take i ts)) ≡ true
     → items_named (items_of ts) ≡ true
 items_named-all ts i past h = subst (λ us. items_named (items_of us) ≡ true) (take_all i ts (omega (arith, past))) h
@@ -38,7 +38,7 @@ lacks-apart : (k : List ℕ) (ms : Entries Tree) → AllByRecursion (λ l. bytes
 lacks-apart k [] h = refl
 lacks-apart k (m ∷ ms) h = and_from (not (bytes_eq k m.0)) _ (ap not h.0) (lacks-apart k ms h.1)
 
--- members of distinct names, each of which holds no name twice
+-- members with distinct names, whose values have no repeated names, have none
 pub members_named-from : (ms : Entries Tree) → HasDistinctNames ms → items_named (items_of (values_of ms)) ≡ true
     → members_named (members_of ms) ≡ true
 unfolding IsDistinct

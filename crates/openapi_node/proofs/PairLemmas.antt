@@ -1,4 +1,4 @@
--- A map that is made of all pairs at once holds what it holds when they are put in turn.
+-- A map that is made from all pairs together holds what it holds if they are inserted one after another.
 use Rattle.std.proofs.Common.{◌≡◌, ℕ, List, [], ◌∷◌, map, Option, Some, None, option_map, Bool, true, false, cond}
 use Rattle.std.proofs.Common.{Ordering, Less, Equal, Greater, nat_cmp, String, string_bytes, string_cmp, Global}
 use Rattle.std.proofs.Common.{BTreeMap, Result, IfOk, ◌⊎◌, inl, inr, refl, sym, ap, ◌∙◌, true≢false, bytes_eq}
@@ -71,7 +71,7 @@ module _ (k : List ℕ) where
   named-put_all (p ∷ ps) ds d found =
       elim (named-put_all ps (put (string_bytes p.0) (view p.1) ds) d found) [ inl n ↦ inl n | inr f ↦ named-put p ds d f ]
 
--- what a map answers at its keys is what is found among the members
+-- what a map returns for its keys is what is found among the members
 abbrev Finds : (String Global → Option Value) → Members → Type 0
 Finds f ds = (q : String Global) → option_map view (f q) ≡ get_member (string_bytes q) ds
 
@@ -96,7 +96,7 @@ finds-all f ds [] same = same
 finds-all f ds (p ∷ ps) same = finds-all (update (eq_by_cmp string_cmp) f p.0 (Some p.1))
     (put (string_bytes p.0) (view p.1) ds) ps (finds-put f ds p same)
 
--- a map that `from_iter` made of pairs holds them as if they were put in turn
+-- a map that `from_iter` made from pairs holds them as if they were put one after another
 pub made_of_pairs : (ps : List Entry) (m : BTreeMap (String Global) Value) → IsFromIterResult string_cmp ps m
     → members_view m.entries ≡ put_all no_members (map pair_view ps)
 made_of_pairs ps m made =
@@ -117,7 +117,7 @@ made_of_pairs ps m made =
     let p = InOrder-put_all (map pair_view ps) no_members tt in
     (fits es ds o p within).same (fits ds es p o covers).fewer
 
--- and so it holds the members that the pairs were made of
+-- so it holds the members that the pairs were made of
 pub members_of_pairs : {E : Type 0} (r : Result (BTreeMap (String Global) Value) E) (ps : List Entry)
     (ms : List (List ℕ × Tree)) → map pair_view ps ≡ map pair_data ms
     → IfOk r (λ m. members_view m.entries ≡ put_all no_members (map pair_view ps))

@@ -1,4 +1,4 @@
--- A tree's data has no float, so the test of data holds exactly where two trees have the same data.
+-- The data of a node has no float, so `data_eq` is true exactly if two nodes have the same data.
 use Rattle.std.proofs.Common.{◌≡◌, ◌↔◌, IsTrue, Bool, true, false, ◌&&◌, refl, sym, ap, subst, ◌∙◌, true≢false}
 use Rattle.std.proofs.lemmas.Bool.Decides.{Decides-eqb, Decides-int_eq}
 use Rattle.std.proofs.lemmas.Slice.Eq.{bytes_eq-Decides}
@@ -39,7 +39,7 @@ mutual
       (both (data_eq d d) _ (itself d (first_of_none (has_float d) _ h))
       (members_itself ms (rest_of_none (has_float d) _ h)))
 
--- an answer that is true exactly where the data is the same is what the test answers
+-- a `bool` that is true exactly if the data is the same is what `same_value` returns
 pub told : (b : Bool) (t u : Tree) → IsTrue b ↔ (data_of t ≡ data_of u) → b ≡ same_value t u
 told b t u decides =
     both_ways b (data_eq (data_of t) (data_of u))

@@ -23,18 +23,18 @@ members_size-append : (ms ns : List (List ℕ × Tree))
 members_size-append [] ns = omega arith
 members_size-append (m ∷ ms) ns = omega (arith, members_size-append ms ns)
 
--- a list is what stands before an index, what stands there, and the rest
+-- a list is the elements before an index, the element at the index, and the rest
 split_at : {X : Type 0} (xs : List X) (i : ℕ) (x : X) → take (i + 1) xs ≡ take i xs ++ x ∷ []
     → xs ≡ take i xs ++ x ∷ drop (i + 1) xs
 split_at xs i x next = sym (take-append-drop (i + 1) xs) ∙ ap (λ ys. ys ++ drop (i + 1) xs) next
     ∙ append_assoc (take i xs) (x ∷ []) (drop (i + 1) xs)
 
--- the item at an index adds its size, within that of the list
+-- the item at an index adds its size to that of those before it, and the sum is at most the size of all items
 pub record NextItem (ts : List Tree) (i : ℕ) (t : Tree) : Type 0 where
   pub adds : items_size (items_of (take (i + 1) ts)) ≡ items_size (items_of (take i ts)) + size_of t
   pub within : items_size (items_of (take i ts)) + size_of t ≤ items_size (items_of ts)
 
--- this holds of the item at each index within the list
+-- this holds for the item at each index within the list
 pub next_item : (ts : List Tree) (i : ℕ) (t : Tree) → i < length ts → t ≡ get_or ts i t → NextItem ts i t
 next_item ts i t h e =
     let next : take (i + 1) ts ≡ take i ts ++ t ∷ [] =
@@ -50,7 +50,7 @@ pub record NextMember (ms : List (List ℕ × Tree)) (i : ℕ) (t : Tree) : Type
   pub adds : members_size (members_of (take (i + 1) ms)) ≡ members_size (members_of (take i ms)) + size_of t
   pub within : members_size (members_of (take i ms)) + size_of t ≤ members_size (members_of ms)
 
--- the member at an index adds its size to that of those before it, within that of the object
+-- the member at an index adds its size to that of those before it, and the sum is at most the size of all members
 pub next_member : (ms : List (List ℕ × Tree)) (i : ℕ) (m : List ℕ × Tree) → slice_get ms i ≡ Some m
     → NextMember ms i m.1
 next_member ms i m at =
@@ -63,7 +63,7 @@ next_member ms i m at =
     ∙ members_size-append (take i ms) (m ∷ drop (i + 1) ms) in
     record { adds = ap (λ ns. members_size (members_of ns)) next ∙ longer; within = omega (arith, whole) }
 
--- the members as far as an index hold no more values than all members
+-- the members before an index have no more values than all members
 pub members_size-take : (ms : List (List ℕ × Tree)) (i : ℕ)
     → members_size (members_of (take i ms)) ≤ members_size (members_of ms)
 members_size-take ms i =
@@ -76,7 +76,7 @@ members_size-take ms i =
 find_cond : (b : Bool) (t : Tree) (r s : Option Tree) → r ≡ s → cond b (Some t) r ≡ cond b (Some t) s
 find_cond b t r s e = ap (λ x. cond b (Some t) x) e
 
--- the value of a name among entries is the member of that name in the object that they make
+-- the value of a name among entries is the member of that name in the object made of them
 pub get-find : (name : List ℕ) (ms : List (List ℕ × Tree)) → get name ms ≡ find name (members_of ms)
 get-find name [] = refl
 get-find name (m ∷ ms) = find_cond (bytes_eq name m.0) m.1 _ _ (get-find name ms)

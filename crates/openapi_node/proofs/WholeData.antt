@@ -1,4 +1,4 @@
--- The data of a tree has no float.
+-- The data of a node has no float.
 use Rattle.std.proofs.Common.{◌≡◌, ℕ, List, Bool, true, false, ◌||◌, Ordering, Less, Equal, Greater, pos, negsuc}
 use Rattle.std.proofs.Common.{nat_cmp, refl, true≢false}
 use Rattle.std.specs.Cmp.Lexicographic.{slice_cmp}
@@ -14,12 +14,12 @@ both : (b c : Bool) → b ≡ false → c ≡ false → (b || c) ≡ false
 both true c e f = e
 both false c e f = f
 
--- of two flags of which none is set, the first is not
+-- if neither of two flags is set, the first is not
 pub first_of_none : (b c : Bool) → (b || c) ≡ false → b ≡ false
 first_of_none true c e = e
 first_of_none false c e = refl
 
--- of two flags of which none is set, the second is not
+-- if neither of two flags is set, the second is not
 pub rest_of_none : (b c : Bool) → (b || c) ≡ false → c ≡ false
 rest_of_none true c e = absurd (true≢false e)
 rest_of_none false c e = e
@@ -40,7 +40,7 @@ no_float-put k d (json.member l c ms) e f =
     (both (has_float c) _ here (no_float-put k d ms e rest))
 
 mutual
-  -- no number in the data of a tree is a float
+  -- no number in the data of a node is a float
   pub no_float-data_of : (t : Tree) → has_float (data_of t) ≡ false
   no_float-data_of null = refl
   no_float-data_of (flag b) = refl

@@ -1,4 +1,4 @@
--- When two trees are the same JSON value: the order of an object's members does not count.
+-- When two nodes are the same JSON value, whatever the order of the members of their objects.
 use Rattle.std.specs.Prelude.{◌≡◌, Bool, true, false, not, ◌&&◌, ◌==◌, if◌then◌else◌}
 use Rattle.std.specs.Cmp.{IsPartialEquivalence, both_ways, on_per, first_so, second_so}
 use Rattle.std.specs.Ordering.{int_eq, on}
@@ -11,7 +11,7 @@ use Rattle.serde_json.specs.Data.{Data, Num, unsigned, negative, float}
 use Rattle.openapi_node.specs.Json.{data_of}
 use Rattle.openapi_node.specs.Tree.{Tree}
 
--- whether two numbers are the same whole number: no tree has a float
+-- whether two numbers are the same whole number; a float is equal to no number, as no node has a float
 abbrev number_eq : Num → Num → Bool
 number_eq (unsigned m) (unsigned n) = m == n
 number_eq (negative y) (negative z) = int_eq y z
@@ -38,12 +38,13 @@ abbrev mutual
   members_eq (json.member k d ms) (json.member l e ns) = bytes_eq k l && (data_eq d e && members_eq ms ns)
   members_eq ms ns = false
 
--- Whether two trees have the same data. Nothing outside this module may unfold it, so no reader above learns by equality what
--- a node holds: only a look that is counted tells that.
+-- Whether two nodes have the same data. Nothing outside this module may unfold it, so no reader in a crate above can learn
+-- what a node holds by comparing nodes. Only a counted node access shows that.
 pub same_value : Tree → Tree → Bool
 same_value = on data_of data_eq
 
--- What it answers, for the proof of this crate alone: the gate refuses a crate above that names this module.
+-- What `same_value` returns, for the proof of this crate alone. The check `tests/hidden.py` rejects a crate above that names
+-- this module.
 pub same_value-answers : (t u : Tree) → same_value t u ≡ data_eq (data_of t) (data_of u)
 unfolding same_value
 same_value-answers t u = refl
@@ -83,7 +84,7 @@ mutual
       (same_members ms ns (second_so (data_eq d e) _ rest) i)
   same_members ms ns h = cc
 
--- so the test doesn't mind which comes first
+-- so the test is symmetric
 turned : (d e : Data) → data_eq d e ≡ true → data_eq e d ≡ true
 turned d e h = let same = same_data d e h in
     subst (λ x. data_eq x d ≡ true) same (subst (λ x. data_eq d x ≡ true) (sym same) h)
@@ -94,7 +95,7 @@ data_eq-per = record {
   trans = λ d e f h k. subst (λ x. data_eq x f ≡ true) (sym (same_data d e h)) k;
 }
 
--- the law of equality
+-- the law of equality: `same_value` is symmetric and transitive
 pub same_value-per : IsPartialEquivalence same_value
 unfolding same_value
 same_value-per = on_per data_of data_eq-per

@@ -1,4 +1,4 @@
--- A node's children are smaller than the node.
+-- The children of a node are smaller than the node.
 use Rattle.std.specs.Prelude.{ℕ, ◌+◌, ◌≤◌, List, [], ◌∷◌}
 use Rattle.std.specs.Map.{values_of}
 use Rattle.std.proofs.Common.{arith}
@@ -9,12 +9,12 @@ use Rattle.openapi_node.specs.declared.node.Shape.{Shape}
 use Rattle.openapi_node.specs.declared.node.Shape.TheVariants as v
 use Rattle.openapi_node.specs.declared.node.Node.TheDeep.{deep-Shape}
 
--- no item is larger than all of them together
+-- no item has more values than all items together
 most_items : (ts : List Tree) → most (λ t. size_of t + 1) ts ≤ items_size (items_of ts) + 1
 most_items [] = omega arith
 most_items (t ∷ ts) = omega (arith, most_items ts)
 
--- nor is a member
+-- no member has more values than all members together
 most_members : (ms : List (List ℕ × Tree))
     → most (λ t. size_of t + 1) (values_of ms) ≤ members_size (members_of ms) + 1
 most_members [] = omega arith

@@ -1,4 +1,4 @@
--- Trees beside the data that `serde_json` reads and writes.
+-- Nodes and the data that `serde_json` reads and writes.
 use Rattle.std.specs.Prelude.{◌≡◌, [], ◌∷◌, Option, Some, option_and_then, false, Float}
 use Rattle.serde_json.specs.Data as json
 use Rattle.serde_json.specs.Data.{Data, Num, unsigned, negative, float, put}
@@ -12,13 +12,13 @@ use Rattle.openapi_node.specs.Tree.{no_members, member}
 use Rattle.openapi_node.specs.declared.fault.Cause.TheVariants.{NotWhole}
 use Rattle.openapi_node.specs.declared.fault.Fault.{Fault}
 
--- the tree of a number, where it is whole
+-- the node of a number that is whole. For a float, which no node holds, it is null
 abbrev pub number_tree : Num → Tree
 number_tree (unsigned n) = whole (pos n)
 number_tree (negative z) = whole z
 number_tree (float x) = null
 
--- the tree of data with no float: the members stay in their order
+-- the node of data without floats: the members stay in their order
 abbrev mutual
   pub tree_of_data : Data → Tree
   tree_of_data json.null = null
@@ -36,7 +36,7 @@ abbrev mutual
   members_of_data json.no_members = no_members
   members_of_data (json.member k d ms) = member k (tree_of_data d) (members_of_data ms)
 
--- the data of a tree: the members go by name, and of one name the last counts
+-- the data of a node: the members are sorted by name, and the last value of a repeated name is used
 abbrev mutual
   pub data_of : Tree → Data
   data_of null = json.null
@@ -54,18 +54,18 @@ abbrev mutual
   members_data no_members ds = ds
   members_data (member k t ms) ds = members_data ms (put k (data_of t) ds)
 
--- the tree holds what the data holds, and each number of the data is whole
+-- the node holds what the data holds, and no number of the data is a float
 pub record IsTreeOf (d : Data) (t : Tree) : Type 0 where
   pub whole_numbers : has_float d ≡ false
   pub same : t ≡ tree_of_data d
 
--- what stands at a place
+-- the value at a location of data, if there is one
 abbrev pub data_at : Place → Data → Option Data
 data_at [] d = Some d
 data_at (named k ∷ p) d = option_and_then (data_at p) (get k d)
 data_at (indexed i ∷ p) d = option_and_then (data_at p) (at i d)
 
--- the refusal names the place of a number that is no integer of 64 bits
+-- the fault has the cause `NotWhole`, at the location of a number that is a float, and so is read as no integer of 64 bits
 pub record IsNotWhole (d : Data) (f : Fault) : Type 0 where
   pub cause : f.cause ≡ NotWhole
   pub number : Float

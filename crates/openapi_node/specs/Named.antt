@@ -1,15 +1,15 @@
--- Trees whose objects hold no name twice.
+-- Nodes whose objects have no name twice.
 use Rattle.std.specs.Prelude.{ℕ, Bool, true, not, ◌&&◌, List}
 use Rattle.std.specs.Str.{bytes_eq}
 use Rattle.openapi_node.specs.Tree.{Tree, list, object, Items, no_items, item, Members}
 use Rattle.openapi_node.specs.Tree.{no_members, member}
 
--- whether no member has a name
+-- whether no member has the name
 abbrev pub lacks : List ℕ → Members → Bool
 lacks name no_members = true
 lacks name (member k t ms) = not (bytes_eq name k) && lacks name ms
 
--- whether each object of a tree, at every depth, has members of distinct names
+-- whether each object of a node, at every depth, has members of distinct names
 abbrev mutual
   pub well_named : Tree → Bool
   well_named (list ts) = items_named ts

@@ -1,10 +1,10 @@
--- The tree of one level, whose children are seen as their trees.
+-- The JSON value of a node's `Shape`, whose children are already seen as JSON values.
 use Rattle.std.specs.Prelude.{string_bytes}
 use Rattle.openapi_node.specs.Tree.{Tree, null, flag, whole, text, list, object, items_of, members_of}
 use Rattle.openapi_node.specs.declared.node.Shape.{Shape}
 use Rattle.openapi_node.specs.declared.node.Shape.TheVariants as v
 
--- the tree of what a node holds
+-- the JSON value that a node of this shape is
 abbrev pub tree_of : Shape → Tree
 tree_of v.Null = null
 tree_of (v.Flag b) = flag b

@@ -1,11 +1,11 @@
--- What a node is: JSON without fractions, with the order of the members.
+-- What a node is: a JSON value whose numbers are whole, with an order of the members of each object.
 use Rattle.std.specs.Prelude.{◌≡◌, ℕ, suc, ◌+◌, Bool, ℤ, List, [], ◌∷◌, Option, Some, None, if◌then◌else◌}
 use Rattle.std.specs.Coded.{Coded, coded_bool, coded_ℤ, coded_ℕ, coded_list}
 use Rattle.std.proofs.Common.{refl, ap}
 use Rattle.std.specs.Str.{bytes_eq}
 use base.Stored.{Gv, gnil, gnum, gcons}
 
--- a value, the items of a list, and the members of an object, each with its name by its bytes
+-- a JSON value, the items of a list, and the members of an object, each with its name as bytes
 mutual
   pub data Tree : Type 0 where
     null : Tree
@@ -23,22 +23,22 @@ mutual
     no_members : Members
     member : List ℕ → Tree → Members → Members
 
--- these trees as the items of a list
+-- these nodes as the items of a list
 abbrev pub items_of : List Tree → Items
 items_of [] = no_items
 items_of (t ∷ ts) = item t (items_of ts)
 
--- these trees, each beside its name, as the members of an object
+-- these nodes, each beside its name, as the members of an object
 abbrev pub members_of : List (List ℕ × Tree) → Members
 members_of [] = no_members
 members_of (m ∷ ms) = member m.0 m.1 (members_of ms)
 
--- the member at a name, the first where a name is repeated
+-- the member of a name, the first one if the name is repeated
 abbrev pub find : List ℕ → Members → Option Tree
 find name no_members = None
 find name (member k t ms) = if bytes_eq name k then Some t else find name ms
 
--- what a tree holds, where it is of that sort
+-- what a node holds, if it is of the variant: a flag, a whole number, a string, a list or an object
 abbrev pub flag_in : Tree → Option Bool
 flag_in (flag b) = Some b
 flag_in _ = None
@@ -59,7 +59,7 @@ abbrev pub members_in : Tree → Option Members
 members_in (object ms) = Some ms
 members_in _ = None
 
--- the number of values in a tree, itself counted
+-- the number of values in a node, itself included
 abbrev mutual
   pub size_of : Tree → ℕ
   size_of null = 1
@@ -77,7 +77,7 @@ abbrev mutual
   members_size no_members = 0
   members_size (member k t ms) = size_of t + members_size ms
 
--- how the logic stores a tree
+-- how the logic stores a node
 abbrev mutual
   pub tree_stored : Tree → Gv
   tree_stored null = gnil
@@ -95,7 +95,7 @@ abbrev mutual
   members_stored no_members = gnil
   members_stored (member k t ms) = gcons ((coded_list coded_ℕ).code k) (gcons (tree_stored t) (members_stored ms))
 
--- the two parts of what is stored
+-- the first and the second part of a stored pair, or `gnil` if it is no pair
 abbrev first : Gv → Gv
 first (gcons a b) = a
 first gnil = gnil
@@ -106,7 +106,7 @@ second (gcons a b) = b
 second gnil = gnil
 second (gnum n) = gnil
 
--- no two trees are stored alike
+-- different nodes are stored differently
 mutual
   pub tree_inj : (t u : Tree) → tree_stored t ≡ tree_stored u → t ≡ u
   tree_inj null null p = refl
@@ -129,6 +129,6 @@ mutual
       (members_inj ms ns (ap (λ g. second (second g)) p) i)
   members_inj ms ns p = cc
 
--- trees as values that the logic can store
+-- nodes as values that the logic can store
 abbrev pub tree_code : Coded Tree
 tree_code = record { code = tree_stored; inj = tree_inj }

@@ -1,9 +1,9 @@
--- The tree that a look shows.
+-- The node that a `View` shows.
 use Rattle.openapi_node.specs.Tree.{Tree, null, flag, whole, text, list, object, items_of, members_of}
 use Rattle.openapi_node.specs.declared.node.View.{View}
 use Rattle.openapi_node.specs.declared.node.View.TheVariants as v
 
--- the tree of the node that was looked into
+-- the node that was opened
 abbrev pub shown : View → Tree
 shown v.Null = null
 shown (v.Flag b) = flag b

@@ -1,4 +1,4 @@
--- The normalized text of an object, and why there is none.
+-- The normalized text of an object, and the failures for which there is none.
 use Rattle.std.specs.Prelude.{◌≡◌, ◌≢◌, ℕ, ◌==◌, Bool, cond, true, false, List, [], ◌∷◌, ◌++◌, length, Option, Some, None, Result, Ok, Err, codes}
 use Rattle.json.specs.Layout.{pretty}
 use Rattle.serde_json.specs.Data.{Data}
@@ -27,22 +27,22 @@ kind_of Document = by open_api
 kind_of Schema = a_schema
 kind_of Tag = by tag
 
--- its word
+-- the word for an object
 abbrev pub word_of : Object → List ℕ
 word_of Document = codes "document"
 word_of Schema = codes "schema"
 word_of Tag = codes "tag"
 
--- it has that word, or none has it
+-- the object has that word, or no object has it
 abbrev pub IsObjectOf : List ℕ → Result Object (Unit {0}) → Type 0
 IsObjectOf word (Ok o) = word ≡ word_of o
 IsObjectOf word (Err e) = (o : Object) → word ≢ word_of o
 
--- the value that is printed for a value
+-- the value that is written for a value: in stable form if `settle` of the task is true, and otherwise normalized
 abbrev pub normal : Task → Tree → Tree
 normal task t = cond task.settle (settled (kind_of task.object) t) (clean final_tables (kind_of task.object) t)
 
--- its data, with the members of each object by name or as they are
+-- the data of a value, with the members of each object by name if `sort` is true, and otherwise in their order
 abbrev pub data_as : Bool → Tree → Data
 data_as sort t = cond sort (data_of t) (data_in_order t)
 
@@ -54,11 +54,12 @@ abbrev pub laid_out : Option ℕ → Data → List ℕ
 laid_out None d = compact_text d
 laid_out (Some n) d = pretty_text n d
 
--- the text of a value, and the end of its last line
+-- the text of a value, with the line feed at the end
 abbrev pub text_for : Task → Tree → List ℕ
 text_for task t = laid_out task.indent (data_as task.sort t) ++ 10 ∷ []
 
--- the bytes are the JSON text of an object; this text is what is printed for it, and so many of its members are not
+-- the bytes are the JSON text of an object that conforms; `text` is what is written for it, and `dropped` is the number of
+-- members that reading it drops
 pub record IsNormalized (task : Task) (bytes text : List ℕ) (dropped : ℕ) : Type 0 where
   pub tree : Tree
   pub reads : IsTreeInOrder bytes tree
@@ -80,7 +81,7 @@ is_write (Write e) = true
 is_write Memory = false
 is_write (Refused bytes r) = false
 
--- P holds of the bytes and the refusal, if the failure is one
+-- `P` holds for the bytes and the `Refusal`, if the failure is `Refused`
 abbrev pub IfRefused : Failure → (List ℕ → Refusal → Type 0) → Type 0
 IfRefused (Read e) P = Unit {0}
 IfRefused (Write e) P = Unit {0}

@@ -1,4 +1,4 @@
--- The rows that parameters of all places have, at the head of the table of each place.
+-- The rows that all parameters have, at the head of the table for each value of `in`.
 use Rattle.std.proofs.Common.{◌≡◌, ℕ, ◌*◌, List, [], ◌∷◌, drop, Err, refl, sym, ap, ◌∙◌, subst, inl, inr}
 use Rattle.openapi_node.specs.Place.{Place}
 use Rattle.openapi_node.specs.Tree.{object, Members}
@@ -18,7 +18,7 @@ use Rattle.openapi_fields.proofs.JoinedRows.{asks_join, rows_join}
 use Rattle.openapi_parameters.specs.Parameters.{parameter_data_rows, parameter_rows, parameter_word}
 use Rattle.openapi_parameters.specs.declared.parameter_data.ParameterData.{ParameterData}
 
--- what rows miss they miss one after another
+-- what a function gives for two lists of rows, joined, is what it gives for each of them, joined
 flat_join : {A : Type 0} (f : Row → List A) (ws vs : List Row)
     → flat (each f (join ws vs)) ≡ join (flat (each f ws)) (flat (each f vs))
 flat_join f [] vs = refl
@@ -66,14 +66,14 @@ module _ (i j : TableName) (ws : List Row) (begins : final_tables i ≡ join (fi
             breaks = b.breaks;
           }
 
-  -- what its head refuses it refuses
+  -- an error of reading an object by its head is an error of reading it by the whole table
   head_fails : (f : Fault) → Fails f (by j) (object ms) → Fails f (by i) (object ms)
   head_fails f h = fails_moved f (by j) (by i) (object ms) (object ms) broken_more h
 
--- the table of a place
+-- the table for a value of `in`
 module _ (i : TableName) (begins : final_tables i ≡ join (final_tables parameter_data) (drop 9 (final_tables i)))
     (ms : Members) where
-  -- a refusal by the rows that parameters of all places have is one by the whole table
+  -- an error of reading the rows that all parameters have is an error of reading the whole table
   pub data_refused : (f : Fault) {tag : List ℕ} {old new : ℕ} → Fails f (by parameter_data) (object ms)
       → RisesBy old new (3 * rows_weight (final_tables i) ms)
       → IsCaseRead parameter_word parameter_rows (Err f) tag i ms old new
@@ -81,7 +81,7 @@ module _ (i : TableName) (begins : final_tables i ≡ join (final_tables paramet
       let refused = head_fails i parameter_data (drop 9 (final_tables i)) begins ms f h in
       record { reads = refused; word = tt; count = rises }
 
-  -- what those rows read, and what the other rows read behind it, is what the whole table reads
+  -- what is read for those rows, followed by what is read for the others, is what is read for the whole table
   pub data_reads : (d : ParameterData) (fs : List Form)
       → AreRows final_tables (final_tables parameter_data) (parameter_data_rows d) ms
       → AreRows final_tables (drop 9 (final_tables i)) fs ms

@@ -1,4 +1,4 @@
--- The slots that parameters of all places have, at the head of those of each place.
+-- The slots that all parameters have, at the head of those for each value of `in`.
 use Rattle.std.proofs.Common.{◌≡◌, true, List, [], ◌∷◌, ◌++◌, Result, Ok, Err, OnOk, drop, refl, sym, subst, codes}
 use Rattle.openapi_map.specs.Entries.{Entries}
 use Rattle.openapi_node.specs.Place.{Place}
@@ -17,7 +17,7 @@ use Rattle.openapi_parameters.specs.declared.parameter.Parameter.{Parameter}
 use Rattle.openapi_parameters.specs.declared.parameter_data.ParameterData.{ParameterData}
 use Rattle.openapi_parameters.specs.declared.parameter.Parameter.TheVariants as parameters
 
--- the slots of its place are behind those
+-- the slots for its value of `in` are after those
 behind : (x : Parameter) → parameter_slots x ≡ join (shared_slots x) (drop 10 (parameter_slots x))
 unfolding final_tables tables_with
 behind (parameters.Query d r s e) = refl
@@ -36,16 +36,16 @@ module _ (x : Parameter) where
       slots_apart-rows (constant (codes "in") (parameter_word x) ∷ final_tables parameter_data)
       (absent ∷ parameter_data_rows (data_of_parameter x)) refl
 
-  -- the members of what parameters of all places have, behind the place
+  -- the members of the fields that all parameters have, after the member `in`
   module _ (out more : Entries Tree)
       (done : IsWritten final_tables (through (is_named (codes "in")) (parameter_slots x)) out)
       (rows : IsWritten final_tables (record_slots parameter_data parameter_data_rows (data_of_parameter x)) more)
     where
-      -- none of their names is there yet
+      -- none of their names is present yet
       pub data_new : AreNew more out
       data_new = new_behind its_place its_data out more shared_apart done rows
 
-      -- where they are put last, the place and the slots that all parameters have are written
+      -- if they are appended, `in` and the slots that all parameters have are written
       pub data_put : {A : Type 0} (r : Result A Fault) (new : Entries Tree) → OnOk r (new ≡ out ++ more)
           → OnOk r (IsWritten final_tables (shared_slots x) new)
       data_put (Ok u) new e =
@@ -53,13 +53,13 @@ module _ (x : Parameter) where
           (written_behind its_place its_data out more done rows)
       data_put (Err f) new e = tt
 
-  -- what was written of what it has as those of all places have it
+  -- what was written for a `ParameterData` that equals that of the parameter was written for that of the parameter
   pub of_data : (d : ParameterData) → d ≡ data_of_parameter x → (r : Result (Entries Tree) Fault)
       → RowsWritten (record_slots parameter_data parameter_data_rows d) r
       → RowsWritten (record_slots parameter_data parameter_data_rows (data_of_parameter x)) r
   of_data d is r h = subst (λ e. RowsWritten (record_slots parameter_data parameter_data_rows e) r) is h
 
-  -- what those lose the parameter loses
+  -- an error of writing those slots is an error of writing the parameter
   pub data_loses : (f : Fault)
       → NotWritable f (slots_lost final_tables (record_slots parameter_data parameter_data_rows (data_of_parameter x)))
       → NotWritable f (slots_lost final_tables (parameter_slots x))

@@ -1,4 +1,4 @@
--- What the tokens of a pointer are, and the names that they write.
+-- The tokens of a pointer, and the names that they represent.
 use Rattle.std.proofs.Common.{◌≡◌, ◌≢◌, ◌<◌, ◌+◌, ℕ, suc, Bool, true, false, cond, not, ◌==◌, List, [], ◌∷◌, ◌++◌}
 use Rattle.std.proofs.Common.{Option, Some, None, length, drop, take, append_assoc}
 use Rattle.std.proofs.Common.{arith, refl, sym, ap, ◌∙◌, length-drop}
@@ -9,7 +9,7 @@ use Rattle.openapi_pointer.specs.Tokens.{before_name, name_after, slash, tilde}
 abbrev pub is_slash : ℕ → Bool
 is_slash b = b == slash
 
--- no byte passes a test if the first that does comes behind all
+-- a text in which no byte passes a test is its own only part
 pub none_passes : (p : ℕ → Bool) (bs : List ℕ) → position_or_len p bs ≡ length bs → slice_split p bs ≡ bs ∷ []
 none_passes p [] e = refl
 none_passes p (b ∷ bs) e = by (p b) refl (none_passes p bs)
@@ -20,7 +20,7 @@ none_passes p (b ∷ bs) e = by (p b) refl (none_passes p bs)
         let rest : position_or_len p bs ≡ length bs = omega (arith, ap (λ c. cond (not c) (1 + position_or_len p bs) 0) (sym is) ∙ e) in
         ap (λ c. cond c ([] ∷ slice_split p bs) (onto_first b (slice_split p bs))) is ∙ ap (onto_first b) (more rest)
 
--- what follows such a byte is shorter
+-- the bytes after the first one that passes a test are fewer than all bytes
 pub shorter_after : (p : ℕ → Bool) (left after : List ℕ) → after ≡ after_first p left → position_or_len p left < length left
     → length after < length left
 shorter_after p left after e lt = omega (arith, ap length e, length-drop (position_or_len p left + 1) left, lt)
@@ -44,7 +44,7 @@ take_next n b bs = let e : suc n ≡ 1 + n = omega arith in ap (λ k. take k (b 
 drop_next : (n b : ℕ) (bs : List ℕ) → drop (n + 1) bs ≡ drop (1 + n + 1) (b ∷ bs)
 drop_next n b bs = let e : suc (n + 1) ≡ 1 + n + 1 = omega arith in ap (λ k. drop k (b ∷ bs)) e
 
--- what is before the first `~` is a part of the name
+-- the bytes before the first `~` are the beginning of the name
 name_to_tilde : (bs : List ℕ) → position_or_len is_tilde bs < length bs
     → name_after false bs ≡ before_name (before_first is_tilde bs) (name_after true (after_first is_tilde bs))
 name_to_tilde [] lt = absurd (omega (arith, lt))
@@ -68,7 +68,7 @@ name_to_tilde (b ∷ bs) lt = by (is_tilde b) refl (name_to_tilde bs)
         ∙ (λ i. before_name (take_next (position_or_len is_tilde bs) b bs i) (name_after true (drop_next (position_or_len is_tilde bs) b bs i)))
         ∙ ap (λ c. before_name (take (len c) (b ∷ bs)) (name_after true (drop (len c + 1) (b ∷ bs)))) (sym is)
 
--- without one, the text is the name
+-- without a `~`, the text is the name
 name_without : (bs : List ℕ) → position_or_len is_tilde bs ≡ length bs → name_after false bs ≡ Some bs
 name_without [] e = refl
 name_without (b ∷ bs) e = by (is_tilde b) refl (name_without bs)
@@ -83,11 +83,11 @@ name_without (b ∷ bs) e = by (is_tilde b) refl (name_without bs)
         ap (λ c. cond c (name_after true bs) (before_name (b ∷ []) (name_after false bs))) is
         ∙ ap (before_name (b ∷ [])) (more (omega (arith, ap len (sym is) ∙ e)))
 
--- before any part of it, a name is that of the whole token
+-- while nothing of the name is read, it is that of the whole token
 pub name_begins : (all name : List ℕ) → name ≡ [] → name_after false all ≡ before_name name (name_after false all)
 name_begins all name e = sym (before_none (name_after false all)) ∙ ap (λ n. before_name n (name_after false all)) (sym e)
 
--- a name with the part up to a `~` and the character that this one writes
+-- the name with the bytes before the next `~` and the character that this escape represents
 pub name_next : (all name before after new more : List ℕ) (c : List ℕ) (left rest : List ℕ) → before ≡ before_first is_tilde left
     → after ≡ after_first is_tilde left → position_or_len is_tilde left < length left
     → name_after true after ≡ before_name c (name_after false rest) → new ≡ name ++ before → more ≡ new ++ c
@@ -98,19 +98,19 @@ name_next all name before after new more c left rest a b lt w n m h =
     ∙ before_before name before (before_name c o) ∙ before_before (name ++ before) c o
     ∙ ap (λ l. before_name l o) (ap (λ l. l ++ c) (sym n) ∙ sym m)
 
--- a `~` that writes none
+-- a `~` that begins no escape: there is no name
 pub name_fails : (all name after left : List ℕ) → after ≡ after_first is_tilde left → position_or_len is_tilde left < length left
     → name_after true after ≡ None → name_after false all ≡ before_name name (name_after false left) → None ≡ name_after false all
 name_fails all name after left b lt w h =
     sym (h ∙ ap (before_name name) (name_to_tilde left lt ∙ ap (λ l. before_name (before_first is_tilde left) (name_after true l)) (sym b)
     ∙ ap (before_name (before_first is_tilde left)) w))
 
--- the rest of a name
+-- without a further `~`, the rest is the end of the name
 pub name_ends : (all name left new : List ℕ) → position_or_len is_tilde left ≡ length left → new ≡ name ++ left
     → name_after false all ≡ before_name name (name_after false left) → Some new ≡ name_after false all
 name_ends all name left new e n h = ap Some n ∙ sym (h ∙ ap (before_name name) (name_without left e))
 
--- a text that begins with neither digit of an escape
+-- after a `~`, a text that begins with neither `0` nor `1` gives no name
 pub escapes_none : (s : List ℕ) → ((rest : List ℕ) → s ≢ 48 ∷ rest) → ((rest : List ℕ) → s ≢ 49 ∷ rest) → name_after true s ≡ None
 escapes_none [] not_0 not_1 = refl
 escapes_none (b ∷ bs) not_0 not_1 = by (b == 48) (b == 49) refl refl

@@ -13,15 +13,15 @@ token_below section (c ∷ s ∷ []) = None
 token_below section (c ∷ s ∷ token ∷ []) = cond (bytes_eq c (codes "components") && bytes_eq s section) (Some token) None
 token_below section (c ∷ s ∷ token ∷ more ∷ tokens) = None
 
--- the name that this token writes, of a pointer behind its first `/`
+-- the name that this token represents, in a pointer that is given without its first `/`
 abbrev pub name_below : List ℕ → List ℕ → Option (List ℕ)
 name_below section pointer = option_and_then name_in (token_below section (tokens_in pointer))
 
--- the same of the fragment of a URI behind `#/`: a pointer in UTF-8, with escapes
+-- the same for the fragment of a URI after `#/`: a pointer in UTF-8, with percent-encoding
 abbrev pub name_in_fragment : List ℕ → List ℕ → Option (List ℕ)
 name_in_fragment section fragment =
     cond (is_utf8 (percent_decode fragment)) (name_below section (percent_decode fragment)) None
 
--- the name of the component to which a reference leads in a section
+-- the name of the component to which a reference leads in a section, if the reference is `#/components/SECTION/NAME`
 abbrev pub component_name : List ℕ → List ℕ → Option (List ℕ)
 component_name section reference = cond (begins (codes "#/") reference) (name_in_fragment section (drop 2 reference)) None

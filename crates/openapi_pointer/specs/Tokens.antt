@@ -1,4 +1,4 @@
--- Reference tokens (RFC 6901): the parts of a JSON Pointer, and the name that each writes.
+-- Reference tokens (RFC 6901): the parts of a JSON Pointer, and the name that each represents.
 use Rattle.std.specs.Prelude.{ℕ, Bool, true, false, cond, ◌==◌, List, [], ◌∷◌, ◌++◌, Option, Some, None, option_map}
 use Rattle.std.specs.List.{slice_split}
 
@@ -15,16 +15,16 @@ digit_0 = 48
 abbrev pub digit_1 : ℕ
 digit_1 = 49
 
--- the texts between two `/`
+-- the texts that are separated by `/`
 abbrev pub tokens_in : List ℕ → List (List ℕ)
 tokens_in = slice_split (λ b. b == slash)
 
--- these bytes before a name, if there is one
+-- a name with these bytes before it, if there is a name
 abbrev pub before_name : List ℕ → Option (List ℕ) → Option (List ℕ)
 before_name bs o = option_map (λ n. bs ++ n) o
 
--- The name that a reference token writes: `~1` is `/` and `~0` is `~`, and no other `~` is in a token. (The flag tells whether a `~`
--- is just before.)
+-- The name that a reference token represents: `~1` represents `/`, and `~0` represents `~`. A token with any other `~` has
+-- no name. The flag is true directly after a `~`.
 abbrev pub name_after : Bool → List ℕ → Option (List ℕ)
 name_after true [] = None
 name_after true (b ∷ bs) =

@@ -1,4 +1,4 @@
--- A value beside what is found in its place, from the last item or member on.
+-- A value compared with another one, which is to be that value without some members, from the last item or member on.
 use Rattle.std.proofs.Common.{◌≡◌, ℕ, zero, suc, ◌+◌, ◌<◌, Bool, true, false, cond, List, [], ◌∷◌, Option, Some, None, length, get_or, drop, map}
 use Rattle.std.proofs.Common.{refl, sym, ap, subst, ◌∙◌, arith, add-one}
 use Rattle.std.proofs.lemmas.List.{drop_more}
@@ -14,13 +14,13 @@ use Rattle.openapi_removal.specs.Plans.{plan, planned, plans}
 use Rattle.openapi_removal.specs.Without.{below, items_without, json_without, members_without}
 use Rattle.openapi_removal.proofs.Planning.{from_member}
 
--- what is behind the items before an item, by that item
+-- the items from an index on are the item at it and those after it
 from_item : {A : Type 0} (vs : List (Value A)) (i : ℕ) (v : Value A) → i < length vs → v ≡ get_or vs i v
     → items_view (drop i vs) ≡ item (value_view v) (items_view (drop (i + 1) vs))
 from_item vs i v within is =
     ap items_view (drop_more vs i v within) ∙ ap (λ w. item (value_view w) (items_view (drop (i + 1) vs))) (sym is)
 
--- an item more is without the members
+-- one more item, before those that were compared, is without the members
 pub next_item : {A : Type 0} (ps : List Place) (vs fs : List (Value A)) (i j : ℕ) (v f : Value A) → j ≡ i + 1 → i < length vs → i < length fs
     → v ≡ get_or vs i v → f ≡ get_or fs i f → value_view f ≡ json_without (inside (indexed i) ps) (value_view v)
     → items_view (drop j fs) ≡ items_without ps j (items_view (drop j vs))
@@ -51,12 +51,12 @@ there [] i within = absurd (omega (arith, within))
 there (x ∷ xs) zero within = (x, refl)
 there (x ∷ xs) (suc i) within = there xs i (omega (arith, within))
 
--- a member that is removed
+-- a member whose plan is `None` is removed
 goes : (r : Bool) (b : List Place) → None ≡ cond r None (Some b) → r ≡ true
 goes true b is = refl
 goes false b is = cc
 
--- one that stays
+-- a member with another plan stays
 stays : (r : Bool) (b q : List Place) → Some q ≡ cond r None (Some b) → (r ≡ false) × (b ≡ q)
 stays true b q is = cc
 stays false b q is = (refl, cc)

@@ -1,10 +1,10 @@
--- A text that is cut gap by gap.
+-- A text that is cut, gap after gap.
 use Rattle.std.proofs.Common.{◌≡◌, ℕ, ◌+◌, ◌<◌, min, List, ◌∷◌, ◌++◌, length, get_or, take, drop, map, sym, ap, ◌∙◌, append_assoc}
 use Rattle.std.proofs.lemmas.List.{drop_min, drop_more, take_min}
 use Rattle.openapi_removal.specs.Cut.{cut, gap_of}
 use Rattle.openapi_removal.specs.declared.cut.Gap.{Gap}
 
--- what is kept so far, with what is left of the text behind one more gap
+-- one more gap: what is kept so far, followed by what is kept of the rest, is all that is kept
 pub next_gap : (gs : List Gap) (i : ℕ) (g : Gap) (done rest kept more behind new whole : List ℕ) → i < length gs → g ≡ get_or gs i g
     → kept ≡ take (min g.kept (length rest)) rest → more ≡ drop (min g.kept (length rest)) rest
     → behind ≡ drop (min g.left_out (length more)) more → new ≡ done ++ kept

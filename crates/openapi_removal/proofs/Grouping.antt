@@ -21,13 +21,13 @@ joined : {A : Type 0} (xs ys : List A) → join xs ys ≡ xs ++ ys
 joined [] ys = refl
 joined (x ∷ xs) ys = ap (λ zs. x ∷ zs) (joined xs ys)
 
--- a group that may be missing has no locations then
+-- a group that is missing has no locations
 pub or_empty : (o : Option (Vec (Bor (List PlaceStep)))) (v : Vec (Bor (List PlaceStep))) → v.items ≡ []
     → grouped (unwrap_or o v) ≡ option_map_or grouped o []
 or_empty None v none = ap places_of none
 or_empty (Some w) v none = refl
 
--- a location more is in its group, and those behind it are left
+-- one more location is added to its group, and those after it are left
 pub next_location : (s : Step) (p : Place) (ps : List Place) (old new all : List Place) → new ≡ old ++ behind_step s p
     → old ++ inside s (p ∷ ps) ≡ all → new ++ inside s ps ≡ all
 next_location s p ps old new all grew whole =
@@ -36,7 +36,7 @@ next_location s p ps old new all grew whole =
 
 module _ {K V : Type 0} (eq : K → K → Bool) (step : K → Step) (locations : V → List Place) where
   module _ (equal : (a b : K) → eq a b ≡ true → a ≡ b) (same : (a b : K) → same_step (step b) (step a) ≡ eq a b) where
-    -- the group at k got a location, and the others stay
+    -- a location is added to the group of `k`, and the other groups are unchanged
     grown : (f g h : K → Option V) (k : K) (v : V) (p : Place) → ((n : K) → g n ≡ cond (eq k n) None (f n))
         → ((n : K) → h n ≡ cond (eq k n) (Some v) (g n)) → locations v ≡ option_map_or locations (f k) [] ++ p ∷ []
         → (n : K) → option_map_or locations (h n) [] ≡ option_map_or locations (f n) [] ++ behind_step (step n) (step k ∷ p)
@@ -65,7 +65,7 @@ pub grown_at_name : {V : Type 0} (locations : V → List Place) (f g h : List �
     → (n : List ℕ) → option_map_or locations (h n) [] ≡ option_map_or locations (f n) [] ++ behind_step (named n) (named k ∷ p)
 grown_at_name locations = grown bytes_eq named locations (λ a b. (bytes_eq-Decides a b).0) same_name
 
--- the group at a name is taken, of which no location is that of the member itself
+-- if the group of a name is removed and none of its locations is that of the member itself, it has none afterwards
 pub taken : {V : Type 0} (locations : V → List Place) (f g : List ℕ → Option V) (k : List ℕ)
     → ((n : List ℕ) → g n ≡ cond (bytes_eq k n) None (f n)) → has_root (option_map_or locations (f k) []) ≡ false
     → (n : List ℕ) → option_map_or locations (g n) []

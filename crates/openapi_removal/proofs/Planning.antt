@@ -15,7 +15,7 @@ use Rattle.openapi_node.specs.declared.fault.PlaceStep.{PlaceStep}
 use Rattle.openapi_faults.specs.Without.{has_root, inside}
 use Rattle.openapi_removal.specs.Plans.{left_for, plan, plan_by, planned, plans}
 
--- behind no member all locations are left
+-- with no member after it, all locations in a member are left
 pub all_left : (ps : List Place) (n : List ℕ) → inside (named n) ps ≡ cond (has_root (inside (named n) ps)) (inside (named n) ps) (inside (named n) ps)
 all_left ps n = by (has_root (inside (named n) ps))
   where
@@ -23,7 +23,7 @@ all_left ps n = by (has_root (inside (named n) ps))
     by true = refl
     by false = refl
 
--- what is left once the plan of a member is taken
+-- what is left after the plan of a member is made
 module _ (ps : List Place) (m : List ℕ) (j : Json) (ms : Members) (f g : List ℕ → List Place) where
   pub next_left : ((n : List ℕ) → f n ≡ left_for ps ms n)
       → ((n : List ℕ) → g n ≡ cond (bytes_eq m n && not (has_root (f n))) [] (f n)) → (n : List ℕ) → g n ≡ left_for ps (member m j ms) n
@@ -54,14 +54,14 @@ plan_left ps m ms f left = ap plan_by (left m) ∙ by (has_root (inside (named m
     by false is false = ap (λ b. cond b None (Some (inside (named m) ps))) is
 
 module _ {A : Type 0} (ps : List Place) (ms : List (Bor (List ℕ) × Value A)) where
-  -- what is behind the members before a member, by that member
+  -- the members from an index on are the member at it and those after it
   pub from_member : (i j : ℕ) (m : Bor (List ℕ) × Value A) → j ≡ i + 1 → i < length ms → m ≡ get_or ms i m
       → members_view (drop i ms) ≡ member m.0.now (value_view m.1) (members_view (drop j ms))
   from_member i j m next within is =
       ap members_view (drop_more ms i m within) ∙ ap (λ n. member n.0.now (value_view n.1) (members_view (drop (i + 1) ms))) (sym is)
       ∙ ap (λ k. member m.0.now (value_view m.1) (members_view (drop k ms))) (sym next)
 
-  -- a plan more, before those of the later members
+  -- one more plan, before those of the later members
   pub next_plan : (i j : ℕ) (m : Bor (List ℕ) × Value A) (p : Option (Vec (Bor (List PlaceStep)))) (vs ws : List (Option (Vec (Bor (List PlaceStep)))))
       → j ≡ i + 1 → i < length ms → m ≡ get_or ms i m → ws ≡ vs ++ p ∷ []
       → planned p ≡ plan ps m.0.now (members_view (drop j ms)) → map planned (reverse vs) ≡ plans ps (members_view (drop j ms))

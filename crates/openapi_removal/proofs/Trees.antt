@@ -1,4 +1,4 @@
--- The tree of a value without some members is its tree without them.
+-- The node of a value without some members is the node of the value without these members.
 use Rattle.std.proofs.Common.{◌≡◌, ℕ, suc, Bool, true, false, cond, List, [], ◌∷◌, Option, Some, None, is_some, refl, sym, ap, subst, ◌∙◌}
 use Rattle.std.proofs.lemmas.Slice.Eq.{bytes_eq-Decides}
 use Rattle.std.specs.Cmp.Lexicographic.{nat_list_eq_equiv}
@@ -43,7 +43,7 @@ apart_insert k t (e ∷ es) h = by (bytes_eq k e.0) refl (apart_insert k t es h.
     by false is rest = (absent_insert e.0 k t es (nat_list_eq_equiv.symm e.0 k ∙ is) h.0, rest)
 
 -- ---- what is left of the entries that were read, before members that may replace them
--- the tree of an entry: as it is if a later member has its name
+-- the node of an entry: unchanged if a later member has its name, and else without the members at the locations inside it
 abbrev seen : List Place → json.Members → List ℕ → Tree → Tree
 seen ps later n t = cond (is_some (get_member n later)) t (without (inside (named n) ps) t)
 
@@ -51,7 +51,7 @@ abbrev stay : List Place → json.Members → Entries Tree → Entries Tree
 stay ps later [] = []
 stay ps later (e ∷ es) = cond (has_root (inside (named e.0) ps)) (stay ps later es) ((e.0, seen ps later e.0 e.1) ∷ stay ps later es)
 
--- behind all members it is what is left of an object
+-- with no member left to read, the entries that stay are those of the object without the members
 all_read : (ps : List Place) (es : Entries Tree) → members_of (stay ps json.no_members es) ≡ trees.members_without ps (members_of es)
 all_read ps [] = refl
 all_read ps (e ∷ es) = by (has_root (inside (named e.0) ps)) (all_read ps es)
@@ -80,7 +80,7 @@ others_stay ps k j ms (e ∷ es) a =
     (λ i. cond (has_root (inside (named e.0) ps)) (others_stay ps k j ms es a.1 i)
     ((e.0, other_seen ps k j ms e.0 e.1 a.0 i) ∷ others_stay ps k j ms es a.1 i))
 
--- the entry of a name that goes
+-- the entry of a name that is removed is not left after an insert either
 gone_insert : (ps : List Place) (k : List ℕ) (j : Json) (t : Tree) (ms : json.Members) (es : Entries Tree)
     → has_root (inside (named k) ps) ≡ true → AreApart es → stay ps (json.member k j ms) es ≡ stay ps ms (insert_entry es k t)
 gone_insert ps k j t ms [] r h = sym (ap (λ b. cond b [] ((k, seen ps ms k t) ∷ [])) r)
@@ -97,7 +97,7 @@ gone_insert ps k j t ms (e ∷ es) r h = by (bytes_eq k e.0) refl (gone_insert p
     by false is rest =
         (λ i. cond (has_root (inside (named e.0) ps)) (rest i) ((e.0, other_seen ps k j ms e.0 e.1 is i) ∷ rest i))
 
--- the entry of a name that stays
+-- the entry of a name that stays is inserted with the node that is left of it
 kept_insert : (ps : List Place) (k : List ℕ) (j : Json) (t u : Tree) (ms : json.Members) (es : Entries Tree)
     → has_root (inside (named k) ps) ≡ false → u ≡ seen ps ms k t → AreApart es
     → insert_entry (stay ps (json.member k j ms) es) k u ≡ stay ps ms (insert_entry es k t)
@@ -135,7 +135,7 @@ number_stays ps (Some (unsigned n)) = refl
 number_stays ps (Some (negative z)) = refl
 number_stays ps (Some (float x)) = refl
 
--- the tree of the value of a member that stays
+-- the node of the value of a member that stays
 value_seen : (s : Bool) (qs : List Place) (j : Json) → tree_of (json_without [] j) ≡ without [] (tree_of j)
     → tree_of (json_without qs j) ≡ without qs (tree_of j)
     → tree_of (json_without (cond s [] qs) j) ≡ cond s (tree_of j) (without qs (tree_of j))

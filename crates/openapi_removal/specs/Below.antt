@@ -1,4 +1,4 @@
--- Locations, and what is kept of them by the step with which they begin.
+-- Locations, and groups of them by the step with which they begin.
 use Rattle.std.specs.Prelude.{ℕ, List, [], map}
 use Rattle.std.specs.BTreeMap.{BTreeMap, get, get_by}
 use Rattle.std.specs.Borrow.{Bor}
@@ -21,10 +21,10 @@ places_of ps = map place_of ps
 abbrev pub grouped : Vec (Bor (List PlaceStep)) → List Place
 grouped v = places_of v.items
 
--- the locations that are kept at a name
+-- the locations in the group of a name; none if there is no group
 abbrev pub at_name : BTreeMap (Bor (List ℕ)) (Vec (Bor (List PlaceStep))) → List ℕ → List Place
 at_name m n = option_map_or grouped (get_by (λ k. slice_cmp nat_cmp n k.now) m) []
 
--- the locations that are kept at an index
+-- the locations in the group of an index; none if there is no group
 abbrev pub at_index : BTreeMap ℕ (Vec (Bor (List PlaceStep))) → ℕ → List Place
 at_index m i = option_map_or grouped (get nat_cmp m i) []

@@ -1,4 +1,4 @@
--- What is returned of a document: its text without the members that reading drops.
+-- What is returned for a document: its text without the members that reading drops.
 use Rattle.std.specs.Prelude.{◌≡◌, ℕ, List, [], Some, map, string_bytes}
 use Rattle.std.specs.Str.{IsUtf8}
 use Rattle.json.specs.Json.{Json}
@@ -14,7 +14,7 @@ use Rattle.openapi_removal.specs.Cut.{cut}
 use Rattle.openapi_removal.specs.Without.{json_without}
 use Rattle.openapi_removal.specs.declared.removal.Cleaned.{Cleaned}
 
--- the value without them
+-- a JSON value without the members that reading it as a document drops
 abbrev pub cleaned : Json → Json
 cleaned j = json_without (dropped_places (by open_api) (tree_of j)) j
 
@@ -23,9 +23,10 @@ pub record IsCut (source text : List ℕ) : Type 0 where
   pub gaps : List (ℕ × ℕ)
   pub is : text ≡ cut gaps source
 
--- The source is JSON in UTF-8. The reported members are those that reading drops of it as a document. The text reads as the value of
--- the source without these members, and is the source with some ranges of its bytes left out. Without them the document is read alike,
--- and nothing more is dropped. If there are none, the text is the source.
+-- The source is JSON in UTF-8. The reported members are those that reading it as a document drops. The text reads as the
+-- value of the source without these members, and is the source with some ranges of its bytes left out. Without them the
+-- document has the same form, conforms if and only if it did before, and nothing more is dropped. If there are none, the
+-- text is the source.
 pub record IsWithoutDropped (source : List ℕ) (c : Cleaned) : Type 0 where
   pub utf8 : IsUtf8 source
   pub value : Json
@@ -38,7 +39,7 @@ pub record IsWithoutDropped (source : List ℕ) (c : Cleaned) : Type 0 where
 
 -- ---- for private clauses
 
--- the tree is that of the value of a text
+-- the text is JSON in UTF-8, and the node is that of its value, with 0 in place of each number that is not whole
 pub record IsTreeOfText (source : List ℕ) (t : Tree) : Type 0 where
   pub utf8 : IsUtf8 source
   pub value : Json

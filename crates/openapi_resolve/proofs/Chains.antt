@@ -12,7 +12,7 @@ module _ {X : Type 0} where
       → resolved section es reference ≡ followed n section es reference
   begins section es reference n e = let same : suc (length es) ≡ n = omega (arith, e) in ap (λ k. followed k section es reference) same
 
-  -- one step
+  -- one step: the target is the component, or the reference that is followed next
   step : (section : List ℕ) (es : Entries (ReferenceOr X)) (at : List ℕ) (n : ℕ) (o : Option (ReferenceOr X)) → 0 < n
       → target section es at ≡ o → followed n section es at ≡ option_and_then (item_or (followed (n - 1) section es)) o
   step section es at zero o lt is = absurd (omega (arith, lt))
@@ -45,7 +45,7 @@ module _ {X : Type 0} where
       h ∙ step section es at n (Some (Reference r)) lt (copied o b (target section es at) (Reference r) is some now)
       ∙ ap (followed (n - 1) section es) (sym text)
 
-  -- no step is left
+  -- if no step is left, the reference leads to no component
   pub stops : (section : List ℕ) (es : Entries (ReferenceOr X)) (reference at : List ℕ) (n : ℕ)
       → resolved section es reference ≡ followed n section es at → n ≡ 0 → resolved section es reference ≡ None
   stops section es reference at n h e = h ∙ ap (λ k. followed k section es at) e

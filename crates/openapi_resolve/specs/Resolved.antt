@@ -12,18 +12,18 @@ module _ {X : Type 0} where
   abbrev pub target : List ℕ → Entries (ReferenceOr X) → List ℕ → Option (ReferenceOr X)
   target section es reference = option_and_then (λ name. get name es) (component_name section reference)
 
-  -- the item, or what f says of the reference in its place
+  -- the item, or what `f` returns for the text of the reference in its place
   abbrev pub item_or : (List ℕ → Option X) → ReferenceOr X → Option X
   item_or f (Item x) = Some x
   item_or f (Reference r) = f (string_bytes r)
 
-  -- the item to which a reference leads in at most so many steps
+  -- the item to which a reference leads in at most the given number of steps
   abbrev pub followed : ℕ → List ℕ → Entries (ReferenceOr X) → List ℕ → Option X
   followed zero section es reference = None
   followed (suc n) section es reference = option_and_then (item_or (followed n section es)) (target section es reference)
 
-  -- The item to which a chain of references leads. It is enough to follow one reference more than there are components: a longer chain
-  -- has two that lead to the same component, and so goes on forever.
+  -- The item to which a chain of references leads. It is enough to follow one reference more than there are components. A
+  -- longer chain has two references that lead to the same component, so it never ends.
   abbrev pub resolved : List ℕ → Entries (ReferenceOr X) → List ℕ → Option X
   resolved section es reference = followed (suc (length es)) section es reference
 

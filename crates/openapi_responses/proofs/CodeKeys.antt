@@ -1,4 +1,4 @@
--- Status codes as the keys of a map: the kit's map puts a value at a code as the tables do.
+-- Status codes as the keys of a map: an insert puts a value at a code as the tables do.
 use Rattle.std.proofs.Common.{◌≡◌, Bool, true, false, cond, if◌then◌else◌, List, [], ◌∷◌, refl, ap, ◌∙◌, subst, eqb-true, eq-eqb}
 use Rattle.std.specs.Cmp.{IsEquivalence, decided}
 use Rattle.indexmap.specs.IndexMap.{insert_entry}

@@ -1,4 +1,4 @@
--- The row of the status codes, by what is read of its entries one after another.
+-- The row of the status codes, given what is read from its entries one after another.
 use Rattle.std.proofs.Common.{◌≡◌, ℕ, ◌+◌, Bool, true, false, cond, ◌&&◌, List, [], ◌∷◌, ◌++◌, take, slice_get, Some, Result, Ok, Err, refl, sym, ap, ◌∙◌, subst, inl, inr, ⊎_elim, ◌⊎◌, option_map}
 use Rattle.std.specs.Result.{result_ok}
 use Rattle.indexmap.specs.IndexMap.{insert_entry}
@@ -25,26 +25,26 @@ use Rattle.openapi_responses.proofs.CodeKeys.{same_status, coded-insert}
 abbrev pub statuses : {X : Type 0} → Entries X → Entries X
 statuses es = chosen (in_class status_names) es
 
--- a name as the key that it is among the status codes
+-- the key of a name, as that of a status code if it is one
 abbrev pub as_code : Key → Key
 as_code (name n) = key_in status_names n
 as_code (coded c) = coded c
 
--- what a function reads of entries, each under the code of its name
+-- the forms that a function reads from entries, each under the key of its name
 abbrev pub recoded : (Tree → Form) → Entries Tree → List (Pair Form)
 recoded f es = each (λ p. record { key = as_code p.key; value = p.value }) (pairs_of f es)
 
--- the map into which entries go one after another
+-- the map into which these are inserted one after another
 abbrev pub gathered : (Tree → Form) → Entries Tree → List (Pair Form)
 gathered f es = gather status_names (recoded f es)
 
--- one entry more
+-- one more entry is inserted last
 put_last : (f : Tree → Form) (m : List (Pair Form)) (es : Entries Tree) (e : List ℕ × Tree)
     → put_all m (recoded f (es ++ e ∷ [])) ≡ put (key_in status_names e.0) (f e.1) (put_all m (recoded f es))
 put_last f m [] e = refl
 put_last f m (d ∷ es) e = put_last f (put (key_in status_names d.0) (f d.1) m) es e
 
--- a name that is not read as a code is none
+-- a name that is not read as a status code is not in the class of status codes
 pub no_status : {E : Type 0} (n : List ℕ) (r : Result StatusCode E) → ((s : StatusCode) → r ≡ Ok s → ⊥)
     → option_map code_in (result_ok r) ≡ code_of n → in_class status_names n ≡ false
 no_status n (Ok s) h e = absurd (h s refl)
@@ -53,11 +53,11 @@ no_status n (Err x) h e = sym (ap is_code e)
 -- the next of the members, whose name is a status code
 module _ (ms : Entries Tree) (i : ℕ) (n : List ℕ) (t : Tree) (at : slice_get ms i ≡ Some (n, t)) (s : StatusCode)
     (is : code_of n ≡ Some (code_in s)) where
-  -- so the class of the status codes takes its name
+  -- the class of the status codes takes its name
   pub next_is : in_class status_names n ≡ true
   next_is = ap is_code is
 
-  -- where what was read of it is inserted under its code, the map is read as far as it
+  -- if what was read from it is inserted under its code, the map holds what is read up to and including it
   pub next_gathered : {X : Type 0} (view : X → Form) (k : Kind) (vs new : List (StatusCode × X)) (x : X)
       → gathered (form final_tables k) (statuses (take i ms)) ≡ coded_pairs view vs → form final_tables k t ≡ view x
       → new ≡ insert_entry same_status vs s x
@@ -80,14 +80,14 @@ module _ (k : Kind) where
   all_forms (e ∷ es) = ap (λ l. record { key = key_in status_names e.0; value = form final_tables k e.1 } ∷ l)
       (all_forms es)
 
-  -- what was read of the entries, or a refusal of one of them
+  -- what was read from the entries, or an error of reading one of them
   abbrev pub CodesReadAs : {X : Type 0} → (X → Form) → Result (Coded X) Fault → Entries Tree → Type 0
   CodesReadAs view (Ok m) es =
       (every (λ (e : List ℕ × Tree). conforms final_tables k e.1) es ≡ true)
       × (gathered (form final_tables k) es ≡ coded_pairs view m.entries)
   CodesReadAs view (Err f) es = IsMemory f ⊎ ((e : List ℕ × Tree) × Among e es × FailsBelow (named e.0) f k e.1)
 
-  -- what the row gives
+  -- what is read for the row
   pub codes_give : {X : Type 0} (view : X → Form) (r : Result (Coded X) Fault) (o : Kind) (ms : Entries Tree)
       → row_where (is_class status_names) (rows_asked final_tables o) ≡ Some (class status_names k)
       → CodesReadAs view r (statuses ms) → RowReadAs (coded_form view) r o (class status_names k) (members_of ms)

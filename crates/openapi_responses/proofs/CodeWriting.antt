@@ -1,4 +1,4 @@
--- The row of the status codes, by what is written of its entries one after another.
+-- The row of the status codes, given what is written for its entries one after another.
 use Rattle.std.proofs.Common.{◌≡◌, ℕ, suc, Bool, true, false, cond, List, [], ◌∷◌, ◌++◌, map, slice_get, Option, Some, None, Bor, Result, Ok, Err, IfErr, refl, sym, ap, ◌∙◌, subst, inl, inr, append_assoc}
 use Rattle.std.proofs.lemmas.Bool.{and_parts, and_from}
 use Rattle.std.proofs.lemmas.List.{map-append}
@@ -30,7 +30,7 @@ use Rattle.openapi_fields.proofs.Losing.{memory_loses, loses_above}
 use Rattle.openapi_responses.specs.Codes.{coded_pairs, code_text, CodeNotWritable}
 use Rattle.openapi_responses.proofs.CodeKeys.{same_status, status_equiv}
 
--- a value that is refused below the text of its code
+-- an error of writing a value, at the name of its code, is an error of writing the entry
 pub value_loses : {X A : Type 0} (view : X → Form) (k : Kind) (s : StatusCode) (x : X) (n : List ℕ) → n ≡ code_text s
     → (r : Result A Fault) → IfErr r (λ f. NotWritableBelow (named n) f (unwritable final_tables k (view x)))
     → IfErr r (λ f. CodeNotWritable view k f s x)
@@ -38,7 +38,7 @@ value_loses view k s x n e (Ok y) h = tt
 value_loses view k s x n e (Err f) h =
     inr (inr (subst (λ m. NotWritableBelow (named m) f (unwritable final_tables k (view x))) e h))
 
--- an entry that an iterator gives stands behind those that it gave
+-- the next entry that an iterator returns comes after those that it returned before
 pub next_split : {X : Type 0} (all : List (StatusCode × X)) (done : List (Bor StatusCode × Bor X))
     (start rest left : List (StatusCode × X)) (r : Option (Bor StatusCode × Bor X)) (x : Bor StatusCode × Bor X)
     → start ≡ all → Yields (TakesFirst deref_pair) start done rest → r ≡ Some x → TakesFirst deref_pair rest r left
@@ -47,11 +47,11 @@ next_split all done start rest left r x is gave some step =
     sym is ∙ rest_so_far deref_pair done start rest gave
     ∙ ap (λ l. map deref_pair done ++ l) (rest_more deref_pair rest left r x some step)
 
--- a code is read again exactly where it can be written
+-- a code is read again if and only if it can be written
 again : (s : StatusCode) → is_written status_names (coded (code_in s)) ≡ writable_code (code_in s)
 again s = writable.4 (code_in s)
 
--- the name of a code that can be written is a status code
+-- if a code can be written, its name is in the class of status codes
 in_its_class : (s : StatusCode) → writable_code (code_in s) ≡ true → in_class status_names (code_text s) ≡ true
 in_its_class s w = (and_parts _ (in_class status_names (code_text s)) (again s ∙ w)).1
 
@@ -60,11 +60,11 @@ module _ {X : Type 0} (view : X → Form) (k : Kind) where
   abbrev pub members : List (StatusCode × X) → Entries Tree
   members es = prints final_tables status_names k (coded_pairs view es)
 
-  -- whether nothing of them is lost
+  -- whether nothing in them is unwritable
   abbrev pub all_kept : List (StatusCode × X) → Bool
   all_kept es = every (is_kept final_tables status_names k) (coded_pairs view es)
 
-  -- a code that is none of those before it has a name that is none of theirs
+  -- the name of a code that none of some entries has is the name of none of them
   new_text : (s : StatusCode) → writable_code (code_in s) ≡ true → (es : List (StatusCode × X)) → all_kept es ≡ true
       → lookup (same_status s) es ≡ None → get (code_text s) (members es) ≡ None
   new_text s w [] h e = refl
@@ -87,7 +87,7 @@ module _ {X : Type 0} (view : X → Form) (k : Kind) where
           (sym (same_bytes (code_text s) (code_text d.0)) ∙ differ)
           ∙ more q
 
-  -- one entry more
+  -- with one more entry
   members-more : (es : List (StatusCode × X)) (s : StatusCode) (x : X)
       → members (es ++ (s, x) ∷ []) ≡ members es ++ (code_text s, print final_tables k (view x)) ∷ []
   members-more [] s x = refl
@@ -101,7 +101,7 @@ module _ {X : Type 0} (view : X → Form) (k : Kind) where
       (all_kept es) h in
       and_from _ _ kept.0 (kept-more es s x kept.1 w u)
 
-  -- what an iterator gave, with one entry more
+  -- the entries that an iterator returned, and one more
   pub next_members : (done : List (Bor StatusCode × Bor X)) (s : Bor StatusCode) (x : Bor X) (out now new : Entries Tree)
       → now ≡ out ++ members (map deref_pair done)
       → new ≡ now ++ (code_text s.now, print final_tables k (view x.now)) ∷ []
@@ -113,26 +113,26 @@ module _ {X : Type 0} (view : X → Form) (k : Kind) where
       ∙ ap (λ l. out ++ l) (sym (members-more first s.now x.now))
       ∙ ap (λ l. out ++ members l) (sym (map-append deref_pair done ((s, x) ∷ [])))
 
-  -- where nothing of what it gave is lost, nor of one entry more, nothing is lost of all these
+  -- if nothing in those is unwritable, nor in one more, nothing in all of these is
   pub next_kept : (done : List (Bor StatusCode × Bor X)) (s : Bor StatusCode) (x : Bor X)
       → all_kept (map deref_pair done) ≡ true → writable_code (code_in s.now) ≡ true
       → unwritable final_tables k (view x.now) ≡ [] → all_kept (map deref_pair (done ++ (s, x) ∷ [])) ≡ true
   next_kept done s x h w u =
       ap all_kept (map-append deref_pair done ((s, x) ∷ [])) ∙ kept-more (map deref_pair done) s.now x.now h w u
 
-  -- an entry at its place
+  -- the index of an entry
   index_of : (es rest : List (StatusCode × X)) (s : StatusCode) (x : X)
       → (j : ℕ) × (slice_get (coded_pairs view (es ++ (s, x) ∷ rest)) j
       ≡ Some (record { key = coded (code_in s); value = view x }))
   index_of [] rest s x = (0, refl)
   index_of (e ∷ es) rest s x = let r = index_of es rest s x in (suc r.0, r.1)
 
-  -- the row, of a map of which some entries are written
+  -- the row of a map of which some entries are written
   module _ (ss : List Slot) (es : List (StatusCode × X))
       (at : slot_where (is_class status_names) ss
       ≡ Some (class status_names k, named_form (named_of (coded_pairs view es)))) (out : Entries Tree)
       (done : IsWritten final_tables (before (is_class status_names) ss) out) where
-    -- the name of the next code is not there yet
+    -- the name of the next code is not present yet
     pub next_absent : slots_apart ss ≡ true → IsDistinct same_status (keys_of es)
         → (first rest : List (StatusCode × X)) (s : StatusCode) (x : X) → es ≡ first ++ (s, x) ∷ rest
         → (now : Entries Tree) → now ≡ out ++ members first → all_kept first ≡ true
@@ -145,12 +145,12 @@ module _ {X : Type 0} (view : X → Form) (k : Kind) where
         (new_text s w first h (absent_before status_equiv first rest (s, x)
         (subst (λ l. IsDistinct same_status (keys_of l)) split distinct)))
 
-    -- all of them
+    -- all entries are written
     pub codes_put : (new : Entries Tree) → new ≡ out ++ members es → all_kept es ≡ true
         → IsWritten final_tables (through (is_class status_names) ss) new
     codes_put new e h = class_put final_tables status_names k ss (coded_pairs view es) at out done new e h
 
-    -- a refusal of one of them
+    -- an error of writing one of them is an error of writing the slots
     pub code_loses : (first rest : List (StatusCode × X)) (s : StatusCode) (x : X) → es ≡ first ++ (s, x) ∷ rest
         → (f : Fault) → CodeNotWritable view k f s x → NotWritable f (slots_lost final_tables ss)
     code_loses first rest s x split f (inl m) = memory_loses f (slots_lost final_tables ss) m

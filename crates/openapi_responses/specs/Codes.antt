@@ -1,5 +1,5 @@
--- Maps by status codes, as they are read and written: the form of a map, the name that a code is written under, and a
--- refusal of one entry.
+-- Maps by status codes, as they are read and written: the form of a map, the name that a code is written under, and the
+-- errors of writing one entry.
 use Rattle.std.specs.Prelude.{◌≡◌, ℕ, false, List, [], ◌∷◌, ◌⊎◌}
 use Rattle.std.specs.declared.hash.FoldHasher.{FoldHasher}
 use Rattle.std.specs.declared.hash.BuildHasherDefault.{BuildHasherDefault}
@@ -20,7 +20,7 @@ use Rattle.openapi_fields.specs.Returned.{NotWritableBelow}
 abbrev pub Coded : Type 0 → Type 0
 Coded X = IndexMap StatusCode X (BuildHasherDefault FoldHasher)
 
--- its entries, as they stand in a form: each under its code
+-- its entries as a form holds them, each under its code
 abbrev pub coded_pairs : {X : Type 0} → (X → Form) → List (StatusCode × X) → List (Pair Form)
 coded_pairs view [] = []
 coded_pairs view (e ∷ es) = record { key = coded (code_in e.0); value = view e.1 } ∷ coded_pairs view es
@@ -33,7 +33,8 @@ coded_form view m = named_form (named_of (coded_pairs view m.entries))
 abbrev pub code_text : StatusCode → List ℕ
 code_text s = text_of (code_in s)
 
--- a refusal of one entry that is written: a code that would not be read again, a refusal of its value, or want of memory
+-- an error of writing one entry: an unwritable code at the location of the entry, an error of writing its value, or an
+-- allocation failure
 abbrev pub CodeNotWritable : {X : Type 0} → (X → Form) → Kind → Fault → StatusCode → X → Type 0
 CodeNotWritable view k f s x =
     IsMemory f

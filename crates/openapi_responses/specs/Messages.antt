@@ -1,5 +1,5 @@
--- The forms of the fields of request bodies, responses and the responses of an operation, in the order of the rows of
--- their tables.
+-- The forms of the fields of request bodies, responses and the responses of an operation, in the order of their field
+-- tables.
 use Rattle.std.specs.Prelude.{List, [], ◌∷◌}
 use Rattle.openapi_tables.specs.Form.{Form}
 use Rattle.openapi_values.specs.Reference.{reference_form}

@@ -23,7 +23,7 @@ use Rattle.openapi_schema.specs.declared.schema.AdditionalProperties.TheBlock.{t
 use Rattle.openapi_schema.specs.declared.schema.AdditionalProperties.TheFolds.{fold-roll-AnySchema, map-AnySchema}
 use Rattle.openapi_schema.specs.declared.schema.AdditionalProperties.TheOpen.{AnySchema-F}
 
--- a schema of no sort in particular, with what stands inside seen as forms
+-- one level of a schema of no sort in particular, and the same with the values inside replaced with their forms
 abbrev pub Any : Type 0
 Any = AnySchema-F the_data the_data-1 the_data-2 the_data-3 the_data-4 the_data-5 the_data-6
 
@@ -101,7 +101,7 @@ any_not : (d : Any) (o : Option (Box (ReferenceOr Schema)))
 any_not d None = refl
 any_not d (Some b) = any_not_box d b b.value
 
--- its forms, row by row
+-- the forms of its fields
 abbrev pub listed_any : Any → List Form
 listed_any d =
     optional_form text_form d.typ
@@ -130,7 +130,7 @@ listed_any d =
     ∷ optional_form (λ b. reference_form schema_form b.value) d.not
     ∷ []
 
--- one level of such a schema, with what stands inside seen as forms, gives these forms
+-- one level of such a schema, with the values inside replaced with their forms, gives these forms
 pub any_rows-level : (d : Any) → any_schema_step (any_level d) ≡ listed_any d
 any_rows-level d =
     (λ i. optional_form text_form d.typ
@@ -159,7 +159,7 @@ any_rows-level d =
     ∷ any_not d d.not i
     ∷ [])
 
--- a schema that is made of such a level has these forms as its rows
+-- a schema that is made of such a level has these forms for its fields
 pub any_rows-roll : (d : Any) → any_schema_rows (roll-AnySchema d) ≡ listed_any d
 any_rows-roll d =
     fold-roll-AnySchema Form Sorted Sorted (List Form) (List Form) (List Form) Form additional_step schema_kind_step

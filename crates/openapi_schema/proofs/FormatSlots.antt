@@ -59,14 +59,14 @@ pub kept_slot : (o : Option (Bor (List Tree))) (v : Vec Node) → v.items ≡ tr
 kept_slot None v h = ap (λ ts. sequence (forms_of (each leaf ts))) h
 kept_slot (Some nodes) v h = ap (λ ts. sequence (forms_of (each leaf ts))) h
 
--- the form of an entry is its tree
+-- the form of an entry is its node
 entry_forms : {X : Type 0} → (tree_in : X → Tree) (os : List (Option X))
     → each (entry_form tree_in) os ≡ each leaf (each (entry_tree tree_in) os)
 entry_forms tree_in [] = refl
 entry_forms tree_in (None ∷ os) = ap (λ fs. leaf null ∷ fs) (entry_forms tree_in os)
 entry_forms tree_in (Some x ∷ os) = ap (λ fs. leaf (tree_in x) ∷ fs) (entry_forms tree_in os)
 
--- what was read of the entries one by one is what is read of an enumeration that is there
+-- what was read from the entries one by one is what is read from an enumeration that is present
 pub entries_given : {X : Type 0} → (test : Tree → Bool) (tree_in : X → Tree) (r : Result (Option (Vec
     (Option X))) Fault) (ts : List Tree)
     → EntriesReadAs test tree_in r ts → EnumerationReadAs test tree_in r (Some ts)

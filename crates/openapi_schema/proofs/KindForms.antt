@@ -40,7 +40,7 @@ pub string_rows-kind : (x : StringType) → schema_kind_rows (kind.Typed (typ.St
 )
 string_rows-kind x = search (rules, the_lemmas)
 
--- the kind of a number: its sort, an absent slot for `type`, and the slots of its rows
+-- the kind of a number: its sort, an absent slot for `type`, and the forms of its fields
 pub number_rows-kind : (x : NumberType) → schema_kind_rows (kind.Typed (typ.Number x)) ≡ (
   number_sort,
   absent
@@ -48,7 +48,7 @@ pub number_rows-kind : (x : NumberType) → schema_kind_rows (kind.Typed (typ.Nu
 )
 number_rows-kind x = search (rules, the_lemmas)
 
--- the kind of a whole number: its sort, an absent slot for `type`, and the slots of its rows
+-- the kind of a whole number: its sort, an absent slot for `type`, and the forms of its fields
 pub integer_rows-kind : (x : IntegerType) → schema_kind_rows (kind.Typed (typ.Integer x)) ≡ (
   integer_sort,
   absent
@@ -56,7 +56,7 @@ pub integer_rows-kind : (x : IntegerType) → schema_kind_rows (kind.Typed (typ.
 )
 integer_rows-kind x = search (rules, the_lemmas)
 
--- the kind of a flag: its sort, an absent slot for `type`, and the slot of its row
+-- the kind of a flag: its sort, an absent slot for `type`, and the form of its field
 pub boolean_rows-kind : (x : BooleanType) → schema_kind_rows (kind.Typed (typ.Boolean x)) ≡ (
   boolean_sort,
   absent
@@ -64,7 +64,7 @@ pub boolean_rows-kind : (x : BooleanType) → schema_kind_rows (kind.Typed (typ.
 )
 boolean_rows-kind x = search (rules, the_lemmas)
 
--- the kind of an object: its sort, an absent slot for `type`, and the slots of its rows
+-- the kind of an object: its sort, an absent slot for `type`, and the forms of its fields
 pub object_rows-kind : (x : ObjectType) → schema_kind_rows (kind.Typed (typ.Object x)) ≡ (
   object_sort,
   absent
@@ -72,7 +72,7 @@ pub object_rows-kind : (x : ObjectType) → schema_kind_rows (kind.Typed (typ.Ob
 )
 object_rows-kind x = search (rules, the_lemmas)
 
--- the kind of an array: its sort, an absent slot for `type`, and the slots of its rows
+-- the kind of an array: its sort, an absent slot for `type`, and the forms of its fields
 pub array_rows-kind : (x : ArrayType) → schema_kind_rows (kind.Typed (typ.Array x)) ≡ (
   array_sort,
   absent
@@ -80,11 +80,11 @@ pub array_rows-kind : (x : ArrayType) → schema_kind_rows (kind.Typed (typ.Arra
 )
 array_rows-kind x = search (rules, the_lemmas)
 
--- a kind of no sort in particular: the sort that holds anything, and the slots of its rows
+-- a kind of no sort in particular: the sort `any_sort`, and the forms of its fields
 pub any_rows-kind : (x : AnySchema) → schema_kind_rows (kind.Any x) ≡ (any_sort, any_schema_rows x)
 any_rows-kind x = search (rules, the_lemmas)
 
--- an object with what stands inside seen as forms
+-- one level of an object, and the same with the values inside replaced with their forms
 abbrev pub Object : Type 0
 Object = ObjectType-F the_data the_data-1 the_data-2 the_data-3 the_data-4 the_data-5 the_data-6
 
@@ -113,7 +113,7 @@ object_additional : (d : Object) (o : Option AdditionalProperties)
 object_additional d None = refl
 object_additional d (Some a) = refl
 
--- one level of an object, with what stands inside seen as forms, gives the forms of its fields
+-- one level of an object, with the values inside replaced with their forms, gives the forms of its fields
 pub object_rows-level : (d : Object) → object_type_step (object_level d)
     ≡ map_form (reference_form (λ b. schema_form b.value)) d.properties
     ∷ list_form text_form d.required
@@ -126,7 +126,7 @@ object_rows-level d =
     ∷ object_additional d d.additional_properties i ∷ optional_form size_form d.min_properties
     ∷ optional_form size_form d.max_properties ∷ [])
 
--- an object that is made of such a level has these forms as its rows
+-- an object that is made of such a level has these forms for its fields
 pub object_rows-roll : (d : Object) → object_type_rows (roll-ObjectType d)
     ≡ map_form (reference_form (λ b. schema_form b.value)) d.properties
     ∷ list_form text_form d.required
@@ -156,7 +156,7 @@ array_items : (d : Array) (o : Option (ReferenceOr (Box Schema))) → optional_f
 array_items d (Some (r.Reference s)) = refl
 array_items d o = refl
 
--- one level of an array, with what stands inside seen as forms, gives the forms of its fields
+-- one level of an array, with the values inside replaced with their forms, gives the forms of its fields
 pub array_rows-level : (d : Array) → array_type_step (array_level d)
     ≡ optional_form (reference_form (λ b. schema_form b.value)) d.items
     ∷ optional_form size_form d.min_items
@@ -167,7 +167,7 @@ array_rows-level d =
     (λ i. array_items d d.items i ∷ optional_form size_form d.min_items ∷ optional_form size_form d.max_items
     ∷ flag_form d.unique_items ∷ [])
 
--- an array that is made of such a level has these forms as its rows
+-- an array that is made of such a level has these forms for its fields
 pub array_rows-roll : (d : Array) → array_type_rows (roll-ArrayType d)
     ≡ optional_form (reference_form (λ b. schema_form b.value)) d.items
     ∷ optional_form size_form d.min_items

@@ -1,4 +1,4 @@
--- A schema by its rows: what they read, what they refuse, and how much they look at.
+-- A schema by its fields: what is read for them, the errors of reading them, and how many values they contain.
 use Rattle.std.proofs.Common.{◌≡◌, ◌+◌, ◌≤◌, true, List, [], refl, ap, ◌∙◌, subst, arith, inl, inr}
 use Rattle.openapi_node.specs.Place.{Place}
 use Rattle.openapi_node.specs.Tree.{Tree, object, Members, members_size}
@@ -17,7 +17,7 @@ use Rattle.openapi_fields.proofs.JoinedRows.{among_rows, rows_join, rows_weight-
 use Rattle.openapi_schema.specs.RawSlots.{optional_rows, sort_slots}
 use Rattle.openapi_schema.proofs.SortSlots.{sort_slots-read}
 
--- what the rows of the kind names read is what the kind of a schema reads
+-- what is read for the kind names is what is read as the kind of a schema
 pub kind_gives : (T : Tables) (fs : List Form) (ms : Members) → AreRows T optional_rows fs ms
     → (conforms T a_schema_kind (object ms) ≡ true)
     × (form T a_schema_kind (object ms) ≡ fields (sort (sort_of (members_list ms))) (forms_of (sort_slots (sort_of
@@ -31,7 +31,7 @@ kind_gives T fs ms h =
           ∙ ap (λ gs. fields (sort s) (forms_of gs)) (sort_slots-read T ms fs h s),
     )
 
--- the same for a schema, with the rows that every kind has
+-- the same for a schema, with the fields that every kind has
 pub schema_gives : (T : Tables) (ds fs : List Form) (ms : Members) → AreRows T (T schema_data) ds ms
     → AreRows T optional_rows fs ms
     → (conforms T a_schema (object ms) ≡ true)
@@ -70,16 +70,16 @@ kind_broken T ms p c b = record { kind = b.kind; tree = b.tree; is_asked = go b.
     go (inr h) = inr (among_rows (asking p b.kind b.tree) (of_members (root_asks T) ms) (T schema_data)
         (each made_optional any_rows) h)
 
--- a refusal of an object as the kind of a schema is one of it as a schema
+-- an error of reading an object as the kind of a schema is an error of reading it as a schema
 pub kind_fails : (f : Fault) (ms : Members) → Fails f a_schema_kind (object ms) → Fails f a_schema (object ms)
 kind_fails f ms h = fails_moved f a_schema_kind a_schema (object ms) (object ms) (kind_broken final_tables ms) h
 
--- the rows of a schema look at each member once at most
+-- no name is taken by two rows of a schema
 schema_apart : rows_apart (join (final_tables schema_data) optional_rows) ≡ true
 unfolding final_tables tables_with optional_rows any_rows
 schema_apart = refl
 
--- the rows that every schema has and those of the kind names weigh at most what the members do
+-- the fields that every schema has and those of the kind names contain at most as many values as the members
 pub schema_weight-le : (ms : Members) → rows_weight (final_tables schema_data) ms + rows_weight optional_rows ms ≤
     members_size ms
 schema_weight-le ms =

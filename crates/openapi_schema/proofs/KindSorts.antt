@@ -1,4 +1,4 @@
--- The sort of a schema, by what stands under the kind names.
+-- The sort of a schema, given the values under the kind names.
 use Rattle.std.proofs.Common.{◌≡◌, ℕ, true, false, not, cond, List, Option, Some, None, is_some, string_bytes, refl}
 use Rattle.std.proofs.Common.{sym, ap, ◌∙◌}
 use Rattle.std.specs.Option.{option_map}
@@ -13,7 +13,7 @@ use Rattle.openapi_schema.specs.declared.kind_names.FirstNames.{FirstNames}
 use Rattle.openapi_schema.specs.declared.kind_names.LastNames.{LastNames}
 use Rattle.openapi_schema.proofs.RawSort.{presence-read, type_read, sort_of-names}
 
--- a flag that something is there is set where its form is not absent
+-- an optional value is `Some` if and only if its form is not absent
 pub flag_there : {X : Type 0} → (view : X → Form) → ((x : X) → is_absent (view x) ≡ false) → (o : Option X)
     → is_some o ≡ not (is_absent (optional_form view o))
 flag_there view h None = refl
@@ -26,7 +26,7 @@ pub mask_read : (a : FirstNames) (b : LastNames) (ms : Members) (m : ℕ)
 mask_read a b ms m rows h =
     h ∙ ap mask_of (sym (presence-read final_tables ms (kind_name_rows a b) rows))
 
--- the type that was read is what stands under `type`
+-- the type that was read is the value of `type`
 pub type_in : (a : FirstNames) (b : LastNames) (ms : Members) → AreRows final_tables optional_rows
     (kind_name_rows a b) ms
     → IsType (option_map string_bytes a.plain.typ) (members_list ms)

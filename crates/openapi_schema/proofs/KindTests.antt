@@ -1,4 +1,4 @@
--- The further conditions of the sorts, by what stands under the kind names.
+-- The further conditions of the sorts, given the values under the kind names.
 use Rattle.std.proofs.Common.{◌≡◌, Bool, true, false, ◌&&◌, List, Option, Some, None, Result, Ok, Err, IfOk, codes}
 use Rattle.std.proofs.Common.{refl, sym, ap, ◌∙◌, subst}
 use Rattle.std.specs.Borrow.{Bor}
@@ -21,20 +21,20 @@ use Rattle.openapi_schema.specs.declared.schema.SchemaKind.{SchemaKind}
 use Rattle.openapi_schema.proofs.KindSorts.{sort_passes, sort_fails}
 use Rattle.openapi_schema.proofs.RawSort.{enumeration_read, limit_read}
 
--- the form of trees that may be lent
+-- the form of the nodes that an optional borrow refers to
 lent_form : (o : Option (Bor (List Tree))) → optional_form (λ nodes. trees_form nodes.now) o
     ≡ optional_form trees_form (trees_in o)
 lent_form None = refl
 lent_form (Some nodes) = refl
 
--- the slot of an enumeration, by what stands under its name
+-- the form of an enumeration, given the value of `enum`
 pub is_enumeration : {X : Type 0} → (tree_in : X → Tree) (v : Vec (Option X)) (b : LastNames)
     → list_form (entry_form tree_in) v ≡ enumeration_slot (trees_in b.enumeration) → IsEnumeration tree_in v b
 is_enumeration tree_in v b h = h ∙ ap (or_else (sequence no_forms)) (sym (lent_form b.enumeration))
 
 module _ (a : FirstNames) (b : LastNames) (ms : Members) (rows : AreRows final_tables optional_rows
     (kind_name_rows a b) ms) where
-  -- what stands under `enum` passes a test where its entries do
+  -- the value of `enum` passes a test if and only if its entries do
   pub entries_held : (p : Tree → Bool) → entries_pass p (held (codes "enum") (members_list ms))
       ≡ entries_test p (trees_in b.enumeration)
   unfolding optional_rows any_rows
@@ -43,8 +43,8 @@ module _ (a : FirstNames) (b : LastNames) (ms : Members) (rows : AreRows final_t
       enumeration_read final_tables ms p (trees_in b.enumeration)
       (subst P (lent_form b.enumeration) rows.1.1.1.1.1.1.1.1.1.1.1.1.1.1.1.1.0)
 
-  -- what an integer asks further: that the entries of its enumeration and its limits fit 64 bits
-  -- with sign, where they are not null
+  -- what an integer requires further: the entries of its enumeration and its limits are in the range
+  -- of `i64`, if they are not null
   pub integer_further : further integer_sort (members_list ms)
       ≡ (entries_test is_null_or_signed (trees_in b.enumeration) && limit_test a.plain.multiple_of && limit_test a.plain.minimum
       && limit_test a.plain.maximum)

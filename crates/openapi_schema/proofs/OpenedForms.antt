@@ -27,54 +27,54 @@ use Rattle.openapi_schema.specs.declared.schema.SchemaType.TheVariants as typ
 use Rattle.openapi_schema.proofs.AnyForms.{any_rows-level}
 use Rattle.openapi_schema.proofs.KindForms.{array_rows-level, object_rows-level}
 
--- the type of a text: its sort, an absent slot for `type`, and the slots of its rows
+-- the type of a text: its sort, an absent slot for `type`, and the forms of its fields
 pub string_rows-type : (x : StringType) → schema_type_rows (typ.String x) ≡ (string_sort, absent ∷ string_type_rows x)
 string_rows-type x = search (rules, the_lemmas)
 
--- the type of a number: its sort, an absent slot for `type`, and the slots of its rows
+-- the type of a number: its sort, an absent slot for `type`, and the forms of its fields
 pub number_rows-type : (x : NumberType) → schema_type_rows (typ.Number x) ≡ (number_sort, absent ∷ number_type_rows x)
 number_rows-type x = search (rules, the_lemmas)
 
--- the type of a whole number: its sort, an absent slot for `type`, and the slots of its rows
+-- the type of a whole number: its sort, an absent slot for `type`, and the forms of its fields
 pub integer_rows-type : (x : IntegerType)
     → schema_type_rows (typ.Integer x) ≡ (integer_sort, absent ∷ integer_type_rows x)
 integer_rows-type x = search (rules, the_lemmas)
 
--- the type of a flag: its sort, an absent slot for `type`, and the slot of its row
+-- the type of a flag: its sort, an absent slot for `type`, and the form of its field
 pub boolean_rows-type : (x : BooleanType)
     → schema_type_rows (typ.Boolean x) ≡ (boolean_sort, absent ∷ boolean_type_rows x)
 boolean_rows-type x = search (rules, the_lemmas)
 
--- the type of an object: its sort, an absent slot for `type`, and the slots of its rows
+-- the type of an object: its sort, an absent slot for `type`, and the forms of its fields
 pub object_rows-type : (x : ObjectType) → schema_type_rows (typ.Object x) ≡ (object_sort, absent ∷ object_type_rows x)
 object_rows-type x = search (rules, the_lemmas)
 
--- the type of an array: its sort, an absent slot for `type`, and the slots of its rows
+-- the type of an array: its sort, an absent slot for `type`, and the forms of its fields
 pub array_rows-type : (x : ArrayType) → schema_type_rows (typ.Array x) ≡ (array_sort, absent ∷ array_type_rows x)
 array_rows-type x = search (rules, the_lemmas)
 
--- the rows of a type are its fields
+-- the forms that the fold gives for an object are those of its fields
 pub object_rows-out : (x : ObjectType) → object_type_rows x ≡ object_fields x
 object_rows-out x =
     fold_out-ObjectType Form Sorted Sorted (List Form) (List Form) (List Form) Form additional_step schema_kind_step
     schema_type_step any_schema_step array_type_step object_type_step schema_step x
     ∙ object_rows-level (out-ObjectType x)
 
--- the rows of an array are the forms of its fields
+-- the forms that the fold gives for an array are those of its fields
 pub array_rows-out : (x : ArrayType) → array_type_rows x ≡ array_fields x
 array_rows-out x =
     fold_out-ArrayType Form Sorted Sorted (List Form) (List Form) (List Form) Form additional_step schema_kind_step
     schema_type_step any_schema_step array_type_step object_type_step schema_step x
     ∙ array_rows-level (out-ArrayType x)
 
--- the rows of a schema of no sort in particular are the forms of its fields
+-- the forms that the fold gives for a schema of no sort in particular are those of its fields
 pub any_rows-out : (x : AnySchema) → any_schema_rows x ≡ any_fields x
 any_rows-out x =
     fold_out-AnySchema Form Sorted Sorted (List Form) (List Form) (List Form) Form additional_step schema_kind_step
     schema_type_step any_schema_step array_type_step object_type_step schema_step x
     ∙ any_rows-level (out-AnySchema x)
 
--- a schema is the slots of what every schema can say, and those of its kind
+-- the form of a schema holds the forms of the fields that every schema can have, and those of its kind
 pub schema_form-out : (x : Schema) → schema_form x
     ≡ fields (sort (schema_kind_rows (out-Schema x).schema_kind).0)
     (forms_of (join (schema_data_rows (out-Schema x).schema_data) (schema_kind_rows (out-Schema x).schema_kind).1))

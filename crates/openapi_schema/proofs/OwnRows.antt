@@ -1,4 +1,4 @@
--- What the rows of a type that holds schemas read, by its own table.
+-- What is read for the fields of a type that contains schemas, with its own field table.
 use Rattle.std.proofs.Common.{◌≡◌, ◌+◌, Bool, true, false, ◌&&◌, cond, List, [], ◌∷◌, refl, sym, ◌∙◌, subst, codes}
 use Rattle.std.proofs.Common.{arith, inl, inr}
 use Rattle.openapi_node.specs.Place.{Place}
@@ -65,7 +65,7 @@ any_last_read : (e : Form) (b : LastNames) (ms : Members)
 unfolding any_rest any_last final_tables tables_with any_rows
 any_last_read e b ms g h = (h.0, (h.1.0, (h.1.1.0, (h.1.1.1.0, (g, h.1.1.1.1)))))
 
--- what the rows of both halves and that of `enum` read is what the table of such a schema reads
+-- what is read for the fields of both halves and for `enum` is what is read with the field table of such a schema
 pub any_read : (a : FirstNames) (e : Form) (b : LastNames) (x : AnySchema) (ms : Members)
     → any_fields x ≡ join (any_first_rows a) (any_last_rows e b)
     → AreRows final_tables any_first (any_first_rows a) ms
@@ -77,14 +77,15 @@ any_read a e b x ms same h g k =
     (subst (λ fs. AreRows final_tables (join any_first any_last) fs ms) (sym same)
     (rows_join final_tables any_first any_last (any_first_rows a) (any_last_rows e b) ms h (any_last_read e b ms g k)))
 
--- the table weighs what its first half, the row of `enum` and the rest of the last half weigh
+-- the fields of the table contain as many values as those of its first half, `enum` and the rest of the last half
 pub any_weight : (ms : Members) → rows_weight (final_tables any_schema) ms
     ≡ rows_weight any_first ms + row_weight (row (codes "enum") listed (list_of any_tree)) ms
     + rows_weight any_rest ms
 unfolding any_first any_rest any_last final_tables tables_with any_rows
 any_weight ms = omega arith
 
--- what is broken of the kind of a schema is broken of a schema of no sort in particular, whose rows skip null no more
+-- a rule that an object breaks as the kind of a schema is also broken by it as a schema of no sort in particular, whose
+-- fields skip null in no more cases
 among_parts : {A : Type 0} → (x : A) (xs ys us vs : List A) → (Among x xs → Among x us) → (Among x ys → Among x vs)
     → Among x (join xs ys) → Among x (join us vs)
 among_parts x [] ys us vs f g h = among_right x us vs (g h)
@@ -122,6 +123,6 @@ any_broken ms p c b = record { kind = b.kind; tree = b.tree; is_asked = go b.is_
     go (inl e) = absurd (none_broken final_tables c (asking p b.kind b.tree) _ _ refl e b.breaks)
     go (inr h) = inr (rows_asked (asking p b.kind b.tree) (of_members (root_asks final_tables) ms) any_rows h)
 
--- a refusal of an object as the kind of a schema is one of it as a schema of no sort in particular
+-- an error of reading an object as the kind of a schema is an error of reading it as a schema of no sort in particular
 pub any_fails : (f : Fault) (ms : Members) → Fails f a_schema_kind (object ms) → Fails f (by any_schema) (object ms)
 any_fails f ms h = fails_moved f a_schema_kind (by any_schema) (object ms) (object ms) (any_broken ms) h

@@ -116,7 +116,7 @@ last_whole b ms h i e o a n t = (
   ),
 )
 
--- the last half weighs what its rows of one text, number or flag and the six others weigh
+-- the rows of the last half hold as many values as its rows of one text, number or flag and its six others
 pub last_weight : (ms : Members) → rows_weight last_optional ms
     ≡ rows_weight plain_last ms + row_weight (row (codes "items") optional (ref_to a_schema)) ms
     + row_weight (row (codes "enum") optional (list_of any_tree)) ms

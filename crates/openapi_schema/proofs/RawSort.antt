@@ -1,4 +1,4 @@
--- The sort of a schema, by what the optional rows of the kind names read.
+-- The sort of a schema, given what is read for the optional fields of the kind names.
 use Rattle.std.proofs.Common.{◌≡◌, ℕ, ℤ, Bool, true, false, not, cond, ◌&&◌, ◌||◌, List, [], ◌∷◌, Option, Some, None}
 use Rattle.std.proofs.Common.{codes, refl, sym, ap, ◌∙◌, String, string_bytes}
 use Rattle.std.specs.Option.{option_map}
@@ -34,13 +34,13 @@ presence_read T ms (row n optional k ∷ ws) (f ∷ fs) h r =
     λ i. not (absent_held T n k ms f r.0 i) ∷ presence_read T ms ws fs h r.1 i
 presence_read T ms (w ∷ ws) fs h r = cc
 
--- which of the kind names are present, by what their rows read
+-- which of the kind names are present, given what is read for them
 pub presence-read : (T : Tables) (ms : Members) (fs : List Form) → AreRows T optional_rows fs ms
     → presence (members_list ms) ≡ each (λ f. not (is_absent f)) fs
 unfolding presence kind_names optional_rows any_rows is_optional
 presence-read T ms fs r = presence_read T ms (each made_optional any_rows) fs refl r
 
--- what a row of texts reads
+-- what is read for a field whose value is a text
 text_read : (T : Tables) (t : Tree) (o : Option (String Global)) → (is_null t || conforms T any_text t) ≡ true
     → cond (is_null t) absent (form T any_text t) ≡ optional_form text_form o → (n : List (Entry Tree))
     → held (codes "type") n ≡ t
@@ -50,7 +50,7 @@ text_read T (text x) (Some s) h e n u = let same : x ≡ string_bytes s = cc in 
 text_read T t (Some s) h e n u = cc
 text_read T t o h e n u = cc
 
--- what the row of `type` reads is what stands under that name
+-- what is read for the field `type` is the value of that name
 pub type_read : (T : Tables) (ms : Members) (o : Option (String Global))
     → RowGives T (row (codes "type") optional any_text) ms (optional_form text_form o)
     → IsType (option_map string_bytes o) (members_list ms)
@@ -109,7 +109,7 @@ entries_read T p (list xs) (Some ts) h e =
 entries_read T p t (Some ts) h e = cc
 entries_read T p t o h e = cc
 
--- the entries under `enum` pass a test exactly where those that its row reads do
+-- the entries of `enum` pass a test if and only if those that are read for its field do
 pub enumeration_read : (T : Tables) (ms : Members) (p : Tree → Bool) (o : Option (List Tree))
     → RowGives T (row (codes "enum") optional (list_of any_tree)) ms (optional_form trees_form o)
     → entries_pass p (held (codes "enum") (members_list ms)) ≡ entries_test p o
@@ -127,7 +127,7 @@ number_read T (whole y) (Some z) h e = let same : y ≡ z = cc in ap (λ x. is_n
 number_read T t (Some z) h e = cc
 number_read T t o h e = cc
 
--- what stands under a name is null or fits 64 bits with sign exactly where the limit read there does
+-- the value of a name is null or in the range of `i64` if and only if the limit that is read for it passes `limit_test`
 pub limit_read : (T : Tables) (ms : Members) (n : List ℕ) (o : Option ℤ)
     → RowGives T (row n optional (number unlimited)) ms (optional_form number_form o)
     → is_null_or_signed (held n (members_list ms)) ≡ limit_test o

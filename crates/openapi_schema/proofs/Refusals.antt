@@ -1,4 +1,5 @@
--- What is refused of an object as a schema, the kind of one, a reference to one, or a flag in the place of either.
+-- The errors of reading a value as a schema, as the kind of one, as a schema or a reference to one, or as a flag or
+-- either of these.
 use Rattle.std.proofs.Common.{◌≡◌, Bool, [], refl, sym, ap, ◌∙◌, subst, inl, inr}
 use Rattle.std.specs.Borrow.{Bor}
 use Rattle.openapi_map.specs.declared.OrderedMap.{OrderedMap}
@@ -23,11 +24,11 @@ use Rattle.openapi_fields.proofs.Referring.{fails_item, fails_moved, fails_wider
 use Rattle.openapi_fields.proofs.JoinedRows.{asks_join}
 use Rattle.openapi_schema.specs.SchemaForms.{schema_form}
 
--- where a reference or a schema is refused, it is refused where a flag might stand too
+-- an error of reading an object as a reference or a schema is also one where a flag is allowed
 pub other_fails : (f : Fault) (ms : Members) → Fails f (ref_to a_schema) (object ms) → Fails f flag_or_schema (object ms)
 other_fails f ms h = fails_wider f (ref_to a_schema) flag_or_schema (object ms) (λ a x. inr x) h
 
--- what is broken of the rows that every schema has is broken of the schema
+-- a rule that is broken in the fields that every schema has is broken in the schema
 nothing_missing : (c : Cause) (a : Asking) (ms : Members) → a ≡ asking [] (by schema_data) (object ms)
     → Among c (causes final_tables a.kind a.tree) → ⊥
 unfolding final_tables tables_with checked_rows
@@ -53,11 +54,11 @@ data_broken ms p c b = record { kind = b.kind; tree = b.tree; is_asked = go b.is
         (among_left (asking p b.kind b.tree) (asks_rows (of_members (root_asks final_tables) ms)
         (final_tables schema_data)) _ h))
 
--- a refusal of what every schema can say is one of the schema
+-- an error of reading the fields that every schema has is an error of reading the schema
 pub data_fails : (f : Fault) (ms : Members) → Fails f (by schema_data) (object ms) → Fails f a_schema (object ms)
 data_fails f ms h = fails_moved f (by schema_data) a_schema (object ms) (object ms) (data_broken ms) h
 
--- a look that shows neither a flag nor an object
+-- a view of a value that is neither a flag nor an object
 pub not_flag_or_object : (w : View) → ((b : Bool) → w ≡ v.Flag b → ⊥)
     → ((m : Bor (OrderedMap Node)) → w ≡ v.Object m → ⊥)
     → Among (wrong_kind words.FlagOrObject) (causes final_tables flag_or_schema (shown w))
@@ -65,19 +66,19 @@ not_flag_or_object (v.Flag b) g h = absurd (g b refl)
 not_flag_or_object (v.Object m) g h = absurd (h m refl)
 not_flag_or_object w g h = inl refl
 
--- a look that shows no object, where a schema or the kind of one is asked
+-- a view of a value that is no object, where a schema is required
 pub not_schema : (w : View) → ((m : Bor (OrderedMap Node)) → w ≡ v.Object m → ⊥)
     → Among (wrong_kind words.Object) (causes final_tables a_schema (shown w))
 not_schema (v.Object m) h = absurd (h m refl)
 not_schema w h = inl refl
 
--- a look that shows no object, where the kind of a schema is asked
+-- a view of a value that is no object, where the kind of a schema is required
 pub not_schema_kind : (w : View) → ((m : Bor (OrderedMap Node)) → w ≡ v.Object m → ⊥)
     → Among (wrong_kind words.Object) (causes final_tables a_schema_kind (shown w))
 not_schema_kind (v.Object m) h = absurd (h m refl)
 not_schema_kind w h = inl refl
 
--- and where a reference to a schema may stand too
+-- a view of a value that is no object, where a schema or a reference to one is required
 pub not_object_fails : (f : Fault) (w : View) → ((m : Bor (OrderedMap Node)) → w ≡ v.Object m → ⊥)
     → f.place.items ≡ [] → f.cause ≡ WrongKind words.Object → Fails f (ref_to a_schema) (shown w)
 not_object_fails f w h p e =

@@ -1,4 +1,4 @@
--- A schema by its parts: what is read of them, and how much they look at.
+-- A schema by its parts: what is read of them, and the access count of reading them.
 use Rattle.std.proofs.Common.{◌≡◌, ◌+◌, ◌*◌, ◌≤◌, ℕ, List, Option, Some, None, option_map, Result, Ok, Err, IfOk, IfErr}
 use Rattle.std.proofs.Common.{refl, sym, ap, ◌∙◌, subst, arith, rules}
 use Rattle.std.specs.Global.{Box}
@@ -42,7 +42,7 @@ halves : join first_optional last_optional ≡ optional_rows
 unfolding first_optional last_optional optional_rows any_rows
 halves = refl
 
--- what the rows of both halves read is what the rows of all kind names read
+-- what is read for the fields of both halves is what is read for all kind names
 pub names_rows : (a : FirstNames) (b : LastNames) (ms : Members) → AreRows final_tables first_optional (first_rows a) ms
     → AreRows final_tables last_optional (last_rows b) ms
     → AreRows final_tables optional_rows (kind_name_rows a b) ms
@@ -50,26 +50,26 @@ names_rows a b ms h k =
     subst (λ ws. AreRows final_tables ws (kind_name_rows a b) ms) halves
     (rows_join final_tables first_optional last_optional (first_rows a) (last_rows b) ms h k)
 
--- the rows of all kind names weigh what those of both halves weigh
+-- the fields of all kind names contain as many values as those of both halves
 pub names_weight : (ms : Members) → rows_weight optional_rows ms
     ≡ rows_weight first_optional ms + rows_weight last_optional ms
 names_weight ms =
     sym (ap (λ ws. rows_weight ws ms) halves) ∙ rows_weight-join first_optional last_optional ms
 
--- what is made of what stands under the names is the kind of the schema
+-- what is made from the values under the kind names is the kind of the schema
 pub kind_read : (r : Result SchemaKind Fault) (a : FirstNames) (b : LastNames) (ms : Members)
     → AreRows final_tables optional_rows (kind_name_rows a b) ms → IfOk r (λ k. IsKind k a b) → IfErr r IsMemory
     → KindReadAs r ms
 kind_read (Ok k) a b ms rows h g = (kind_name_rows a b, rows, h ms rows)
 kind_read (Err f) a b ms rows h g = memory_fails f a_schema_kind (object ms) g
 
--- where no reference was read, none stands there
+-- if no reference was read, there is none
 pub none_referred : {X : Type 0} (f : X → List ℕ) (o : Option X) (r : Option (List ℕ)) → ((x : X) → o ≡ Some x → ⊥)
     → option_map f o ≡ r → r ≡ None
 none_referred f None r h e = sym e
 none_referred f (Some x) r h e = absurd (h x refl)
 
--- the entries that are left to look at
+-- the entries of an enumeration that are not accessed yet
 pub entries_left-le : (r : Result LastNames Fault) (n m : ℕ) → n ≤ m
     → IfOk r (λ b. n + 2 * entries_weight (trees_in b.enumeration) ≤ m) → n + 2 * entries_left r ≤ m
 entries_left-le (Ok b) n m h k = k
@@ -82,13 +82,13 @@ kind_reads k ms h =
     let g = kind_gives final_tables h.0 ms h.1 in
     (g.0, g.1 ∙ ap (λ (s : Sorted). fields (sort s.0) (forms_of s.1)) (sym h.2))
 
--- the kind that was read of some members, or the refusal, is what is read of their object
+-- the kind that was read from some members, or the error, is what is read from their object
 pub kind_given : (r : Result SchemaKind Fault) (ms : Members) → KindReadAs r ms
     → ReadAs schema_kind_form r a_schema_kind (object ms)
 kind_given (Ok k) ms h = kind_reads k ms h
 kind_given (Err f) ms h = h
 
--- a schema has the slots of what every schema can say, and those of its kind
+-- the form of a schema holds the forms of the fields that every schema can have, and those of its kind
 pub schema_form-roll : (d : Schema-F the_data the_data-1 the_data-2 the_data-3 the_data-4 the_data-5 the_data-6)
     → schema_form (roll-Schema d)
     ≡ fields (sort (schema_kind_rows d.schema_kind).0) (forms_of (join (schema_data_rows d.schema_data)

@@ -1,4 +1,4 @@
--- The rows of a sort read what the optional rows of the kind names read.
+-- What is read for the fields of a sort is what is read for the optional fields of the kind names.
 use Rattle.std.proofs.Common.{◌≡◌, ℕ, Bool, true, false, cond, ◌&&◌, ◌||◌, List, [], ◌∷◌, Option, Some, None, refl, sym}
 use Rattle.std.proofs.Common.{ap, ◌∙◌, subst}
 use Rattle.std.proofs.lemmas.Bool.{and_parts}
@@ -20,7 +20,7 @@ use Rattle.openapi_tables.proofs.TreeLaws.{tree_of_root-seen}
 use Rattle.openapi_schema.specs.RawSlots.{optional_rows, or_else, as_format, slot_as, slot_of, sort_slots}
 use Rattle.openapi_schema_types.proofs.HeldRows.{form_there, conforms_held, form_held}
 
--- kinds whose form is the tree itself
+-- kinds whose form is the node itself
 is_bare : Kind → Bool
 is_bare any_text = true
 is_bare any_flag = true
@@ -51,7 +51,7 @@ bare_form T k (list ts) h =
 bare_form T k (object ms) h =
     bare_root T (an_object (of_members (root_form T) ms)) k h ∙ ap leaf (tree_of_root-seen (root_form T) (object ms))
 
--- kinds that read the same form of each tree
+-- kinds for which the same form is read from each node
 alike_inside : Kind → Kind → Bool
 alike_inside (ref_to a_schema) (ref_to a_schema) = true
 alike_inside j k = is_bare j && is_bare k
@@ -99,7 +99,7 @@ or_else_there : (d f : Form) → is_absent f ≡ false → or_else d f ≡ f
 or_else_there d absent h = cc
 or_else_there d f h = refl
 
--- whether the slot of a row is that of the optional row of a kind, but for its default
+-- whether the form of a field is that of an optional field of a kind, apart from its default
 slot_fits : Row → Kind → Bool
 slot_fits (row n required j) k = alike j k
 slot_fits (row n optional j) k = alike j k
@@ -140,7 +140,7 @@ at : (T : Tables) (a n : List ℕ) (k : Kind) (ms : Members) (f : Form) → a �
     → RowGives T (row a optional k) ms f
 at T a n k ms f e r = let P : List ℕ → Type 0 = λ x. RowGives T (row x optional k) ms f in subst P (sym e) r
 
--- the slot of a row whose kind fits that of the optional row of its name
+-- the form of a field whose kind fits that of the optional field of its name
 row_slot : (T : Tables) (w : Row) (n : List ℕ) (k : Kind) (ms : Members) (f : Form) → row_name w ≡ n
     → slot_fits w k ≡ true → RowGives T (row n optional k) ms f → row_form T w ms ≡ slot_as w f
 unfolding slot_fits
@@ -181,7 +181,7 @@ rows_at T ms (row a m k ∷ ws) (f ∷ fs) n w p r h = go (rows_at T ms ws fs n 
 rows_at T ms [] fs n w p r h = cc
 rows_at T ms ws fs n w p r h = cc
 
--- whether the optional row of a row's name has a kind that fits
+-- whether the optional field of a field's name has a kind that fits
 found_fits : Row → Option Row → Bool
 found_fits w None = false
 found_fits w (Some (row a optional k)) = same_text (row_name w) a && slot_fits w k
@@ -234,7 +234,7 @@ module _ (T : Tables) (ms : Members) (fs : List Form) (rows : AreRows T optional
       let p = and_parts (row_covered w) (every row_covered ws) h in
       λ i. covered_slot w p.0 i ∷ each_slot ws p.1 i
 
-  -- what the rows of a sort read
+  -- what is read for the fields of a sort
   pub sort_slots-read : (s : Sort) → each (λ w. row_form T w ms) (sort_rows s) ≡ sort_slots s fs
   unfolding sort_slots
   sort_slots-read s = each_slot (sort_rows s) (sort_in (λ x. every row_covered (sort_rows x)) all_covered s)

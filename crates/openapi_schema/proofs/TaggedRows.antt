@@ -1,4 +1,4 @@
--- The members of a kind behind others, the `type` first.
+-- The members of a kind after others, the `type` first.
 use Rattle.std.proofs.Common.{◌≡◌, ℕ, zero, suc, true, List, ◌++◌, Option, Some, None, refl, ap, ◌∙◌}
 use Rattle.openapi_map.specs.Entries.{Entries}
 use Rattle.openapi_node.specs.Tree.{Tree}
@@ -21,21 +21,21 @@ tag_alone None rows out h j e at = cc
 tag_alone (Some w) rows out h zero e at = h zero e at
 tag_alone (Some w) rows out h (suc j) e at = cc
 
--- the members of a kind behind others, the `type` first
+-- the members of a kind after others, the `type` first
 module _ (first rest : List Slot) (w : Option (List ℕ)) (apart : slots_apart (join first (join (tag_slots w) rest))
     ≡ true) (out rows : Entries Tree) (done : IsWritten final_tables first out)
     (more : IsWritten final_tables rest rows) where
-  -- the `type` and the members behind it are what the slots of both are written as
+  -- the `type` and the members after it are what the slots of both are written as
   pub tagged_rows : IsWritten final_tables (join (tag_slots w) rest) (tag_members w ++ rows)
   tagged_rows = written_behind (tag_slots w) rest (tag_members w) rows (tag_written w) more
 
-  -- the name of the `type` is not there yet
+  -- the name `type` is not present yet
   pub tag_new : AreNew (tag_members w) out
   tag_new =
       tag_alone w rows out (new_behind first (join (tag_slots w) rest) out (tag_members w ++ rows) apart done
       tagged_rows)
 
-  -- nor are the names of the members behind it, once the `type` is there
+  -- nor are the names of the members after it, when `type` is present
   pub rows_new : AreNew rows (out ++ tag_members w)
   rows_new =
       new_behind (join first (tag_slots w)) rest (out ++ tag_members w) rows

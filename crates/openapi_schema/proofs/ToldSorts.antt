@@ -1,4 +1,4 @@
--- The sorts that one name alone tells: the name is there.
+-- The sorts that one name alone determines: the name is present.
 use Rattle.std.proofs.Common.{◌≡◌, Bool, true, false, not, ℕ, cond, ◌||◌, List, Some, None, Option, codes, refl, sym}
 use Rattle.std.proofs.Common.{ap, ◌∙◌, true≢false, unwrap_or}
 use Rattle.std.specs.Global.{Vec}
@@ -12,7 +12,7 @@ use Rattle.openapi_fields.specs.Forms.{optional_form, list_form}
 use Rattle.openapi_schema_types.specs.Masks.{sort_by_names}
 use Rattle.openapi_schema_types.proofs.HeldRows.{absent_held}
 
--- whether what tells a sort is there: a name by which alone it is told
+-- whether the name that alone determines a sort is present; true for a sort without such a name
 abbrev told : Bool → Bool → Bool → Bool → Sort → Bool
 told a b c d one_of_sort = a
 told a b c d all_of_sort = b
@@ -63,7 +63,7 @@ module _ (es : List (Entry Tree)) where
       go true = possible_told (held (codes "type") es)
       go false = refl
 
--- a name that tells a sort has a value
+-- a name that is present is not read as `None`
 pub told_there : {X : Type 0} → (view : X → Form) (n : List ℕ) (k : Kind) (ms : Members) (o : Option X) → o ≡ None
     → RowGives final_tables (row n optional k) ms (optional_form view o) → is_present (members_list ms) n ≡ true → ⊥
 told_there view n k ms o e r h =
@@ -87,7 +87,7 @@ any_of_told es e = ap (told_in es) e ∙ named_told es
 pub not_told : (es : List (Entry Tree)) → not_sort ≡ sort_by_names es → is_present es (codes "not") ≡ true
 not_told es e = ap (told_in es) e ∙ named_told es
 
--- a list that is there is its slot
+-- a list that is present has the form of the optional list
 pub there_slot : {X : Type 0} → (view : X → Form) (o : Option (Vec X)) (d : Vec X) → (o ≡ None → ⊥)
     → list_form view (unwrap_or o d) ≡ optional_form (list_form view) o
 there_slot view None d h = absurd (h refl)

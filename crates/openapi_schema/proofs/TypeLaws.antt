@@ -35,7 +35,7 @@ IsTyped s =
     × (sorted_slots s ≡ (constant (codes "type") (sort_word s.0), absent)
     ∷ slots (case_rows final_tables type_cases (sort_word s.0)) (behind_tag s.1))
 
--- a type with what stands inside seen as forms
+-- one level of a type with the values inside replaced with their forms
 abbrev level : SchemaType-F the_data the_data-1 the_data-2 the_data-3 the_data-4 the_data-5 the_data-6
     → SchemaType-F Form Sorted Sorted (List Form) (List Form) (List Form) Form
 level d = map-SchemaType the_data the_data-1 the_data-2 the_data-3 the_data-4 the_data-5 the_data-6 Form Sorted Sorted
@@ -59,11 +59,11 @@ module _ (t : SchemaType) where
   same : type_slots t ≡ tagged_slots (codes "type") type_cases schema_type_word schema_type_fields t
   same = (is_typed t).1
 
-  -- its slots with their `type` are those without it, behind it
+  -- its slots with their `type` are those without it, after it
   pub type_again : join (tag_slots (Some (schema_type_word t))) (untagged (type_slots t)) ≡ type_slots t
   type_again = subst (λ ss. join (tag_slots (Some (schema_type_word t))) (untagged ss) ≡ ss) (sym same) refl
 
-  -- a refusal by its slots without their `type` is a refusal of the whole type
+  -- an error of writing its slots without `type` is an error of writing the whole type
   pub type_loses : (f : Fault) → NotWritable f (slots_lost final_tables (untagged (type_slots t)))
       → NotWritable f (unwritable final_tables schema_type (schema_type_form t))
   type_loses f h =
@@ -85,15 +85,15 @@ module _ (t : SchemaType) where
     started : IsWritten final_tables [] out
     started = none_written final_tables out new
 
-    -- the name of the `type` is not there yet in an empty object
+    -- the name `type` is not present yet in an empty object
     pub type_tag_new : AreNew (tag_members word) out
     type_tag_new = tag_new [] (untagged (type_slots t)) word parts_apart out rows started more
 
-    -- nor are the names of the members behind it, once the `type` is there
+    -- nor are the names of the members after it, when `type` is present
     pub type_rows_new : AreNew rows (out ++ tag_members word)
     type_rows_new = rows_new [] (untagged (type_slots t)) word parts_apart out rows started more
 
-    -- the object of all of them is what the type is written as, and nothing is lost
+    -- the object of all of them is what the type is written as, and nothing in it is unwritable
     pub type_written : (node : Tree) → node ≡ object (members_of (out ++ (tag_members word ++ rows)))
         → (node ≡ print final_tables schema_type (schema_type_form t))
         × (unwritable final_tables schema_type (schema_type_form t) ≡ [])

@@ -1,4 +1,4 @@
--- A schema as it is written: what every schema can say, and its kind.
+-- A schema as it is written: the fields that every schema can have, and its kind.
 use Rattle.std.proofs.Common.{◌≡◌, ℕ, true, List, [], ◌++◌, Option, refl, sym, ap, ◌∙◌, subst}
 use Rattle.std.proofs.lemmas.Bool.{and_parts}
 use Rattle.openapi_map.specs.Entries.{Entries}
@@ -25,7 +25,7 @@ use Rattle.openapi_fields.proofs.JoinedSlots.{loses_first, loses_wider, written_
 use Rattle.openapi_schema.proofs.TaggedRows.{rows_new, tag_new, tagged_rows}
 use Rattle.openapi_schema.proofs.OpenedForms.{schema_form-out}
 
--- an object by its sort is written as the slots of its rows
+-- a schema is written as the slots of its fields
 pub schema_print : (c : Choice) (fs : List Form) → print final_tables a_schema (fields c (forms_of fs))
     ≡ object (members_of (untied (slots_print final_tables (slots (rows_of final_tables a_schema c) fs))))
 schema_print c fs =
@@ -34,14 +34,14 @@ schema_print c fs =
     ∙ ap (λ l. object (of_list l)) (slots_print-rows final_tables ws fs)
     ∙ ap object (members_untied (slots_print final_tables (slots ws fs)))
 
--- and loses what they lose
+-- what is unwritable in a schema is what is unwritable in these slots
 pub schema_lost : (c : Choice) (fs : List Form) → unwritable final_tables a_schema (fields c (forms_of fs))
     ≡ slots_lost final_tables (slots (rows_of final_tables a_schema c) fs)
 schema_lost c fs =
     let ws = rows_of final_tables a_schema c in
     ap (λ l. rows_lost ws l) (of_forms-of (face_lost final_tables) fs) ∙ slots_lost-rows final_tables ws fs
 
--- the kind of a schema by itself is written as the slots of its rows
+-- the kind of a schema alone is written as the slots of its fields
 pub kind_print : (c : Choice) (fs : List Form) → print final_tables a_schema_kind (fields c (forms_of fs))
     ≡ object (members_of (untied (slots_print final_tables (slots (rows_of final_tables a_schema_kind c) fs))))
 kind_print c fs =
@@ -50,14 +50,14 @@ kind_print c fs =
     ∙ ap (λ l. object (of_list l)) (slots_print-rows final_tables ws fs)
     ∙ ap object (members_untied (slots_print final_tables (slots ws fs)))
 
--- and it loses what these slots lose
+-- what is unwritable in it is what is unwritable in these slots
 pub kind_lost : (c : Choice) (fs : List Form) → unwritable final_tables a_schema_kind (fields c (forms_of fs))
     ≡ slots_lost final_tables (slots (rows_of final_tables a_schema_kind c) fs)
 kind_lost c fs =
     let ws = rows_of final_tables a_schema_kind c in
     ap (λ l. rows_lost ws l) (of_forms-of (face_lost final_tables) fs) ∙ slots_lost-rows final_tables ws fs
 
--- the slots of a schema are those of what every schema can say, and those of its kind
+-- the slots of a schema are those of the fields that every schema can have, and those of its kind
 split : (d : SchemaData) (s : Sort) (fs : List Form)
     → slots (rows_of final_tables a_schema (sort s)) (join (schema_data_rows d) fs)
     ≡ join (record_slots schema_data schema_data_rows d) (slots (sort_rows s) fs)
@@ -94,13 +94,13 @@ module _ (x : Schema) where
       ap (print final_tables a_schema) (schema_form-out x) ∙ schema_print (sort its) both
       ∙ ap (λ ss. object (members_of (untied (slots_print final_tables ss)))) here
 
-  -- what a schema loses is what its slots lose
+  -- what is unwritable in a schema is what is unwritable in its slots
   pub its_lost : unwritable final_tables a_schema (schema_form x) ≡ slots_lost final_tables (join first second)
   its_lost =
       ap (unwritable final_tables a_schema) (schema_form-out x) ∙ schema_lost (sort its) both
       ∙ ap (slots_lost final_tables) here
 
-  -- a refusal by the slots of what every schema can say is a refusal of the schema
+  -- an error of writing the slots of the fields that every schema can have is an error of writing the schema
   pub data_loses : (f : Fault) → NotWritable f (slots_lost final_tables first)
       → NotWritable f (unwritable final_tables a_schema (schema_form x))
   data_loses f h =
@@ -118,15 +118,15 @@ module _ (x : Schema) where
     parts_apart : slots_apart parts ≡ true
     parts_apart = ap (λ ss. slots_apart (join first ss)) is ∙ its_slots_apart
 
-    -- the name of the `type` is not there yet, behind what every schema can say
+    -- the name `type` is not present yet, after the fields that every schema can have
     pub its_tag_new : AreNew (tag_members word) out
     its_tag_new = tag_new first (untagged second) word parts_apart out rows done more
 
-    -- nor are the names of the members behind it, once the `type` is there
+    -- nor are the names of the members after it, when `type` is present
     pub its_rows_new : AreNew rows (out ++ tag_members word)
     its_rows_new = rows_new first (untagged second) word parts_apart out rows done more
 
-    -- the object of all of them is what the schema is written as, and nothing is lost
+    -- the object of all of them is what the schema is written as, and nothing in it is unwritable
     pub schema_written : (node : Tree) → node ≡ object (members_of (out ++ (tag_members word ++ rows)))
         → (node ≡ print final_tables a_schema (schema_form x))
         × (unwritable final_tables a_schema (schema_form x) ≡ [])

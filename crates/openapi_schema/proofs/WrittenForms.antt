@@ -1,4 +1,4 @@
--- What is written of schemas, by what is written of their parts.
+-- What is written for schemas, given what is written for their parts.
 use Rattle.std.proofs.Common.{◌≡◌, ℕ, true, List, [], ◌∷◌, ◌++◌, Option, refl, sym, ap, ◌∙◌, subst}
 use Rattle.std.proofs.lemmas.Bool.{and_parts}
 use Rattle.openapi_map.specs.Entries.{Entries}
@@ -24,20 +24,20 @@ use Rattle.openapi_fields.proofs.JoinedSlots.{loses_second, loses_wider}
 use Rattle.openapi_schema.proofs.TaggedRows.{rows_new, tag_new, tagged_rows}
 use Rattle.openapi_schema.proofs.WholeSchemas.{first, second, its_lost, kind_lost, kind_print}
 
--- what slots lose without a `type` they lose with it
+-- what is unwritable in slots without a `type` is unwritable in them with it
 row_loses : (w : Row) (s : Slot) (ss : List Slot) (q : Place) → s.0 ≡ w
     → Among q (slots_lost final_tables (untagged_from w s ss)) → Among q (slots_lost final_tables (s ∷ ss))
 unfolding slots_lost
 row_loses (constant n v) s ss q e h = among_right q _ (slots_lost final_tables ss) h
 row_loses w s ss q e h = h
 
--- what slots lose without the `type` at their head they lose with it
+-- what is unwritable in slots without the `type` at their head is unwritable in them with it
 pub untagged_loses : (ss : List Slot) (q : Place) → Among q (slots_lost final_tables (untagged ss))
     → Among q (slots_lost final_tables ss)
 untagged_loses [] q h = h
 untagged_loses (s ∷ ss) q h = row_loses s.0 s ss q refl h
 
--- what its kind loses a schema loses
+-- an error of writing the slots of its kind is an error of writing a schema
 pub kind_loses : (x : Schema) (f : Fault) → NotWritable f (slots_lost final_tables (untagged (second x)))
     → NotWritable f (unwritable final_tables a_schema (schema_form x))
 kind_loses x f h =
@@ -60,7 +60,7 @@ module _ (k : SchemaKind) where
   unfolding rows_of
   alone_lost = kind_lost (sort its_sort) (schema_kind_rows k).1
 
-  -- a refusal by its slots without their `type` is a refusal of the whole kind
+  -- an error of writing its slots without `type` is an error of writing the whole kind
   pub alone_loses : (f : Fault) → NotWritable f (slots_lost final_tables (untagged (kind_slots k)))
       → NotWritable f (unwritable final_tables a_schema_kind (schema_kind_form k))
   alone_loses f h =
@@ -83,15 +83,15 @@ module _ (k : SchemaKind) where
     started : IsWritten final_tables [] out
     started = none_written final_tables out new
 
-    -- the name of the `type` is not there yet in an empty object
+    -- the name `type` is not present yet in an empty object
     pub alone_tag_new : AreNew (tag_members word) out
     alone_tag_new = tag_new [] (untagged (kind_slots k)) word parts_apart out rows started more
 
-    -- nor are the names of the members behind it, once the `type` is there
+    -- nor are the names of the members after it, when `type` is present
     pub alone_rows_new : AreNew rows (out ++ tag_members word)
     alone_rows_new = rows_new [] (untagged (kind_slots k)) word parts_apart out rows started more
 
-    -- the object of all of them is what the kind is written as, and nothing is lost
+    -- the object of all of them is what the kind is written as, and nothing in it is unwritable
     pub alone_written : (node : Tree) → node ≡ object (members_of (out ++ (tag_members word ++ rows)))
         → (node ≡ print final_tables a_schema_kind (schema_kind_form k))
         × (unwritable final_tables a_schema_kind (schema_kind_form k) ≡ [])

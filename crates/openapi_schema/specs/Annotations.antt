@@ -2,7 +2,7 @@
 use Rattle.std.specs.Prelude.{◌≡◌, false, [], None}
 use Rattle.openapi_schema_types.specs.declared.schema_data.SchemaData.{SchemaData}
 
--- no flag is set, and there is nothing else
+-- no flag is set, and every other field is `None` or empty
 pub record HasNoAnnotations (d : SchemaData) : Type 0 where
   pub nullable : d.nullable ≡ false
   pub read_only : d.read_only ≡ false

@@ -1,4 +1,4 @@
--- The forms of the fields of the types that hold schemas, in the order of the rows of their tables.
+-- The forms of the fields of the types that contain schemas, in the order of their field tables.
 use Rattle.std.specs.Prelude.{List, [], ◌∷◌}
 use Rattle.openapi_tables.specs.Kind.{object_type, array_type, any_schema}
 use Rattle.openapi_tables.specs.Form.{Form, leaf}
@@ -56,7 +56,7 @@ any_fields x =
     ∷ optional_form outer_box_form (out-AnySchema x).not
     ∷ []
 
--- the slots of each, by its own table
+-- the slots of each, with the rows of its own field table
 abbrev pub object_slots : ObjectType → List Slot
 object_slots = record_slots object_type object_fields
 

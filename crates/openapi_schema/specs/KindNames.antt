@@ -1,4 +1,4 @@
--- What stands under the kind names of a schema, as forms.
+-- The forms of the values under the kind names of a schema: the 24 names of the field table `any_schema`.
 use Rattle.std.specs.Prelude.{Bool, not, List, [], ◌∷◌, take, drop, codes}
 use Rattle.openapi_node.specs.Tree.{Tree}
 use Rattle.openapi_tables.specs.Lists.{each, join, only}
@@ -15,15 +15,16 @@ use Rattle.openapi_schema.specs.SchemaForms.{additional_form}
 use Rattle.openapi_schema.specs.declared.kind_names.FirstNames.{FirstNames}
 use Rattle.openapi_schema.specs.declared.kind_names.LastNames.{LastNames}
 
--- a list of trees that are kept
+-- the form of a list of nodes that are held as they are
 abbrev pub trees_form : List Tree → Form
 trees_form ts = sequence (forms_of (each leaf ts))
 
--- the form of a list or a map that may be missing, as it is
+-- the form of a list or a map that may be missing, unchanged: the default `d` is not used
 abbrev pub as_is : Form → Form → Form
 as_is d f = f
 
--- the forms of what stands under the first twelve names, with those of lists and maps by whether they may be missing
+-- the forms of the values under the first twelve kind names. for each list or map that may be missing, `list_as` is
+-- applied to the empty form and to its own form
 abbrev pub first_rows_by : (Form → Form → Form) → FirstNames → List Form
 first_rows_by list_as a =
     let plain = plain_first_rows a.plain in
@@ -33,7 +34,7 @@ first_rows_by list_as a =
     ∷ optional_form additional_form a.additional_properties
     ∷ drop 7 plain)
 
--- the same for the names that combine schemas
+-- the same for the names that combine schemas: `oneOf`, `allOf`, `anyOf` and `not`
 abbrev pub combined_rows_by : (Form → Form → Form) → LastNames → List Form
 combined_rows_by list_as b =
     list_as (sequence no_forms) (optional_form (list_form ref_form) b.one_of)
@@ -42,14 +43,14 @@ combined_rows_by list_as b =
     ∷ optional_form outer_box_form b.not
     ∷ []
 
--- the same for the last twelve names, with the form of the enumeration
+-- the same for the last twelve kind names, with a given form for `enum`
 abbrev pub last_rows_by : (Form → Form → Form) → Form → LastNames → List Form
 last_rows_by list_as entries b =
     let plain = plain_last_rows b.plain in
     optional_form inner_box_form b.items
     ∷ join (take 3 plain) (entries ∷ join (drop 3 plain) (combined_rows_by list_as b))
 
--- the forms of what stands under all names, of which any may be missing
+-- the forms of the values under the first, the last and all kind names; `absent` for a name that is missing
 abbrev pub first_rows : FirstNames → List Form
 first_rows = first_rows_by as_is
 
@@ -59,11 +60,11 @@ last_rows b = last_rows_by as_is (optional_form (λ nodes. trees_form nodes.now)
 abbrev pub kind_name_rows : FirstNames → LastNames → List Form
 kind_name_rows a b = join (first_rows a) (last_rows b)
 
--- under which of the names something stands
+-- for each kind name, whether it has a value: its form is not `absent`
 abbrev pub flags_in : FirstNames → LastNames → List Bool
 flags_in a b = each (λ f. not (is_absent f)) (kind_name_rows a b)
 
--- the rows of a schema of no sort in particular: the first twelve, the last twelve, and these but for the enumeration
+-- the rows of a schema of the sort `any_sort`: the first twelve, the last twelve, and the last twelve without `enum`
 unfoldable pub any_first : List Row
 any_first = take 12 (final_tables any_schema)
 
@@ -73,7 +74,7 @@ any_last = drop 12 (final_tables any_schema)
 unfoldable pub any_rest : List Row
 any_rest = only (λ w. not (is_named (codes "enum") w)) any_last
 
--- their forms, where a list or a map that is missing is empty
+-- the forms of these rows, where a list or a map that is missing is empty; the form of `enum` is given
 abbrev pub any_first_rows : FirstNames → List Form
 any_first_rows = first_rows_by or_else
 

@@ -1,4 +1,4 @@
--- The kind names of one text, number or flag.
+-- The kind names whose value is one text, number or flag.
 use Rattle.std.specs.Prelude.{Bool, true, false, List, [], ◌∷◌}
 use Rattle.openapi_tables.specs.Lists.{only}
 use Rattle.openapi_tables.specs.Kind.{Kind, any_text, any_flag, number, Row, row, either, class, constant}
@@ -21,14 +21,14 @@ is_plain_row (either a j b k) = false
 is_plain_row (class c k) = false
 is_plain_row (constant n v) = false
 
--- the rows of these names in each half
+-- the rows of these names among the first twelve and among the last twelve kind names
 unfoldable pub plain_first : List Row
 plain_first = only is_plain_row first_optional
 
 unfoldable pub plain_last : List Row
 plain_last = only is_plain_row last_optional
 
--- the forms of what stands under them
+-- the forms of the values under these names; `absent` for a name that is missing
 abbrev pub plain_first_rows : PlainFirst → List Form
 plain_first_rows a =
     optional_form text_form a.typ

@@ -1,4 +1,4 @@
--- Values that hold schemas are written as something.
+-- The forms of values that contain schemas are not `absent`.
 use Rattle.std.specs.Prelude.{◌≡◌, false, List}
 use mathlib.Core.Path.{refl, sym, ap, subst}
 use Rattle.openapi_tables.specs.Form.{Form}
@@ -42,12 +42,12 @@ use Rattle.openapi_schema.specs.declared.schema.AdditionalProperties.TheOpen.{Ad
 use Rattle.openapi_schema.specs.declared.schema.AdditionalProperties.TheViews.{out-AdditionalProperties}
 use Rattle.openapi_schema.specs.declared.schema.Schema.{Schema}
 
--- a reference or an item
+-- the form of a reference or an item is not `absent`
 pub ref_there : {X : Type 0} (view : X → Form) (x : ReferenceOr X) → is_absent (reference_form view x) ≡ false
 ref_there view (r.Reference s) = refl
 ref_there view (r.Item x) = refl
 
--- what other members may be, with what stands inside seen as forms
+-- one level of `AdditionalProperties`, with the values inside replaced with their forms
 abbrev pub additional_level : AdditionalProperties-F the_data the_data-1 the_data-2 the_data-3 the_data-4 the_data-5 the_data-6
     → AdditionalProperties-F Form Sorted Sorted (List Form) (List Form) (List Form) Form
 additional_level d = map-AdditionalProperties the_data the_data-1 the_data-2 the_data-3 the_data-4 the_data-5 the_data-6
@@ -71,7 +71,7 @@ additional_there a =
     schema_kind_step schema_type_step any_schema_step array_type_step object_type_step schema_step a))
     (step_there (out-AdditionalProperties a))
 
--- a schema
+-- the form of a schema is not `absent`
 pub schema_there : (x : Schema) → is_absent (schema_form x) ≡ false
 schema_there x =
     ap is_absent (fold_out-Schema Form Sorted Sorted (List Form) (List Form) (List Form) Form additional_step

@@ -1,4 +1,4 @@
--- What the readers of schemas return, beside what the tables say.
+-- What the readers of schemas return, compared with what the field tables require.
 use Rattle.std.specs.Prelude.{◌≡◌, List, Result, Ok, Err, take, drop}
 use Rattle.std.specs.Global.{Box}
 use Rattle.openapi_node.specs.Tree.{object, Members}
@@ -17,7 +17,7 @@ use Rattle.openapi_schema.specs.SchemaForms.{schema_form, schema_kind_rows}
 use Rattle.openapi_schema.specs.declared.schema.Schema.{Schema}
 use Rattle.openapi_schema.specs.declared.schema.SchemaKind.{SchemaKind}
 
--- a schema, or a reference to one, and with a box inside or outside
+-- the form of a schema or a reference to one: without a box, with a box around the schema, and with a box around both
 abbrev pub ref_form : ReferenceOr Schema → Form
 ref_form = reference_form schema_form
 
@@ -27,7 +27,7 @@ inner_box_form = reference_form (λ b. schema_form b.value)
 abbrev pub outer_box_form : Box (ReferenceOr Schema) → Form
 outer_box_form b = reference_form schema_form b.value
 
--- the kind of a schema by itself
+-- the form of the kind of a schema alone
 abbrev pub schema_kind_form : SchemaKind → Form
 schema_kind_form k = let s = schema_kind_rows k in fields (sort s.0) (forms_of s.1)
 
@@ -38,7 +38,8 @@ first_optional = take 12 optional_rows
 unfoldable pub last_optional : List Row
 last_optional = drop 12 optional_rows
 
--- the kind of a schema has the sort of the members, and the slots of that sort; or a refusal
+-- what a reader of kinds returns: a kind that has the sort of the members and the forms of that sort; or an error of
+-- reading the members as the kind of a schema
 abbrev pub KindReadAs : Result SchemaKind Fault → Members → Type 0
 KindReadAs (Ok k) ms =
     (fs : List Form) × AreRows final_tables optional_rows fs ms

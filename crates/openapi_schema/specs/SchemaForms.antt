@@ -1,4 +1,4 @@
--- The forms of schemas: a fold over the types that hold one another.
+-- The forms of schemas: a fold over mutually recursive types.
 use Rattle.std.specs.Prelude.{List, [], ◌∷◌}
 use Rattle.openapi_tables.specs.Lists.{join}
 use Rattle.openapi_tables.specs.Form.{Form, absent, leaf, fields, forms_of}
@@ -18,7 +18,7 @@ use Rattle.openapi_tables.specs.Members.{
   sort,
 }
 use Rattle.openapi_fields.specs.Forms.{text_form, optional_form, map_form}
--- what others name through this module
+-- names that other modules use through this module
 pub use Rattle.openapi_fields.specs.Forms.{flag_form, number_form, size_form, list_form}
 pub use Rattle.openapi_schema_types.specs.PartForms.{
   entry_form,
@@ -55,15 +55,15 @@ use Rattle.openapi_schema.specs.declared.schema.AdditionalProperties.TheFolds.{
   fold-Schema,
 }
 
--- a sort with the slots of its rows
+-- a sort with the forms of its fields
 abbrev pub Sorted : Type 0
 Sorted = Sort × List Form
 
--- references to, and items of, what is seen as its form already
+-- the form of a value that is already replaced with its form
 abbrev pub inner : Form → Form
 inner f = f
 
--- one level of each type, with what stands inside seen as its forms already
+-- the forms of one level of each type, given those of the values of these types inside
 abbrev pub additional_step : AdditionalProperties-F Form Sorted Sorted (List Form) (List Form) (List Form) Form → Form
 additional_step (AdditionalProperties-F.«AdditionalProperties::Any» b) = flag_form b
 additional_step (AdditionalProperties-F.Schema r) = reference_form inner r.value
@@ -132,7 +132,7 @@ object_type_step x =
 abbrev pub schema_step : Schema-F Form Sorted Sorted (List Form) (List Form) (List Form) Form → Form
 schema_step x = fields (sort x.schema_kind.0) (forms_of (join (schema_data_rows x.schema_data) x.schema_kind.1))
 
--- the form of a schema, of what stands in its place, and of what it holds
+-- the form of a schema and of additional properties, and the forms of the fields of the parts of a schema
 abbrev pub schema_form : Schema → Form
 schema_form = fold-Schema Form Sorted Sorted (List Form) (List Form) (List Form) Form additional_step schema_kind_step
     schema_type_step any_schema_step array_type_step object_type_step schema_step

@@ -1,4 +1,4 @@
--- What the writers of schemas return, beside what the tables say.
+-- What the writers of schemas return, compared with what the field tables require.
 use Rattle.std.specs.Prelude.{ℕ, List, [], ◌∷◌, Option, Some, None, codes}
 use Rattle.openapi_map.specs.Entries.{Entries}
 use Rattle.openapi_node.specs.Tree.{Tree, text}
@@ -10,7 +10,7 @@ use Rattle.openapi_schema.specs.SchemaForms.{Sorted, schema_kind_rows, schema_ty
 use Rattle.openapi_schema.specs.declared.schema.SchemaKind.{SchemaKind}
 use Rattle.openapi_schema.specs.declared.schema.SchemaType.{SchemaType}
 
--- the slots of a sort
+-- the slots of a sort, given the forms of its fields
 abbrev pub sorted_slots : Sorted → List Slot
 sorted_slots s = slots (sort_rows s.0) s.1
 
@@ -20,12 +20,12 @@ kind_slots k = sorted_slots (schema_kind_rows k)
 abbrev pub type_slots : SchemaType → List Slot
 type_slots t = sorted_slots (schema_type_rows t)
 
--- the slot of a `type`
+-- the slot of `type`, if it has a text
 abbrev pub tag_slots : Option (List ℕ) → List Slot
 tag_slots None = []
 tag_slots (Some w) = (constant (codes "type") w, absent) ∷ []
 
--- slots without the `type` at their head
+-- the slots without the first one if that is a tag, such as `type`
 abbrev pub untagged_from : Row → Slot → List Slot → List Slot
 untagged_from (row n m k) s ss = s ∷ ss
 untagged_from (either a j b k) s ss = s ∷ ss
@@ -36,7 +36,7 @@ abbrev pub untagged : List Slot → List Slot
 untagged [] = []
 untagged (s ∷ ss) = untagged_from s.0 s ss
 
--- the member of a `type`
+-- the member `type`, if it has a text
 abbrev pub tag_members : Option (List ℕ) → Entries Tree
 tag_members None = []
 tag_members (Some w) = (codes "type", text w) ∷ []

@@ -1,4 +1,4 @@
--- What the row of a name reads, by what stands under the name.
+-- What the row of a name reads, given the value of the name.
 use Rattle.std.proofs.Common.{◌≡◌, ℕ, Bool, true, false, cond, ◌&&◌, ◌||◌, List, Option, Some, None, refl, sym, ap, ◌∙◌}
 use Rattle.std.proofs.Common.{nat_le, pos}
 use Rattle.openapi_node.specs.Tree.{Tree, null, flag, whole, text, list, object, Members, find}
@@ -13,7 +13,7 @@ use Rattle.openapi_tables.specs.Read.{schema_form}
 use Rattle.openapi_tables.proofs.ByRowLaws.{own-found, own-missing, conforms-found, conforms-missing, form-found}
 use Rattle.openapi_tables.proofs.ByRowLaws.{form-missing}
 
--- what is read of a value is never absent
+-- the form that is read for a choice, or for none, is never absent
 chosen_there : (T : Tables) (k : Kind) (es : List (Entry (Seen (Kind → Form)))) (o : Option Choice)
     → is_absent (chosen_form T k es o) ≡ false
 chosen_there T k es None = refl
@@ -54,7 +54,7 @@ root_there T (an_object es) flag_or_schema = item_there (is_reference (an_object
 root_there T a_null k = refl
 root_there T s k = refl
 
--- the form that is read of a tree is never absent
+-- the form that is read from a node is never absent
 pub form_there : (T : Tables) (k : Kind) (t : Tree) → is_absent (form T k t) ≡ false
 form_there T k null = root_there T a_null k
 form_there T k (flag b) = root_there T (a_flag b) k
@@ -73,7 +73,7 @@ module _ (T : Tables) (n : List ℕ) (k : Kind) (ms : Members) where
   pub under_missing : find n ms ≡ None → held n (members_list ms) ≡ null
   under_missing e = ap first_tree (own-missing n optional k ms e)
 
-  -- an optional row holds where nothing but null stands under the name, or what conforms
+  -- an optional row conforms if and only if the value of the name is null or missing, or conforms
   pub conforms_held : row_conforms T (row n optional k) ms ≡ (is_null (held n (members_list ms)) || conforms T k
       (held n (members_list ms)))
   conforms_held = go (find n ms) refl
@@ -84,7 +84,7 @@ module _ (T : Tables) (n : List ℕ) (k : Kind) (ms : Members) where
       go (Some t) e = conforms-found T n optional k ms t e ∙ ap (λ u. is_null u || conforms T k u) (sym
           (under_found t e))
 
-  -- the slot of a row: its default where nothing but null stands under the name
+  -- the slot of a row: its default if the value of the name is null or missing, and else the form of the value
   pub form_held : (m : Mode) → row_form T (row n m k) ms ≡ cond (is_null (held n (members_list ms)))
       (default_of m k) (form T k (held n (members_list ms)))
   form_held m = go (find n ms) refl
@@ -96,7 +96,7 @@ module _ (T : Tables) (n : List ℕ) (k : Kind) (ms : Members) where
       go (Some t) e = form-found T n m k ms t e ∙ ap (λ t. cond (is_null t) (default_of m k) (form T k t)) (sym
           (under_found t e))
 
-  -- the slot of an optional row is absent exactly where nothing but null stands under the name
+  -- the slot of an optional row is absent if and only if the value of the name is null or missing
   pub absent_held : (f : Form) → RowGives T (row n optional k) ms f → is_null (held n (members_list ms)) ≡ is_absent f
   absent_held f r = go (is_null under_name) refl
     where

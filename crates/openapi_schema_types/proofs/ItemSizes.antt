@@ -4,7 +4,7 @@ use Rattle.std.proofs.Math.Seq.{drop-cons}
 use Rattle.openapi_node.specs.Tree.{Tree, size_of, items_of, items_size}
 use Rattle.openapi_fields.proofs.Below.{size-positive}
 
--- what is left from an element on is that element, and what is left after it
+-- the size of the items from an index on is that of the item at it, and that of the items after it
 pub items_size_drop : (ts : List Tree) (i : ℕ) (t : Tree) → i < length ts → t ≡ get_or ts i t
     → items_size (items_of (drop i ts)) ≡ size_of t + items_size (items_of (drop (i + 1) ts))
 items_size_drop ts i t low is =
@@ -12,7 +12,7 @@ items_size_drop ts i t low is =
     ∙ ap (λ u. size_of u + items_size (items_of (drop (ℕ.suc i) ts))) (sym is)
     ∙ ap (λ k. size_of t + items_size (items_of (drop k ts))) (sym (add-one i))
 
--- each element is a value
+-- a list has at most as many items as its items contain values
 pub length-items_size : (ts : List Tree) → length ts ≤ items_size (items_of ts)
 length-items_size [] = omega arith
 length-items_size (t ∷ ts) = omega (arith, size-positive t, length-items_size ts)

@@ -54,7 +54,7 @@ same_mask p q (n ∷ ns) =
     lowest_bits (p n) (q n) (mask_of (each (λ m. p m && q m) ns)) (mask_of (each p ns))
     ∙ ap (λ b. (not (p n) || q n) && b) (same_mask p q ns)
 
--- a mask is within another one exactly where each flag of it is set in the other one too
+-- a mask is within another one if and only if each flag of it is set in the other one too
 pub within : {A : Type 0} → (p q : A → Bool) (ns : List A)
     → eqb (bit_and (mask_of (each p ns)) (mask_of (each q ns))) (mask_of (each p ns)) ≡ every (λ n. not (p n) || q n) ns
 within p q ns = ap (λ m. eqb m (mask_of (each p ns))) (mask_of-and p q ns) ∙ same_mask p q ns
@@ -92,7 +92,7 @@ mask_of-more bs i m x low few is flag =
     ∙ or_shifted (cond b 1 0) i (mask_of (take i bs)) (taken-lt bs i)
     ∙ rw add-one (omega (arith, taken-suc bs i low))
 
--- the names that are present are all allowed exactly where each name is allowed or absent
+-- the names that are present are all allowed if and only if each name is allowed or absent
 allowed_or_null : (a n : Bool) → (not (not n) || a) ≡ (a || n)
 allowed_or_null true true = refl
 allowed_or_null true false = refl

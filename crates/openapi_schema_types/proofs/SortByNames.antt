@@ -17,7 +17,7 @@ other_text s w h = not_both (same_text s w) (λ e. h (same_text_eq s w e))
 other_word : (s w : List ℕ) → has type_words s ≡ false → has type_words w ≡ true → same_text s w ≡ false
 other_word s w none known = other_text s w (λ e. true≢false (sym known ∙ ap (has type_words) (sym e) ∙ none))
 
--- a `type` that is none of the words names no sort in particular
+-- a `type` that is none of the words selects no sort in particular
 pub named_sort-other : (s : List ℕ) → has type_words s ≡ false → named_sort s ≡ any_sort
 named_sort-other s none =
     rw (
@@ -33,7 +33,7 @@ last : (b : Bool) → (b && true) ≡ b
 last true = refl
 last false = refl
 
--- each of the four names is present where the mask of it alone is within the mask of the names
+-- each of the four names is present if and only if the mask of it alone is within the mask of the names
 has_one_of : (es : List (Entry Tree)) → eqb (bit_and 1048576 (mask_of (presence es))) 1048576
     ≡ is_present es (codes "oneOf")
 unfolding allowance allowed sort_rows kind_names any_rows

@@ -1,4 +1,4 @@
--- The forms of the fields of each object that describes a schema or a tag, in the order of its rows.
+-- The forms of the fields of each object that describes a schema or a tag, in the order of its field table.
 use Rattle.std.specs.Prelude.{List, [], ◌∷◌}
 use Rattle.openapi_tables.specs.Form.{Form}
 use Rattle.openapi_fields.specs.Forms.{text_form, flag_form, optional_form, map_form, extensions_form}

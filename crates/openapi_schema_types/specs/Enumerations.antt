@@ -21,7 +21,7 @@ use Rattle.openapi_node.specs.Tree.{Tree, null, flag, whole, text}
 use Rattle.openapi_node.specs.declared.fault.Fault.{Fault}
 use Rattle.openapi_tables.specs.Lists.{each, every}
 
--- the trees of texts, numbers and flags
+-- the nodes that texts, numbers and flags are written as
 abbrev pub text_tree : String Global → Tree
 text_tree s = text (string_bytes s)
 
@@ -34,18 +34,20 @@ signed_tree z = whole z
 abbrev pub flag_tree : Bool → Tree
 flag_tree b = flag b
 
--- the tree of an entry: null where it is none
+-- the node of an entry; null for `None`
 abbrev pub entry_tree : {X : Type 0} → (X → Tree) → Option X → Tree
 entry_tree tree_in None = null
 entry_tree tree_in (Some x) = tree_in x
 
--- an entry passes the test and is of that tree, or it does not pass
+-- `Ok(Some(o))`: the node passes the test, and is that of the entry `o`. `Ok(None)`: the node does not pass.
+-- `Err`: nothing is required
 abbrev pub GivesEntry : {X : Type 0} → (Tree → Bool) → (X → Tree) → Result (Option (Option X)) Fault → Tree → Type 0
 GivesEntry test tree_in (Ok None) t = test t ≡ false
 GivesEntry test tree_in (Ok (Some o)) t = (test t ≡ true) × (entry_tree tree_in o ≡ t)
 GivesEntry test tree_in (Err f) t = Unit {0}
 
--- all entries pass the test and are of these trees, or one does not pass
+-- `Ok(Some(v))`: all nodes pass the test, and are those of the entries in `v`. `Ok(None)`: some node does not pass.
+-- `Err`: nothing is required
 abbrev pub EntriesReadAs : {X : Type 0} → (Tree → Bool) → (X → Tree) → Result (Option (Vec (Option X))) Fault
     → List Tree → Type 0
 EntriesReadAs test tree_in (Ok None) ts = every test ts ≡ false

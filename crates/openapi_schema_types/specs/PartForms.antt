@@ -1,4 +1,4 @@
--- The forms of the fields of the parts of schemas that hold no schemas, in the order of the rows of their tables.
+-- The forms of the fields of the parts of schemas that contain no schemas, in the order of their field tables.
 use Rattle.std.specs.Prelude.{List, [], ◌∷◌, Option}
 use Rattle.openapi_node.specs.Tree.{Tree}
 use Rattle.openapi_tables.specs.Form.{Form, leaf}
@@ -23,11 +23,11 @@ use Rattle.openapi_schema_types.specs.declared.number_type.NumberType.{NumberTyp
 use Rattle.openapi_schema_types.specs.declared.integer_type.IntegerType.{IntegerType}
 use Rattle.openapi_schema_types.specs.declared.boolean_type.BooleanType.{BooleanType}
 
--- entries of enumerations
+-- the form of an entry of an enumeration; that of null for `None`
 abbrev pub entry_form : {X : Type 0} → (X → Tree) → Option X → Form
 entry_form tree_in = nullable_form (λ x. leaf (tree_in x))
 
--- the slots of what every kind of schema can say
+-- the forms of the fields that every kind of schema can have
 abbrev pub schema_data_rows : SchemaData → List Form
 schema_data_rows d =
     flag_form d.nullable
@@ -44,7 +44,7 @@ schema_data_rows d =
     ∷ extensions_form d.extensions
     ∷ []
 
--- the slots of the kinds that hold no schema
+-- the forms of the fields of the schema types that contain no schemas
 abbrev pub string_type_rows : StringType → List Form
 string_type_rows x =
     variant_or_empty_form string_format_word x.format

@@ -1,4 +1,4 @@
--- The forms of the fields of the OAuth flows, in the order of the rows of each table.
+-- The forms of the fields of the OAuth flows, in the order of their field tables.
 use Rattle.std.specs.Prelude.{List, [], ◌∷◌}
 use Rattle.openapi_tables.specs.Form.{Form}
 use Rattle.openapi_fields.specs.Forms.{text_form, optional_form, map_form, extensions_form, record_form}
@@ -17,7 +17,7 @@ implicit_flow_rows x =
     ∷ extensions_form x.extensions
     ∷ []
 
--- OAuth Flow Object: the flow by the password of the owner
+-- OAuth Flow Object: the resource owner password flow
 abbrev pub password_flow_rows : PasswordOAuth2Flow → List Form
 password_flow_rows x =
     optional_form text_form x.refresh_url
@@ -26,7 +26,7 @@ password_flow_rows x =
     ∷ extensions_form x.extensions
     ∷ []
 
--- OAuth Flow Object: the flow by the credentials of the client
+-- OAuth Flow Object: the client credentials flow
 abbrev pub client_credentials_flow_rows : client.ClientCredentialsOAuth2Flow → List Form
 client_credentials_flow_rows x =
     optional_form text_form x.refresh_url
@@ -35,7 +35,7 @@ client_credentials_flow_rows x =
     ∷ extensions_form x.extensions
     ∷ []
 
--- OAuth Flow Object: the flow by an authorization code
+-- OAuth Flow Object: the authorization code flow
 abbrev pub authorization_code_flow_rows : code.AuthorizationCodeOAuth2Flow → List Form
 authorization_code_flow_rows x =
     text_form x.authorization_url

@@ -18,7 +18,7 @@ use Rattle.openapi_security.specs.declared.security_scheme.SchemeType.TheVariant
 use Rattle.openapi_security.specs.declared.security_scheme.SecurityScheme.{SecurityScheme}
 use Rattle.openapi_security.specs.declared.security_scheme.SecurityScheme.TheVariants as schemes
 
--- the types of security schemes, each with its table
+-- the texts of `type` of security schemes, each with its field table
 abbrev pub scheme_cases : List Case
 scheme_cases =
     case "apiKey" api_key_scheme
@@ -27,25 +27,25 @@ scheme_cases =
     ∷ case "openIdConnect" open_id_connect_scheme
     ∷ []
 
--- the words of the types
+-- the texts of all types
 abbrev pub scheme_types : List (List ℕ)
 scheme_types = codes "apiKey" ∷ codes "http" ∷ codes "oauth2" ∷ codes "openIdConnect" ∷ []
 
--- the word of a type
+-- the text of a type
 abbrev pub scheme_type_word : SchemeType → List ℕ
 scheme_type_word types.ApiKey = codes "apiKey"
 scheme_type_word types.Http = codes "http"
 scheme_type_word types.OAuth2 = codes "oauth2"
 scheme_type_word types.OpenIdConnect = codes "openIdConnect"
 
--- the word of the type of a security scheme
+-- the text of `type` of a security scheme
 abbrev pub security_scheme_word : SecurityScheme → List ℕ
 security_scheme_word (schemes.APIKey l n d e) = codes "apiKey"
 security_scheme_word (schemes.HTTP s b d e) = codes "http"
 security_scheme_word (schemes.OAuth2 f d e) = codes "oauth2"
 security_scheme_word (schemes.OpenIDConnect u d e) = codes "openIdConnect"
 
--- the forms of its fields, in the order of the rows of its table
+-- the forms of its fields, in the order of its field table
 abbrev pub security_scheme_rows : SecurityScheme → List Form
 security_scheme_rows (schemes.APIKey l n d e) =
     word_form api_key_location_word l ∷ text_form n ∷ optional_form text_form d ∷ extensions_form e ∷ []
@@ -63,7 +63,7 @@ security_scheme_form = tagged_form security_scheme_word security_scheme_rows
 abbrev pub security_scheme_slots : SecurityScheme → List Slot
 security_scheme_slots = tagged_slots (codes "type") scheme_cases security_scheme_word security_scheme_rows
 
--- its word is that of one of the types
+-- the text of `type` of a security scheme is one of those in `scheme_cases`
 pub security_scheme_known : (x : SecurityScheme) → is_case scheme_cases (security_scheme_word x) ≡ true
 security_scheme_known (schemes.APIKey l n d e) = refl
 security_scheme_known (schemes.HTTP s b d e) = refl

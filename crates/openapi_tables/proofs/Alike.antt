@@ -1,4 +1,4 @@
--- A schema of the sort that holds anything, read and written again, has the same kind names.
+-- A schema that the rows of `any_sort` write, and that they read and write again, keeps its sort.
 use Rattle.std.proofs.Common.{ℕ, Bool, true, false, cond, List, [], ◌∷◌, ◌≡◌, refl, sym, ap, ◌∙◌}
 use Rattle.std.proofs.Common.{subst}
 use Rattle.std.proofs.lemmas.Bool.{and_parts}
@@ -31,11 +31,11 @@ never_absent T k t f (as_schema u x e y) = never_absent T (ref_to a_schema) u x 
 never_absent T k t f (as_inner j u x y) = never_absent T j u x y
 never_absent T k t f x = refl
 
--- trees that are null alike, and the same where their kind is plain
+-- both nodes are null or neither is, and they are equal if the kind is plain (`is_plain`)
 abbrev Alike : Kind → Tree → Tree → Type 0
 Alike k u t = (is_null u ≡ is_null t) × (is_plain k ≡ true → u ≡ t)
 
--- what a row writes for the slot that it reads of l
+-- what a row writes for the slot that it reads from the members `l`
 abbrev rewritten : (T : Tables) → Row → List (Entry Tree) → List (Entry Tree)
 rewritten T w l = row_print w (printed T (slot_of_own w (reads T l)))
 
@@ -80,7 +80,7 @@ all_open : every is_open any_rows ≡ true
 unfolding any_rows is_open
 all_open = refl
 
--- the two lists of members are alike under the name of a row
+-- in both lists, the values at the name of a row are alike. This is false for rows that are not of one name
 abbrev RowAlike : List (Entry Tree) → List (Entry Tree) → Row → Type 0
 RowAlike l' l (row n m k) = Alike k (held n l') (held n l)
 RowAlike l' l (either a j b k) = ⊥
@@ -129,7 +129,8 @@ sort_alike l' l h =
       maximum = h.1.1.1.1.1.1.0.1 refl;
     })
 
--- what a schema of the sort that holds anything writes, of that sort too, is read and written as one of that sort
+-- if the rows of `any_sort` find in `l` what they write for proper slots, the members that are read from `l` and
+-- written again have the sort of `l`
 pub any_again : (T : Tables) (pre : List Row) (fs : List Form) (l : List (Entry Tree))
     → rows_apart (join pre any_rows) ≡ true → Each (λ w. row_sound T w ≡ true) any_rows → SlotsProper T any_rows fs
     → Found T l any_rows fs

@@ -1,4 +1,4 @@
--- What is read of a tree that conforms is a proper form: for all kinds and trees.
+-- The form that is read from a node that conforms is proper: for all kinds and nodes.
 use Rattle.std.proofs.Common.{ℕ, Bool, true, false, cond, ◌&&◌, List, Option, Some, None, ◌≡◌, refl, sym, ap, ◌∙◌}
 use Rattle.std.proofs.Common.{subst, codes, nat_le}
 use Rattle.std.proofs.lemmas.Bool.{and_parts, and_from, both_ways}
@@ -34,14 +34,14 @@ use Rattle.openapi_tables.proofs.SortReads.{sort_reads}
 use Rattle.openapi_tables.proofs.ReadProper.{ReadsProper, ValuesProper, same_code-refl, AllRead, rows_read_proper}
 use Rattle.openapi_tables.proofs.ReadProper.{RowReads, all_read}
 
--- objects
+-- the check of an object's form passes if its choice is one of the kind and its slots are proper
 proper-fields : (T : Tables) (k : Kind) (c : Choice) (fs : List Form) → choice_proper k c ≡ true
     → rows_proper (rows_of T k c) (each (show (face_proper T)) fs) ≡ true
     → (choice_proper k c && rows_proper (rows_of T k c) (of_forms (face_proper T) (forms_of fs))) ≡ true
 proper-fields T k c fs h g = and_from (choice_proper k c) _ h
     (ap (rows_proper (rows_of T k c)) (of_forms-of (face_proper T) fs) ∙ g)
 
--- of an object that holds under a kind, each row that must hold by its choice does
+-- if an object conforms to an object kind, each row that must hold by its choice does
 pub held_of : (T : Tables) (k : Kind) (es : List (Entry Tree)) (c : Choice) → choice k es ≡ Some c
     → object_holds T k (of_members (root_conforms T) (members_of es)) ≡ true → AllHold T es (checked_rows T k c)
 held_of T k es c h g = all_hold T es (checked_rows T k c)
@@ -53,7 +53,7 @@ pub sound_rows_of : (T : Tables) (W : tables_sound T ≡ true) (k : Kind) (c : C
 sound_rows_of T W k c es s h = every_each (row_sound T) (rows_of T k c)
     (and_parts (rows_apart (rows_of T k c)) (every (row_sound T) (rows_of T k c)) (rows_of_sound T W k c es s h)).1
 
--- the choice of rows for a tagged object that conforms
+-- the text of the tag of an object that conforms, by which its rows are chosen
 pub tag_of : (T : Tables) (n : List ℕ) (cs : List Case) (es : List (Entry Tree))
     → conforms T (tagged n cs) (object (members_of es)) ≡ true
     → (s : List ℕ) × (choice (tagged n cs) es ≡ Some (tag s)) × (is_case cs s ≡ true) × (held n es ≡ text s)
@@ -66,7 +66,8 @@ tag_of T n cs es h = at (choice (tagged n cs) es) refl
         (object_conforms T (tagged n cs) es ∙ ap (λ o. chosen_holds T (tagged n cs) (judged T es) o) e) h)
     at (Some c) e = let t = tag_case cs (held n es) c e in (t.0, e ∙ ap (λ d. Some d) t.1, t.2, t.3)
 
--- by which choice an object is read under a kind: its rows are sound, and each reads what the object holds
+-- the choice by which an object is read under a kind. The rows are sound, and each finds what it must for its slot to
+-- be proper
 pub record ReadBy (T : Tables) (k : Kind) (es : List (Entry Tree)) : Type 0 where
   pub by_choice : Choice
   pub chosen : choice k es ≡ Some by_choice
@@ -75,7 +76,7 @@ pub record ReadBy (T : Tables) (k : Kind) (es : List (Entry Tree)) : Type 0 wher
   pub sound_rows : Each (λ w. row_sound T w ≡ true) (rows_of T k by_choice)
   pub reads : AllRead T es (rows_of T k by_choice)
 
--- an object that conforms to a table is read by it
+-- an object that conforms to a table is read by the rows of the table
 pub read_by_table : (T : Tables) (W : tables_sound T ≡ true) (i : TableName) (es : List (Entry Tree))
     → conforms T (by i) (object (members_of es)) ≡ true → ReadBy T (by i) es
 unfolding rows_of checked_rows
@@ -90,7 +91,7 @@ read_by_table T W i es h =
       reads = all_read T es (T i) a (held_of T (by i) es plain refl h);
     }
 
--- one that conforms to a tagged kind is read by the table of the word under its tag
+-- an object that conforms to a tagged kind is read by the table that the text of its tag selects
 pub read_by_tag : (T : Tables) (W : tables_sound T ≡ true) (n : List ℕ) (cs : List Case) (es : List (Entry Tree))
     → sound T (tagged n cs) ≡ true → conforms T (tagged n cs) (object (members_of es)) ≡ true
     → ReadBy T (tagged n cs) es
@@ -107,7 +108,7 @@ read_by_tag T W n cs es s h =
       reads = all_read T es (rows_of T (tagged n cs) (tag t.0)) a (held_of T (tagged n cs) es (tag t.0) t.1 h);
     }
 
--- a schema is read by the table of the data of schemas, and by its sort
+-- a schema that conforms is read by the rows that all schemas share and those of its sort
 pub read_by_sort : (T : Tables) (W : tables_sound T ≡ true) (es : List (Entry Tree))
     → conforms T a_schema (object (members_of es)) ≡ true → ReadBy T a_schema es
 unfolding rows_of checked_rows
@@ -127,7 +128,7 @@ read_by_sort T W es h =
           (sort_reads T (sort_of es) es p.1 refl);
     }
 
--- the kind of a schema is read by its sort
+-- an object that conforms to `a_schema_kind` is read by the rows of its sort
 pub read_by_kind : (T : Tables) (W : tables_sound T ≡ true) (es : List (Entry Tree))
     → conforms T a_schema_kind (object (members_of es)) ≡ true → ReadBy T a_schema_kind es
 unfolding rows_of checked_rows
@@ -141,15 +142,15 @@ read_by_kind T W es h =
       reads = sort_reads T (sort_of es) es (held_of T a_schema_kind es (sort (sort_of es)) refl h) refl;
     }
 
--- P of an object made of the list of its members
+-- `P` holds for an object if it holds for the object made from the list of its members
 pub of_list : (P : Tree → Type 0) (ms : Members) → P (object (members_of (members_list ms))) → P (object ms)
 of_list P ms h = subst (λ x. P (object x)) (members_of-list ms) h
 
--- the other way: P of an object is P of the object made of the list of its members
+-- the converse: `P` holds for the object made from the list of the members of an object if it holds for that object
 pub from_list : (P : Tree → Type 0) (ms : Members) → P (object ms) → P (object (members_of (members_list ms)))
 from_list P ms h = subst (λ x. P (object x)) (sym (members_of-list ms)) h
 
--- what is read of an object is proper, where what is read of the values inside is
+-- the form that is read from an object is proper, if the forms of the values inside are
 object_reads : (T : Tables) (k : Kind) (ms : Members)
     → (conforms T k (object (members_of (members_list ms))) ≡ true → ReadBy T k (members_list ms))
     → ValuesProper T (members_list ms) → conforms T k (object ms) ≡ true → proper T k (form T k (object ms)) ≡ true
@@ -207,7 +208,7 @@ number_reads : (T : Tables) (n : ℕ) (b : Bool) → (nat_le 100 n && nat_le n 9
 number_reads T n true e h = written_code (code n) e
 number_reads T n false e h = cc
 
--- a kind under `ref`
+-- a node that conforms to `ref_to k` is read as a proper form, if that is so under `k`
 item_reads : (T : Tables) (k : Kind) (t : Tree) → (conforms T k t ≡ true → proper T k (form T k t) ≡ true)
     → conforms T (ref_to k) t ≡ true → proper T (ref_to k) (form T (ref_to k) t) ≡ true
 item_reads T k (object ms) g h = at (text_in (held (codes "$ref") (members_list ms))) refl
@@ -257,6 +258,6 @@ step T W t g (null_or any_text) s h = cc
 step T W null g k s h = cc
 step T W t g k s h = cc
 
--- what is read of a tree that conforms is proper
+-- the form that is read from a node that conforms is proper
 pub read_proper : (T : Tables) (W : tables_sound T ≡ true) (t : Tree) → ReadsProper T t
 read_proper T W t = by_trees (ReadsProper T) (step T W) t

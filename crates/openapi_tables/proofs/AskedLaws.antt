@@ -1,5 +1,5 @@
--- What is asked of the values of a tree, part by part; of a tree that conforms, each value conforms to what is asked
--- of it.
+-- The requirements of a kind in a node, part by part. If the node conforms, each value in it conforms to what is
+-- required of it.
 use Rattle.std.proofs.Common.{ℕ, suc, Bool, true, false, cond, ◌&&◌, ◌||◌, List, [], ◌∷◌, Option, Some, None, ◌≡◌, refl}
 use Rattle.std.proofs.Common.{sym, ap, ◌∙◌, subst}
 use Rattle.std.proofs.lemmas.Bool.{and_parts}
@@ -26,16 +26,17 @@ use Rattle.openapi_tables.proofs.SortHolds.{AllHold, from_all_hold}
 use Rattle.openapi_tables.proofs.Writes.{object_conforms}
 use Rattle.openapi_tables.proofs.AllReadProper.{held_of, from_list, tag_of}
 
--- P of each kind that is asked and of the value that it is asked of
+-- `P` holds for the kind and the value of each requirement
 abbrev pub OfAsked : (Kind → Tree → Type 0) → List Asking → Type 0
 OfAsked P l = Each (λ (a : Asking). P a.kind a.tree) l
 
--- what holds of each element of two lists in a row holds of each of the first and of the second
+-- what holds for each element of a concatenation holds for each element of the first and of the second list
 pub Each_parts : {A : Type 0} → (P : A → Type 0) (xs ys : List A) → Each P (join xs ys) → Each P xs × Each P ys
 Each_parts P [] ys h = (tt, h)
 Each_parts P (x ∷ xs) ys h = let p = Each_parts P xs ys h.1 in ((h.0, p.0), p.1)
 
--- a step changes only the places of what is asked: P holds of it without the step where it holds with it
+-- `below` changes only locations: if `P` holds for requirements with one more step, it holds for them without the step.
+-- `to_below` is the converse
 pub of_below : (P : Kind → Tree → Type 0) (s : Step) (l : List Asking) → OfAsked P (below s l) → OfAsked P l
 of_below P s [] h = tt
 of_below P s (a ∷ l) h = (h.0, of_below P s l h.1)
@@ -44,7 +45,8 @@ pub to_below : (P : Kind → Tree → Type 0) (s : Step) (l : List Asking) → O
 to_below P s [] h = tt
 to_below P s (a ∷ l) h = (h.0, to_below P s l h.1)
 
--- of a tree that conforms to a kind, each value conforms to what is asked of it
+-- the node conforms to the kind. `AllMet`: if a node conforms to a kind, each value in it conforms to what is required
+-- of it
 abbrev pub Meets : (T : Tables) → Kind → Tree → Type 0
 Meets T k t = conforms T k t ≡ true
 
@@ -99,7 +101,7 @@ rows_met T es (w ∷ ws) g h =
     (row_met T w (own w es) (Each_within-only (λ (e : Entry Tree). AllMet T e.value) (λ e. takes w e.name) es g) h.0))
     (rows_met T es ws g h.1)
 
--- the root itself
+-- a node that conforms to a kind conforms to the requirement of that kind for the node itself
 head_met : (T : Tables) (k : Kind) (t : Tree) → conforms T k t ≡ true
     → OfAsked (Meets T) (here k (seen_root (root_asks T) t) ∷ [])
 head_met T k t h = (subst (λ u. conforms T k u ≡ true) (sym (tree_of_root-seen (root_asks T) t)) h, tt)
@@ -111,20 +113,21 @@ objects_met T ms ws g h =
     subst (λ l. OfAsked (Meets T) (asks_rows l ws)) (sym (of_members_lem (root_asks T) ms))
     (rows_met T (members_list ms) ws g h)
 
--- of an object that holds under a kind, with members as a tree has them, each row that must hold does
+-- if an object conforms to an object kind, each row that must hold by its choice does, where the members are those of a
+-- node
 pub held_in : (T : Tables) (k : Kind) (ms : Members) (c : Choice) → choice k (members_list ms) ≡ Some c
     → object_holds T k (of_members (root_conforms T) ms) ≡ true → AllHold T (members_list ms) (checked_rows T k c)
 held_in T k ms c e h =
     held_of T k (members_list ms) c e
     (subst (λ x. object_holds T k (of_members (root_conforms T) x) ≡ true) (sym (members_of-list ms)) h)
 
--- an object conforms to the kind of a table where each row of the table holds
+-- an object conforms to the kind of a table if each row of the table holds
 pub table_conforms : (T : Tables) (i : TableName) (es : List (Entry Tree)) → AllHold T es (T i)
     → conforms T (by i) (object (members_of es)) ≡ true
 unfolding checked_rows
 table_conforms T i es h = object_conforms T (by i) es ∙ from_all_hold T es (T i) h
 
--- tagged objects
+-- tagged objects: if the text of a tag is one that the tag may have, its value conforms to what is required of a tag
 tag_met : (T : Tables) (n : List ℕ) (cs : List Case) (es : List (Entry Tree)) (s : List ℕ) → is_case cs s ≡ true
     → held n es ≡ text s
     → (l : List (Entry Tree)) → own (constant n []) es ≡ l
@@ -230,6 +233,6 @@ step T flag_or_schema (object ms) g h = (
 step T k null g h = head_met T k null h
 step T k t g h = head_met T k t h
 
--- of every tree that conforms, each value conforms to what is asked of it
+-- in every node that conforms to a kind, each value conforms to what is required of it
 pub all_met : (T : Tables) (t : Tree) → AllMet T t
 all_met T t = by_trees (AllMet T) (λ u g k h. step T k u g h) t

@@ -1,4 +1,4 @@
--- What a row reads, asks and may look at, by the member of its name.
+-- What a row reads and requires, and how many values its members contain, given the member of its name.
 pub use Rattle.openapi_tables.proofs.ListLaws.{same_bytes}
 pub use Rattle.openapi_tables.proofs.KindsHold.{any_conforms}
 pub use Rattle.openapi_tables.proofs.WeightLaws.{rows_weight-le, table_weight-le}
@@ -25,21 +25,21 @@ use Rattle.openapi_tables.proofs.TreeLaws.{see, seen_root, of_tree_lem, of_membe
 use Rattle.openapi_tables.proofs.again.ObjectsBack.{checked, table_sound}
 use Rattle.openapi_tables.proofs.FaultFound.{faults}
 
--- a name with what stands under it
+-- a name and the value at that name
 abbrev pub entry : {X : Type 0} → List ℕ → X → Entry X
 entry n x = record { name = n; value = x }
 
--- the member of a name is the first that its row takes
+-- the list of members begins with the value `t` at the name `n`
 pub record Found (n : List ℕ) (t : Tree) (es : List (Entry Tree)) : Type 0 where
   pub rest : List (Entry Tree)
   pub is : es ≡ entry n t ∷ rest
 
 module _ (n : List ℕ) (m : Mode) (k : Kind) where
-  -- what the row takes of members
+  -- the members that the row takes
   abbrev taken : Members → List (Entry Tree)
   taken ms = own (row n m k) (members_list ms)
 
-  -- where a member of the name is found, it is the first that the row takes
+  -- if a member of the name is found, it is the first that the row takes
   pub own-found : (ms : Members) (t : Tree) → find n ms ≡ Some t
       → Found n t (own (row n m k) (members_list ms))
   own-found no_members t e = cc
@@ -64,7 +64,7 @@ module _ (n : List ℕ) (m : Mode) (k : Kind) where
             is = ap (λ b. cond b (entry a u ∷ taken ms) (taken ms)) s ∙ r.is;
           }
 
-  -- where none is found, the row takes no member
+  -- if none is found, the row takes no member
   pub own-missing : (ms : Members) → find n ms ≡ None → own (row n m k) (members_list ms) ≡ []
   own-missing no_members e = refl
   own-missing (member a u ms) e = go (λ q. own-missing ms q) (bytes_eq n a) refl e
@@ -74,13 +74,13 @@ module _ (n : List ℕ) (m : Mode) (k : Kind) where
       go more true p q = cc
       go more false p q = ap (λ b. cond b (entry a u ∷ taken ms) (taken ms)) (same_bytes n a ∙ p) ∙ more q
 
--- what a row takes, seen by what a function gives
+-- a row takes the same members, with or without the results of a function beside them
 pub own-members : {X : Type 0} → (f : Shape (Seen X) → X) (w : Row) (ms : Members)
     → own w (of_members f ms) ≡ each (on_entry (see f)) (own w (members_list ms))
 own-members f w ms =
     ap (λ l. own w l) (of_members_lem f ms) ∙ only-each (λ e. takes w e.name) (on_entry (see f)) (members_list ms)
 
--- the row of a name, where the member is there and where it is missing
+-- the row of a name, if the member is present and if it is missing
 module _ (T : Tables) (n : List ℕ) (m : Mode) (k : Kind) (ms : Members) where
   module _ (t : Tree) (there : find n ms ≡ Some t) where
     seen-found : {X : Type 0} → (f : Shape (Seen X) → X) → own (row n m k) (of_members f ms)
@@ -88,17 +88,17 @@ module _ (T : Tables) (n : List ℕ) (m : Mode) (k : Kind) (ms : Members) where
     seen-found f =
         own-members f (row n m k) ms ∙ ap (λ l. each (on_entry (see f)) l) (own-found n m k ms t there).is
 
-    -- the row holds where the member is a null that its mode skips, or conforms to its kind
+    -- the row holds if and only if the member is a null that its mode skips, or conforms to its kind
     pub conforms-found : row_conforms T (row n m k) ms ≡ (skips_null m && is_null t || conforms T k t)
     unfolding row_conforms
     conforms-found = ap (λ l. name_holds m k l) (seen-found (root_conforms T))
 
-    -- the row reads the form of the member, or its default where the member is null
+    -- the row reads the form of the member, or its default if the member is null
     pub form-found : row_form T (row n m k) ms ≡ cond (is_null t) (default_of m k) (form T k t)
     unfolding row_form
     form-found = ap (λ l. name_slot m k l) (seen-found (root_form T))
 
-    -- the member holds no more values than all members that the row takes
+    -- the member contains no more values than all members that the row takes
     pub weight-found : size_of t ≤ row_weight (row n m k) ms
     unfolding row_weight
     weight-found = subst (λ l. size_of t ≤ weight l) (sym (own-found n m k ms t there).is) (omega arith)
@@ -108,35 +108,36 @@ module _ (T : Tables) (n : List ℕ) (m : Mode) (k : Kind) (ms : Members) where
     seen-missing f =
         own-members f (row n m k) ms ∙ ap (λ l. each (on_entry (see f)) l) (own-missing n m k ms none)
 
-    -- without the member the row holds where its mode lets the member be missing
+    -- without the member, the row holds if and only if its mode allows that the member is missing
     pub conforms-missing : row_conforms T (row n m k) ms ≡ may_miss m
     unfolding row_conforms
     conforms-missing = ap (λ l. name_holds m k l) (seen-missing (root_conforms T))
 
-    -- without the member the row reads its default
+    -- without the member, the row reads its default
     pub form-missing : row_form T (row n m k) ms ≡ default_of m k
     unfolding row_form
     form-missing = ap (λ l. name_slot m k l) (seen-missing (root_form T))
 
--- an element of the first of two lists is one of both in a row
+-- an element of the first of two lists is an element of their concatenation
 pub among_left : {A : Type 0} → (x : A) (xs ys : List A) → Among x xs → Among x (join xs ys)
 among_left x [] ys h = absurd h
 among_left x (y ∷ xs) ys (inl e) = inl e
 among_left x (y ∷ xs) ys (inr h) = inr (among_left x xs ys h)
 
--- an element of the second of two lists is one of both in a row
+-- an element of the second of two lists is an element of their concatenation
 pub among_right : {A : Type 0} → (x : A) (xs ys : List A) → Among x ys → Among x (join xs ys)
 among_right x [] ys h = h
 among_right x (y ∷ xs) ys h = inr (among_right x xs ys h)
 
--- what is asked at a place is asked at the step and then that place, seen from one step above
+-- a requirement at a location is, after `below` with a step, at the step and then that location
 pub among_below : (s : Step) (p : Place) (j : Kind) (v : Tree) (as' : List Asking)
     → Among (asking p j v) as' → Among (asking (s ∷ p) j v) (below s as')
 among_below s p j v [] h = absurd h
 among_below s p j v (a ∷ as') (inl e) = inl (ap (λ (b : Asking). asking (s ∷ b.place) b.kind b.tree) e)
 among_below s p j v (a ∷ as') (inr h) = inr (among_below s p j v as' h)
 
--- what a row of a list gives is among what all give
+-- an element of what a function returns for the first row that passes a test is an element of what it returns for all
+-- rows
 pub among_flat : {A : Type 0} → (x : A) (f : Row → List A) (q : Row → Bool) (w : Row) (ws : List Row)
     → row_where q ws ≡ Some w → Among x (f w) → Among x (flat (each f ws))
 among_flat x f q w [] e h = cc
@@ -159,7 +160,7 @@ where_each P q (v ∷ ws) w h e = go (λ p. where_each P q ws w h.1 p) (q v) e
     go more true p = let s : v ≡ w = cc in subst P s h.0
     go more false p = more p
 
--- a kind is asked of the root that it is asked of
+-- the requirements of a kind for a root include the requirement for the root itself
 head_asked : (T : Tables) (s : Shape Asks) (k : Kind) → Among (here k s) (root_asks T s k)
 head_asked T s any_text = inl refl
 head_asked T a_null k = inl refl
@@ -173,22 +174,22 @@ root_asked T k t =
     sym (ap (λ (f : Kind → List Asking). f k) (of_tree_lem (root_asks T) t)) in
     subst (λ a. Among a (asked T k t)) one (subst (λ l. Among (here k s) l) all (head_asked T s k))
 
--- a cause that is broken by the root itself
+-- a cause of a fault of a node itself is found in the node, at the empty location
 pub broken_root : (T : Tables) (k : Kind) (t : Tree) (c : Cause) → Among c (causes T k t) → Broken T k t [] c
 broken_root T k t c h = record { kind = k; tree = t; is_asked = root_asked T k t; breaks = h }
 
--- what is broken in a value inside is broken in the tree around it, one step further down
+-- a cause that is found in a value inside is found in the node around it, one step further
 pub broken_below : (T : Tables) (k l : Kind) (t u : Tree) (s : Step) (p : Place) (c : Cause)
     → StepsTo T k t s l u → Broken T l u p c → Broken T k t (s ∷ p) c
 broken_below T k l t u s p c h b =
     record { kind = b.kind; tree = b.tree; is_asked = h p b.kind b.tree b.is_asked; breaks = b.breaks }
 
--- where something is broken, the tree does not conform
+-- if a cause is found anywhere in a node, the node does not conform
 pub broken_refuses : (T : Tables) (W : tables_sound T ≡ true) (k : Kind) (t : Tree) (p : Place) (c : Cause)
     → sound T k ≡ true → Broken T k t p c → conforms T k t ≡ false
 broken_refuses T W k t p c s b = (faults T k t W s).0 (asking p b.kind b.tree) c b.is_asked b.breaks
 
--- what the rows of an object kind ask of the members is asked of the object
+-- the requirements of the rows of an object kind for the members are among those of the kind for the object
 pub rows_ask : (T : Tables) (k : Kind) (ms : Members) (a : Asking)
     → Among a (asks_rows (of_members (root_asks T) ms) (rows_asked T k)) → Among a (asked T k (object ms))
 unfolding checked_rows
@@ -197,7 +198,7 @@ rows_ask T a_schema ms a h = inr h
 rows_ask T a_schema_kind ms a h = inr h
 rows_ask T k ms a h = absurd h
 
--- the member of a row is asked the row's kind
+-- the kind of a row is required of the member at its name, unless the member is a null that the row skips
 pub row_asks : (T : Tables) (o : Kind) (n : List ℕ) (m : Mode) (k : Kind) (ms : Members) (t : Tree)
     → row_where (is_named n) (rows_asked T o) ≡ Some (row n m k) → find n ms ≡ Some t
     → (skips_null m && is_null t) ≡ false → StepsTo T o (object ms) (named n) k t
@@ -211,7 +212,7 @@ row_asks T o n m k ms t e there skip p j v h =
     (among_flat (asking (named n ∷ p) j v) (asks_row es) (is_named n) w (rows_asked T o) e
     (subst (λ l. Among (asking (named n ∷ p) j v) l) (sym one) (among_below (named n) p j v (asked T k t) h)))
 
--- each row that an object is asked under a kind is sound
+-- each row that a kind requires of an object is sound
 pub asked_sound : (T : Tables) (W : tables_sound T ≡ true) (o : Kind)
     → Each (λ w. row_sound T w ≡ true) (rows_asked T o)
 unfolding checked_rows
@@ -223,13 +224,13 @@ asked_sound T W a_schema_kind =
     (every_behind (row_sound T) (T schema_data) (each made_optional any_rows) (checked T W).4)
 asked_sound T W o = tt
 
--- no row that has to be there is found among rows that never miss
+-- no required row is found among rows that require no member
 schema_misses_none : (T : Tables) (q : Row → Bool) (n : List ℕ) (k : Kind) (ws : List Row)
     → every never_misses ws ≡ true → row_where q ws ≡ Some (row n required k) → ⊥
 schema_misses_none T q n k ws h e =
     true≢false (sym (where_each (λ w. never_misses w ≡ true) q ws (row n required k) (every_each never_misses ws h) e))
 
--- an object that lacks the member of a required row breaks a rule: it misses that name
+-- an object that lacks the member of a required row has a fault: the name is missing
 pub row_missing : (T : Tables) (W : tables_sound T ≡ true) (o : Kind) (n : List ℕ) (k : Kind) (ms : Members)
     → row_where (is_named n) (rows_asked T o) ≡ Some (row n required k) → find n ms ≡ None
     → Broken T o (object ms) [] (missing n)
@@ -246,7 +247,7 @@ row_missing T W a_schema_kind n k ms e none =
     (every_behind never_misses (T schema_data) (each made_optional any_rows) (checked T W).5) e)
 row_missing T W o n k ms e none = cc
 
--- what the rows give is what the object gives
+-- if each row holds and reads a form (`AreRows`), the checks of all rows pass and their slots are these forms
 pub rows_hold : (T : Tables) (ws : List Row) (fs : List Form) (ms : Members) → AreRows T ws fs ms
     → (every (row_holds (of_members (root_conforms T) ms)) ws ≡ true)
     × (each (slot (of_members (root_form T) ms)) ws ≡ fs)
@@ -258,7 +259,7 @@ rows_hold T (w ∷ ws) (f ∷ fs) ms h =
     let r = rows_hold T ws fs ms h.1 in
     ((λ i. h.0.0 i && r.0 i), (λ i. h.0.1 i ∷ r.1 i))
 
--- an object whose members give each row of a table its form conforms, and is read as those forms
+-- an object conforms to a table if each row of the table holds and reads a form, and it is read as these forms
 pub object_gives : (T : Tables) (i : TableName) (fs : List Form) (ms : Members) → AreRows T (T i) fs ms
     → (conforms T (by i) (object ms) ≡ true) × (form T (by i) (object ms) ≡ fields plain (forms_of fs))
 unfolding checked_rows rows_of
@@ -266,7 +267,7 @@ object_gives T i fs ms h =
     let r = rows_hold T (T i) fs ms h in
     (r.0, ap (λ l. fields plain (forms_of l)) r.1)
 
--- under the kind of any tree a tree is read as itself
+-- the form of a node under `any_tree` is the node itself
 pub any_form : (T : Tables) (t : Tree) → form T any_tree t ≡ leaf t
 any_form T (list ts) = ap leaf (tree_of_root-seen (root_form T) (list ts))
 any_form T (object ms) = ap leaf (tree_of_root-seen (root_form T) (object ms))

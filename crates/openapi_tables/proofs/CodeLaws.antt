@@ -9,7 +9,7 @@ abbrev is_again : Code → Option Code → Bool
 is_again c None = false
 is_again c (Some d) = same_code d c
 
--- codes that are found to be the same are equal
+-- codes that are the same by `same_code` are equal
 pub same_code_eq : (c d : Code) → same_code c d ≡ true → c ≡ d
 same_code_eq (code m) (code n) h = ap code (eqb-true m n h)
 same_code_eq (code m) (range n) h = cc
@@ -83,7 +83,7 @@ range_fits a b c h =
     let a2 : a ≤ 57 = leb-true a 57 r.1 in
     le-leb (a - 48) 9 (omega arith)
 
--- a code that is read of a text can be written
+-- a code that is read from a text can be written
 pub writable-code_of : (s : List ℕ) (c : Code) → code_of s ≡ Some c → writable_code c ≡ true
 writable-code_of (x ∷ y ∷ z ∷ []) c h =
     writable_of _ _ (code (100 * (x - 48) + 10 * (y - 48) + (z - 48))) (range (x - 48)) c (code_fits x y z)

@@ -1,4 +1,4 @@
--- Distinct names and keys, as facts on each pair of entries.
+-- Distinct names and keys, as facts about each pair of entries.
 use Rattle.std.proofs.Common.{ℕ, Bool, true, false, not, ◌&&◌, List, [], ◌∷◌, ◌≡◌, refl, ap, ◌∙◌, subst, cond, sym}
 use Rattle.std.proofs.lemmas.Bool.{and_parts, and_from, not-true, both_ways}
 use Rattle.openapi_tables.specs.Prelude.{each, only, every, same_text, Entry, items_list, members_of, Class, no_forms}
@@ -43,19 +43,19 @@ to_keys_differ [] h = refl
 to_keys_differ {X} (e ∷ es) h = and_from _ (keys_differ es) (not_every (λ (d : Pair X). same_key e.key d.key) es h.0)
     (to_keys_differ es h.1)
 
--- members of which some are left out
+-- members with distinct names keep distinct names if one more is put in front of them, or is left out, by a boolean
 only_differ : {X : Type 0} → (p : Entry X → Bool) (b : Bool) (e : Entry X) (es : List (Entry X))
     → Each (λ (d : Entry X). same_text e.name d.name ≡ false) es
     → Differ (only p es) → Differ (cond b (e ∷ only p es) (only p es))
 only_differ {X} p true e es h g = (Each_within-only (λ (d : Entry X). same_text e.name d.name ≡ false) p es h, g)
 only_differ p false e es h g = g
 
--- where no two members have the same name, no two of those that pass a test do
+-- if no two members have the same name, no two of those that pass a test do
 pub Differ-only : {X : Type 0} → (p : Entry X → Bool) (es : List (Entry X)) → Differ es → Differ (only p es)
 Differ-only p [] h = tt
 Differ-only p (e ∷ es) h = only_differ p (p e) e es h.0 (Differ-only p es h.1)
 
--- a name that members lack is apart from theirs
+-- a name that no member has differs from the name of each member
 lacks_apart : (n : List ℕ) (es : List (Entry Tree)) → lacks n (members_of es) ≡ true
     → Each (λ (d : Entry Tree). same_text n d.name ≡ false) es
 lacks_apart n [] h = tt
@@ -70,11 +70,11 @@ apart_lacks n (e ∷ es) h =
     and_from (not (bytes_eq n e.name)) (lacks n (members_of es))
     (not_false (bytes_eq n e.name) (sym (same_bytes n e.name) ∙ h.0)) (apart_lacks n es h.1)
 
--- an object whose members have distinct names, and are well named
+-- the members have distinct names and well named values
 abbrev pub WellNamed : List (Entry Tree) → Type 0
 WellNamed es = Differ es × Each (λ (e : Entry Tree). well_named e.value ≡ true) es
 
--- the members of a well named object have distinct names, and their trees are well named
+-- the members of a well named object have distinct names and well named values
 pub of_object : (es : List (Entry Tree)) → well_named (object (members_of es)) ≡ true → WellNamed es
 of_object [] h = (tt, tt)
 of_object (e ∷ es) h =
@@ -84,7 +84,7 @@ of_object (e ∷ es) h =
     let w = of_object es q.1 in
     ((lacks_apart e.name es p.0, w.0), (q.0, w.1))
 
--- an object is well named where its members have distinct names and well named trees
+-- an object is well named if its members have distinct names and well named values
 pub to_object : (es : List (Entry Tree)) → WellNamed es → well_named (object (members_of es)) ≡ true
 to_object [] h = refl
 to_object (e ∷ es) h =
@@ -102,7 +102,7 @@ pub to_list_named : (ts : List Tree) → Each (λ t. well_named t ≡ true) ts �
 to_list_named [] h = refl
 to_list_named (t ∷ ts) h = and_from (well_named t) _ h.0 (to_list_named ts h.1)
 
--- forms that are made of lists of forms
+-- if each form of a list is distinct, the check of all of them passes
 all_distinct : (fs : List Form) → Each (λ f. distinct f ≡ true) fs
     → every (λ (p : Shown Bool). p.answer) (each (show face_distinct) fs) ≡ true
 all_distinct [] h = refl
@@ -113,7 +113,7 @@ pub distinct-sequence : (fs : List Form) → Each (λ f. distinct f ≡ true) fs
 distinct-sequence fs h = ap (λ l. every (λ (p : Shown Bool). p.answer) l) (of_forms-of face_distinct fs)
     ∙ all_distinct fs h
 
--- an object's form is distinct where each of its slots is
+-- the form of an object is distinct if each of its slots is
 pub distinct-fields : (c : Choice) (fs : List Form) → Each (λ f. distinct f ≡ true) fs
     → distinct (fields c (forms_of fs)) ≡ true
 distinct-fields c fs h = ap (λ l. every (λ (p : Shown Bool). p.answer) l) (of_forms-of face_distinct fs)
@@ -137,12 +137,12 @@ pairs_distinct es h g = and_from _ _ (to_keys_differ (each (on_pair (show face_d
     values [] g = refl
     values (e ∷ es) g = and_from (distinct e.value) _ g.0 (values es g.1)
 
--- a map or class is distinct where no two of its keys are the same and each of its values is distinct
+-- a map or class is distinct if no two of its keys are the same and each of its values is distinct
 pub distinct-named : (es : List (Pair Form)) → Distinct es → Each (λ (e : Pair Form). distinct e.value ≡ true) es
     → distinct (named (named_of es)) ≡ true
 distinct-named es h g = ap (λ l. face_distinct (f_named l)) (of_named-of face_distinct es) ∙ pairs_distinct es h g
 
--- the entries of a map or class of a form with distinct keys
+-- the keys of a distinct map or class differ, and its values are distinct
 pub of_named : (es : Named) → distinct (named es) ≡ true
     → Distinct (named_list es) × Each (λ (e : Pair Form). distinct e.value ≡ true) (named_list es)
 of_named es h =
@@ -168,13 +168,13 @@ of_named es h =
     values [] g = tt
     values (e ∷ es) g = let p = and_parts (distinct e.value) _ g in (p.0, values es p.1)
 
--- where all forms of a sequence or an object are found to be distinct, each of them is
+-- if the check of all forms of a sequence or an object passes, each of them is distinct
 pub of_forms_distinct : (fs : Forms) → every (λ (p : Shown Bool). p.answer) (of_forms face_distinct fs) ≡ true
     → Each (λ f. distinct f ≡ true) (forms_list fs)
 of_forms_distinct no_forms h = tt
 of_forms_distinct (more f fs) h = let p = and_parts (distinct f) _ h in (p.0, of_forms_distinct fs p.1)
 
--- two keys of a class that are written as the same name are the same
+-- two keys that are the same by `same_key` are equal
 same_key_eq : (m n : Key) → same_key m n ≡ true → m ≡ n
 same_key_eq (name m) (name n) h = ap name (same_text_eq m n h)
 same_key_eq (coded c) (coded d) h = ap coded (same_code_eq c d h)
@@ -184,7 +184,7 @@ same_key_eq (coded c) (name n) h = cc
 written_key : (c : Class) (m : Key) → is_written c m ≡ true → key_in c (text_of_key m) ≡ m
 written_key c m h = same_key_eq (key_in c (text_of_key m)) m (and_parts (same_key (key_in c (text_of_key m)) m) _ h).0
 
--- two keys that differ, and are read again in a class, are written as names that differ
+-- two keys that differ, and are read again in a class, are written as different names
 pub texts_differ : (c : Class) (m n : Key) → is_written c m ≡ true → is_written c n ≡ true → same_key m n ≡ false
     → same_text (text_of_key m) (text_of_key n) ≡ false
 texts_differ c m n h g d = not_both (same_text (text_of_key m) (text_of_key n)) same

@@ -1,4 +1,4 @@
--- What is read of a well named tree has distinct keys.
+-- The form that is read from a well named node has distinct keys.
 use Rattle.std.proofs.Common.{ℕ, Bool, true, false, cond, List, [], ◌∷◌, ◌≡◌, refl, ap, ◌∙◌}
 use Rattle.openapi_tables.specs.Prelude.{each, same_text, items_list, members_list, Entry, Kind, map_of, Mode, required}
 use Rattle.openapi_tables.specs.Prelude.{Row, row, either, class, constant, Class, status_names, Tables, takes, ref_to}
@@ -17,7 +17,7 @@ use Rattle.openapi_tables.proofs.AllReadProper.{from_list}
 use Rattle.openapi_tables.proofs.DistinctLaws.{Differ, Differ-only, of_object, of_list_named, distinct-sequence}
 use Rattle.openapi_tables.proofs.DistinctLaws.{distinct-fields, distinct-named}
 
--- what is read of a tree under any kind has distinct keys
+-- if a node is well named, the form that is read from it under any kind has distinct keys
 abbrev Clear : (T : Tables) → Tree → Type 0
 Clear T t = (k : Kind) → well_named t ≡ true → distinct (form T k t) ≡ true
 
@@ -34,7 +34,7 @@ items_clear : (T : Tables) (k : Kind) (ts : List Tree) → Each (Clear T) ts →
 items_clear T k [] g h = tt
 items_clear T k (t ∷ ts) g h = (g.0 k h.0, items_clear T k ts g.1 h.1)
 
--- names that differ are keys that differ, where names are keys
+-- different names are different keys, if each key is a name
 keys_of_names : (T : Tables) (k : Kind) (es : List (Entry Tree)) → Differ es → Distinct (each (pair_of T name k) es)
 keys_of_names T k [] h = tt
 keys_of_names T k (e ∷ es) h = (apart es h.0, keys_of_names T k es h.1)
@@ -111,6 +111,6 @@ taken_clear T k t f (as_schema u x e y) g h = taken_clear T (ref_to a_schema) u 
 taken_clear T k t f (as_inner j u x y) g h = taken_clear T j u x y g h
 taken_clear T k t f x g h = refl
 
--- what is read of a well named tree, under any kind, is distinct
+-- the form that is read from a well named node, under any kind, is distinct
 pub reads_distinct : (T : Tables) (t : Tree) → Clear T t
 reads_distinct T t = by_trees (Clear T) (λ u g k h. taken_clear T k u (form T k u) (taken T k u) g h) t

@@ -1,4 +1,4 @@
--- A form with distinct keys is written as a tree that is well named.
+-- A form with distinct keys is written as a well named node.
 use Rattle.std.proofs.Common.{ℕ, Bool, true, false, cond, ◌&&◌, ◌||◌, List, [], ◌∷◌, ◌≡◌, refl, sym, ap, ◌∙◌, subst}
 use Rattle.std.proofs.Common.{⊎_elim, not}
 use Rattle.std.proofs.lemmas.Bool.{and_parts, or_cases, both_ways}
@@ -26,19 +26,19 @@ use Rattle.openapi_tables.proofs.Writes.{print-proper, written}
 use Rattle.openapi_tables.proofs.DistinctLaws.{Differ, WellNamed, to_object, to_list_named, of_named, of_forms_distinct}
 use Rattle.openapi_tables.proofs.DistinctLaws.{texts_differ}
 
--- a form with distinct keys that is proper for a kind is written as a tree that is well named
+-- a form with distinct keys that is proper for a sound kind is written as a well named node
 abbrev WritesNamed : (T : Tables) → Form → Type 0
 WritesNamed T f = (k : Kind) → sound T k ≡ true → proper T k f ≡ true → distinct f ≡ true
     → well_named (print T k f) ≡ true
 
--- two lists of members that share no name
+-- the concatenation of two lists with distinct names has distinct names, if the lists share no name
 join_differ : (es ds : List (Entry Tree)) → Differ es → Differ ds
     → Each (λ (e : Entry Tree). Each (λ (d : Entry Tree). same_text e.name d.name ≡ false) ds) es → Differ (join es ds)
 join_differ [] ds h g a = g
 join_differ (e ∷ es) ds h g a =
     (Each-join (λ (d : Entry Tree). same_text e.name d.name ≡ false) es ds h.0 a.0, join_differ es ds h.1 g a.1)
 
--- names that a row takes, and names that it does not take
+-- a name that a row takes differs from a name that it does not take
 other_name : (w : Row) (m n : List ℕ) → takes w m ≡ true → takes w n ≡ false → same_text m n ≡ false
 other_name w m n h g = not_both (same_text m n)
     (λ e. both_ways (takes w n) g (subst (λ l. takes w l ≡ true) (same_text_eq m n e) h))
@@ -58,7 +58,7 @@ others_apart T w n (v ∷ ws) (f ∷ fs) h a o =
     other_back v m n g h = not_both (same_text m n)
         (λ e. both_ways (takes v m) g (subst (λ l. takes v l ≡ true) (sym (same_text_eq m n e)) h))
 
--- what each row writes is well named
+-- the members that each row writes are well named
 abbrev AllNamed : (T : Tables) → List Row → List Form → Type 0
 AllNamed T [] fs = Unit {0}
 AllNamed T (w ∷ ws) [] = Unit {0}
@@ -79,7 +79,7 @@ rows_named T (w ∷ ws) (f ∷ fs) a o h =
       Each-join (λ (e : Entry Tree). well_named e.value ≡ true) mine (members_for T ws fs) h.0.1 r.1,
     )
 
--- the entries of a class or a map
+-- the key of an entry is written as a name of the class, and its value is proper
 abbrev Written_as : (T : Tables) → Class → Kind → Pair Form → Type 0
 Written_as T c k e = (is_written c e.key ≡ true) × (proper T k e.value ≡ true)
 
@@ -101,7 +101,7 @@ entries_named : (T : Tables) (k : Kind) (es : List (Pair Form)) → sound T k �
 entries_named T k [] s g h d = tt
 entries_named T k (e ∷ es) s g h d = (g.0 k s h.0 d.0, entries_named T k es s g.1 h.1 d.1)
 
--- one row
+-- what a row of one name writes is well named, if its form is written as a well named node
 name_named : (T : Tables) (n : List ℕ) (m : Mode) (k : Kind) (f : Form)
     → (proper T k f ≡ true → well_named (print T k f) ≡ true) → (may_be_absent m f || proper T k f) ≡ true
     → (b : Bool) → WellNamed (cond b [] (one n (print T k f)))
@@ -225,6 +225,6 @@ step T W (fields c fs) g a_schema_kind s h d = fields_named T W c fs g a_schema_
 step T W f g (null_or any_text) s h d = cc
 step T W f g k s h d = cc
 
--- a form that is proper and distinct is written as a well named tree
+-- a form that is proper and distinct is written as a well named node
 pub writes_named : (T : Tables) (W : tables_sound T ≡ true) (f : Form) → WritesNamed T f
 writes_named T W f = by_deep (WritesNamed T) (step T W) f

@@ -1,4 +1,4 @@
--- A broken thing that is asked, and a tree that does not conform.
+-- A requirement that is not met, and a node that does not conform.
 use Rattle.std.proofs.Common.{Bool, false, List, [], ◌∷◌, ◌≡◌, refl, sym, ap, ◌∙◌, inl, inr, ⊎_elim}
 use Rattle.std.proofs.lemmas.Bool.{and_cases, and_left, and_right}
 use Rattle.openapi_tables.specs.Prelude.{every, is_empty, Cause, asked, causes, is_met, Among}
@@ -30,7 +30,7 @@ first_cause : (cs : List Cause) → is_empty cs ≡ false → (c : Cause) × Amo
 first_cause [] h = cc
 first_cause (c ∷ cs) h = (c, inl refl)
 
--- a tree does not conform exactly where something that is asked is broken: the law `Faults`
+-- a node does not conform if and only if some requirement in it is not met: the law `Faults`
 pub faults : Faults
 faults T k t W s = (
   (λ a c h g. conforms-asked T W t k s

@@ -1,4 +1,4 @@
--- A tree conforms to a kind exactly where nothing that is asked is broken: for all kinds and trees.
+-- A node conforms to a kind if and only if each requirement of the kind in it is met: for all kinds and nodes.
 use Rattle.openapi_tables.proofs.ListLaws.{every_behind}
 use Rattle.std.proofs.Common.{ℕ, pos, Bool, true, false, cond, ◌&&◌, nat_le, List, [], ◌∷◌, Option, Some, None, ◌≡◌}
 use Rattle.std.proofs.Common.{refl, sym, ap, ◌∙◌, codes}
@@ -74,7 +74,8 @@ schema_kind_met T W ms g =
     (every_behind never_misses (T schema_data) (each made_optional any_rows) (checked T W).5) g
     ∙ ap (λ l. every (is_met T) (asks_rows l (each made_optional any_rows))) (sym (of_members_lem (root_asks T) ms))
 
--- tags
+-- an object with a given text at its tag conforms if and only if the tag may have the text and the requirements of its
+-- table are met
 tag_text : (T : Tables) (W : tables_sound T ≡ true) (n : List ℕ) (cs : List Case) (es : List (Entry Tree))
     (s : List ℕ) → Each (λ (e : Entry Tree). Judged_by T e.value) es
     → constant_holds s (own (constant n s) (judged T es)) ≡ true → (b : Bool) → is_case cs s ≡ b
@@ -149,7 +150,7 @@ tagged_met T W n cs ms g =
     asks_of l = join (asks_own (row n required (one_of (words cs))) (own (constant n []) l))
         (asks_tag T n cs l (tag_choice cs (held n (trees l))))
 
--- references
+-- the text of a reference is the same, whether conformance or requirements are beside the values of an object
 is_reference_same : (T : Tables) (ms : Members)
     → is_reference (an_object (of_members (root_conforms T) ms))
     ≡ is_reference (an_object (of_members (root_asks T) ms))
@@ -188,6 +189,6 @@ met T W status_code (text u) g s = unless_met (is_code (code_of u)) _
 met T W k null g s = refl
 met T W k t g s = refl
 
--- a tree conforms exactly where nothing that is asked is broken
+-- a node conforms to a sound kind if and only if each requirement of the kind in it is met
 pub conforms-asked : (T : Tables) (W : tables_sound T ≡ true) (t : Tree) → Judged_by T t
 conforms-asked T W t = by_trees (Judged_by T) (λ u g k s. met T W k u g s) t

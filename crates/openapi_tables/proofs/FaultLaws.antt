@@ -1,4 +1,4 @@
--- A tree conforms to a kind exactly where nothing that is asked is broken.
+-- A node conforms to a kind if and only if each requirement of the kind in it is met: for items, members and rows.
 use Rattle.openapi_tables.proofs.BoolLaws.{shuffle}
 use Rattle.std.proofs.Common.{ℕ, suc, Bool, true, false, not, cond, ◌&&◌, ◌||◌, List, [], ◌∷◌, ◌≡◌, refl, sym, ap, ◌∙◌}
 use Rattle.std.proofs.lemmas.Bool.{and_parts}
@@ -18,7 +18,7 @@ use Rattle.openapi_tables.proofs.TreeLaws.{see}
 use Rattle.openapi_tables.proofs.again.ObjectsBack.{checked, table_sound, every_table}
 use Rattle.openapi_tables.proofs.SoundLaws.{sound_pick}
 
--- all elements of two lists in a row pass a test exactly where all of the first and all of the second do
+-- all elements of a concatenation pass a test if and only if all of the first and all of the second list do
 pub every-join : {A : Type 0} → (p : A → Bool) (xs ys : List A) → every p (join xs ys) ≡ (every p xs && every p ys)
 every-join p [] ys = refl
 every-join p (x ∷ xs) ys = ap (λ b. p x && b) (every-join p xs ys) ∙ regroup (p x) (every p xs) (every p ys)
@@ -27,29 +27,29 @@ every-join p (x ∷ xs) ys = ap (λ b. p x && b) (every-join p xs ys) ∙ regrou
     regroup true b c = refl
     regroup false b c = refl
 
--- two lists in a row are empty exactly where both are
+-- a concatenation is empty if and only if both lists are
 pub is_empty-join : {A : Type 0} → (xs ys : List A) → is_empty (join xs ys) ≡ (is_empty xs && is_empty ys)
 is_empty-join [] ys = refl
 is_empty-join (x ∷ xs) ys = refl
 
--- whether all that is asked is met is the same seen from one step above
+-- one more step at the front of each location does not change whether all requirements are met
 pub every-below : (T : Tables) (p : Step) (xs : List Asking) → every (is_met T) (below p xs) ≡ every (is_met T) xs
 every-below T p [] = refl
 every-below T p (x ∷ xs) = ap (λ b. is_met T x && b) (every-below T p xs)
 
--- a tree conforms exactly where what is asked of it is met
+-- a node conforms to a sound kind if and only if each requirement of the kind in it is met
 abbrev pub Judged_by : (T : Tables) → Tree → Type 0
 Judged_by T t = (k : Kind) → sound T k ≡ true → conforms T k t ≡ every (is_met T) (asked T k t)
 
--- the members of a list, with the kinds that each conforms to
+-- members, each with whether its value conforms to each kind
 abbrev pub judged : (T : Tables) → List (Entry Tree) → Judged
 judged T es = each (on_entry (see (root_conforms T))) es
 
--- the members of a list, with what each kind asks in each of them
+-- members, each with the requirements that each kind has in its value
 abbrev pub askeds : (T : Tables) → List (Entry Tree) → List (Entry Asks)
 askeds T es = each (on_entry (see (root_asks T))) es
 
--- the items of a list all conform exactly where all that is asked of them is met, if it is so of each item
+-- all items of a list conform to a kind if and only if its requirements for them are met, if that is so for each item
 pub items_judged : (T : Tables) (k : Kind) (i : ℕ) (ts : Items) → sound T k ≡ true
     → Each (Judged_by T) (items_list ts)
     → every (λ (x : Seen (Kind → Bool)). x.answer k) (of_items (root_conforms T) ts)
@@ -61,7 +61,7 @@ items_judged T k i (item t ts) s h =
     ∙ ap (λ b. every (is_met T) (below (at_index i) (asked T k t)) && b) (items_judged T k (suc i) ts s h.1)
     ∙ sym (every-join (is_met T) (below (at_index i) (asked T k t)) (asks_items k (suc i) (of_items (root_asks T) ts)))
 
--- members all conform exactly where all that is asked of them is met, if it is so of each member
+-- all members conform to a kind if and only if its requirements for them are met, if that is so for each member
 pub members_judged : (T : Tables) (k : Kind) (es : List (Entry Tree)) → sound T k ≡ true
     → Each (λ (e : Entry Tree). Judged_by T e.value) es
     → every (λ (e : Entry (Seen (Kind → Bool))). e.value.answer k) (judged T es)
@@ -78,7 +78,7 @@ skipped : (T : Tables) (b c : Bool) (xs : List Asking) → c ≡ every (is_met T
 skipped T true c xs h = refl
 skipped T false c xs h = h
 
--- a row of a name
+-- a row of one name holds if and only if no required member is missing and its requirements are met
 name_judged : (T : Tables) (n : List ℕ) (m : Mode) (k : Kind) (l : List (Entry Tree)) → sound T k ≡ true
     → Each (λ (e : Entry Tree). Judged_by T e.value) l
     → name_holds m k (judged T l)
@@ -102,7 +102,7 @@ either_judged T a b j k (e ∷ l) s r h =
     h.0 (cond (same_text a e.name) j k) (sound_pick T (same_text a e.name) j k s r)
     ∙ sym (every-below T (at_name e.name) (asked T (cond (same_text a e.name) j k) e.value))
 
--- a row takes the same members, whichever function's answers are seen with them
+-- a row takes the same members, whichever function's results are beside them
 pub own_judged : {X : Type 0} → (f : Shape (Seen X) → X) (w : Row) (es : List (Entry Tree))
     → own w (each (on_entry (see f)) es) ≡ each (on_entry (see f)) (own w es)
 own_judged f w es = only-each (λ e. takes w e.name) (on_entry (see f)) es
@@ -146,14 +146,14 @@ rows_judged T (w ∷ ws) es s m h =
     ∙ ap (λ b. is_empty (flat (each (row_misses es) (w ∷ ws))) && b)
     (sym (every-join (is_met T) (asks_row (askeds T es) w) (asks_rows (askeds T es) ws)))
 
--- objects
+-- no row of a sound table is that of a tag
 table_members : (T : Tables) (W : tables_sound T ≡ true) (i : TableName) → every has_members (T i) ≡ true
 table_members T W i = every_table (λ n. every has_members (T n)) (checked T W).3 i
 
 table_rows : (T : Tables) (W : tables_sound T ≡ true) (i : TableName) → every (row_sound T) (T i) ≡ true
 table_rows T W i = (and_parts (rows_apart (T i)) (every (row_sound T) (T i)) (table_sound T W i)).1
 
--- the rows of a table hold exactly where they miss nothing and all that they ask is met
+-- the rows of a table hold if and only if no required member is missing and all their requirements are met
 pub table_judged : (T : Tables) (W : tables_sound T ≡ true) (i : TableName) (es : List (Entry Tree))
     → Each (λ (e : Entry Tree). Judged_by T e.value) es
     → every (row_holds (judged T es)) (T i)
@@ -176,7 +176,7 @@ none_missed [] es h = refl
 none_missed (w ∷ ws) es h = ap (λ l. is_empty (join l (flat (each (row_misses es) ws)))) (never w (own w es) h.0)
     ∙ none_missed ws es h.1
 
--- rows that can miss nothing hold exactly where all that they ask is met
+-- rows that require no member hold if and only if all their requirements are met
 pub open_judged : (T : Tables) (ws : List Row) (es : List (Entry Tree)) → every (row_sound T) ws ≡ true
     → every never_misses ws ≡ true → Each (λ (e : Entry Tree). Judged_by T e.value) es
     → every (row_holds (judged T es)) ws ≡ every (is_met T) (asks_rows (askeds T es) ws)
@@ -186,12 +186,12 @@ open_judged T ws es s n h =
     (each_under (λ w (x : never_misses w ≡ true). never_has_members w x) ws m) h
     ∙ ap (λ b. b && every (is_met T) (asks_rows (askeds T es) ws)) (none_missed ws es m)
 
--- a text is one of the words of a tag exactly where it is a case of the tag
+-- a text is one of the words of a tag if and only if it is one that the tag may have
 pub has_words : (cs : List Case) (s : List ℕ) → has (words cs) s ≡ is_case cs s
 has_words [] s = refl
 has_words (c ∷ cs) s = ap (λ b. same_text c.word s || b) (has_words cs s)
 
--- the rows that a tag's text stands for are those of its table
+-- the rows that the text of a tag selects are those of its table
 pub rows_at_tag : (T : Tables) (cs : List Case) (s : List ℕ) → is_case cs s ≡ true
     → case_rows T cs s ≡ T (tag_table cs s)
 rows_at_tag T [] s h = cc
@@ -203,7 +203,7 @@ rows_at_tag T (c ∷ cs) s h = at_case c cs s (same_text c.word s) h (λ x. rows
     at_case c cs s true h f = refl
     at_case c cs s false h f = f h
 
--- what is seen of an object, with what a function gives of its members
+-- members with the results of a function beside them, without these results, are the members
 pub seen_members : {X : Type 0} → (f : Shape (Seen X) → X) (es : List (Entry Tree))
     → trees (each (on_entry (see f)) es) ≡ es
 seen_members f [] = refl

@@ -1,4 +1,4 @@
--- Two lists of tables that differ in some rows: trees that conform by the one conform by the other.
+-- Two lists of tables that differ in some rows: nodes that conform by the first list conform by the second.
 use Rattle.std.proofs.Common.{ℕ, suc, pos, Bool, true, false, not, cond, ◌&&◌, ◌||◌, List, [], ◌∷◌, Option, Some, None}
 use Rattle.std.proofs.Common.{◌≡◌, refl, sym, ap, ◌∙◌, subst}
 use Rattle.std.proofs.lemmas.Bool.{and_parts, and_from}
@@ -30,9 +30,9 @@ use Rattle.openapi_tables.proofs.Writes.{object_conforms}
 use Rattle.openapi_tables.proofs.AllReadProper.{held_of, of_list, from_list, tag_of}
 use Rattle.openapi_tables.proofs.AskedLaws.{OfAsked, Each_parts, of_below, held_in, table_conforms}
 
--- Where kinds that change do so as C says, and P is given of what the second list asks: rows of the first list,
--- beside the rows that hold of the same members. A row may be the same, be of another kind, be left out, or be added
--- if P suffices for it.
+-- The rows of the first list beside the rows of the second that hold for the same members. A row may be the same, have
+-- another kind as `C` allows, be left out, or be added. It may be added if a node conforms to its kind whenever `P`
+-- holds for each requirement of the second list in the node.
 pub data RowsKept (U : Tables) (P : Kind → Tree → Type 0) (C : Kind → Kind → Type 0) : List Row → List Row
     → Type 0 where
   kept_none : RowsKept U P C [] []
@@ -44,7 +44,7 @@ pub data RowsKept (U : Tables) (P : Kind → Tree → Type 0) (C : Kind → Kind
       → ((t : Tree) → OfAsked P (asked U k t) → conforms U k t ≡ true) → RowsKept U P C vs ws
       → RowsKept U P C vs (row n optional k ∷ ws)
 
--- a list of rows beside itself is kept: no row has changed
+-- the rows of a list, beside themselves, are kept: no row has changed
 pub all_same : (U : Tables) (P : Kind → Tree → Type 0) (C : Kind → Kind → Type 0) (ws : List Row) → RowsKept U P C ws ws
 all_same U P C [] = kept_none
 all_same U P C (w ∷ ws) = kept_same w ws ws (all_same U P C ws)
@@ -57,11 +57,12 @@ same_behind U P C vs ws xs (kept_changed n m j k us zs c r) = kept_changed n m j
 same_behind U P C vs ws xs (kept_dropped w us zs r) = kept_dropped w _ _ (same_behind U P C us zs xs r)
 same_behind U P C vs ws xs (kept_added n k us zs d r) = kept_added n k _ _ d (same_behind U P C us zs xs r)
 
--- a tree that conforms to one kind by the first list conforms to another by the second
+-- a node that conforms to one kind by the first list conforms to another by the second, if `P` holds for each
+-- requirement of the second list in it
 abbrev pub Keeps : (T U : Tables) → (Kind → Tree → Type 0) → Kind → Kind → Tree → Type 0
 Keeps T U P j k t = sound U k ≡ true → conforms T j t ≡ true → OfAsked P (asked U k t) → conforms U k t ≡ true
 
--- it conforms to the same kind, and to a kind that has changed
+-- the same, for the same kind and for each kind that has changed as `C` allows
 abbrev pub Kept : (T U : Tables) → (Kind → Tree → Type 0) → (Kind → Kind → Type 0) → Tree → Type 0
 Kept T U P C t = ((k : Kind) → Keeps T U P k k t) × ((j k : Kind) → C j k → Keeps T U P j k t)
 
@@ -69,7 +70,7 @@ within : (Q : Tree → Type 0) (w : Row) (es : List (Entry Tree)) → Each (λ (
     → Each (λ (e : Entry Tree). Q e.value) (own w es)
 within Q w es g = Each_within-only (λ (e : Entry Tree). Q e.value) (λ e. takes w e.name) es g
 
--- what one row asks, and what those behind it ask
+-- if `P` holds for the requirements of rows, it holds for those of the first row and for those of the rows after it
 asks_parts : (U : Tables) (P : Kind → Tree → Type 0) (es : List (Entry Tree)) (w : Row) (ws : List Row)
     → OfAsked P (asks_rows (askeds U es) (w ∷ ws))
     → OfAsked P (asks_own w (askeds U (own w es))) × OfAsked P (asks_rows (askeds U es) ws)
@@ -138,7 +139,7 @@ module _ (T U : Tables) (W : tables_sound U ≡ true) (P : Kind → Tree → Typ
       (below (at_name e.name) (asked U k e.value)) h o
       (λ c a. g.0 s c (of_below P (at_name e.name) (asked U k e.value) a))
 
-  -- the same row
+  -- a row that is the same in both lists holds by the second, if it holds by the first
   row_kept : (w : Row) (l : List (Entry Tree)) → row_sound U w ≡ true → ValuesKept l
       → row_holds_own w (judged T l) ≡ true → OfAsked P (asks_own w (askeds U l))
       → row_holds_own w (judged U l) ≡ true
@@ -152,7 +153,7 @@ module _ (T U : Tables) (W : tables_sound U ≡ true) (P : Kind → Tree → Typ
   row_kept w [] s g h o = h
   row_kept w l s g h o = h
 
-  -- a row that was added
+  -- a row that was added holds
   added_holds : (n : List ℕ) (k : Kind) → ((t : Tree) → OfAsked P (asked U k t) → conforms U k t ≡ true)
       → (l : List (Entry Tree))
       → OfAsked P (asks_own (row n optional k) (askeds U l)) → name_holds optional k (judged U l) ≡ true
@@ -184,7 +185,7 @@ module _ (T U : Tables) (W : tables_sound U ≡ true) (P : Kind → Tree → Typ
       let q = asks_parts U P es (row n optional k) zs o in
       (added_holds n k d (own (row n optional k) es) q.0, rows_kept es us zs r s.1 g h q.1)
 
-  -- objects
+  -- the rows of the second list hold for an object, if those of the first do
   objects_kept : (vs ws : List Row) (ms : Members) → RowsKept U P C vs ws → Each (λ w. row_sound U w ≡ true) ws
       → ValuesKept (members_list ms) → AllHold T (members_list ms) vs
       → OfAsked P (asks_rows (of_members (root_asks U) ms) ws) → AllHold U (members_list ms) ws
@@ -274,8 +275,7 @@ module _ (T U : Tables) (W : tables_sound U ≡ true) (P : Kind → Tree → Typ
       (of_members_lem (root_conforms T) ms) h)
       (subst (λ l. OfAsked P (asks_members k l)) (of_members_lem (root_asks U) ms) o))
 
-  -- where a reference may stand: a reference still conforms, and any other object does where the
-  -- item is kept
+  -- where a reference is allowed, a reference still conforms, and any other object does if the item is kept
   pub item_kept : (ms : Members) (b c : Bool) (l : List Asking)
       → reference_or (is_reference (an_object (of_members (root_conforms T) ms))) b ≡ true
       → OfAsked P (unless_reference (is_reference (an_object (of_members (root_asks U) ms))) l)
@@ -317,8 +317,8 @@ module _ (T U : Tables) (W : tables_sound U ≡ true) (P : Kind → Tree → Typ
   step r k (whole (pos n)) g s h o = h
   step r k t g s h o = h
 
-  -- where a change of kind keeps what conforms, once it is so for the trees inside, the second list keeps what
-  -- conforms by the first
+  -- a node that conforms by the first list conforms by the second, if each change of kind keeps that whenever it is
+  -- kept for the nodes inside
   pub kept : ((i : TableName) → RowsKept U P C (T i) (U i))
       → ((t : Tree) → Inside (Kept T U P C) t → (j k : Kind) → C j k → Keeps T U P j k t)
       → (t : Tree) → Kept T U P C t

@@ -56,12 +56,12 @@ Distinct-put {X} n x (e ∷ m) g =
     either_way (λ (l : List (Pair X)). Distinct l) (same_key e.key n) (record { key = e.key; value = x } ∷ m)
     (e ∷ put n x m) (λ b. g) (λ b. (apart_put e.key n x m b g.0, Distinct-put n x m g.1))
 
--- a map with distinct keys still has distinct keys when any entries have gone in
+-- a map with distinct keys has distinct keys after any entries are put into it
 pub Distinct-put_all : {X : Type 0} → (m es : List (Pair X)) → Distinct m → Distinct (put_all m es)
 Distinct-put_all m [] g = g
 Distinct-put_all m (e ∷ es) g = Distinct-put_all (put e.key e.value m) es (Distinct-put e.key e.value m g)
 
--- what holds of the keys and of the values of all entries holds of those of the map
+-- `K` holds for the key of an entry, and `V` for its value
 abbrev pub Both : {X : Type 0} → (Key → Type 0) → (X → Type 0) → Pair X → Type 0
 Both K V e = K e.key × V e.value
 
@@ -78,23 +78,23 @@ Both-put_all K V m [] h g = h
 Both-put_all K V m (e ∷ es) h g =
     Both-put_all K V (put e.key e.value m) es (Both-put K V e.key e.value m g.0.0 g.0.1 h) g.1
 
--- the entries of a class
+-- what holds for the keys and values of entries holds for those of the entries that a class gathers
 pub Both-gather : {X : Type 0} → (K : Key → Type 0) (V : X → Type 0) (c : Class) (es : List (Pair X))
     → Each (Both K V) es → Each (Both K V) (gather c es)
 Both-gather K V status_names es h = Both-put_all K V [] es tt h
 Both-gather K V c es h = h
 
--- entries that go into no map, or that have distinct keys, are gathered as they stand
+-- if the entries of the class are gathered into a map, they have distinct keys
 abbrev pub Gathered : {X : Type 0} → Class → List (Pair X) → Type 0
 Gathered status_names es = Distinct es
 Gathered _ es = Unit {0}
 
--- the entries that a class has gathered have distinct keys, where it gathers them into a map
+-- the entries that a class has gathered have distinct keys, if it gathers them into a map
 pub Gathered-gather : {X : Type 0} → (c : Class) (es : List (Pair X)) → Gathered c (gather c es)
 Gathered-gather status_names es = Distinct-put_all [] es tt
 Gathered-gather c es = tt
 
--- entries are gathered as they stand where the class is no map, or they have distinct keys
+-- gathering leaves entries unchanged if the class is not gathered into a map, or the entries have distinct keys
 pub gather-gathered : {X : Type 0} → (c : Class) (es : List (Pair X)) → Gathered c es → gather c es ≡ es
 gather-gathered status_names es h = put_all-distinct [] es h
 gather-gathered c es h = refl

@@ -1,4 +1,4 @@
--- Where the rows of a sort hold, and no other kind name is there, all kind names hold.
+-- If the rows of a sort hold, and no other kind name is present, the rows of all kind names hold.
 use Rattle.openapi_tables.proofs.TreeLaws.{null_tree}
 use Rattle.std.proofs.Common.{ℕ, Bool, true, false, not, ◌&&◌, ◌||◌, List, [], ◌∷◌, ◌≡◌, refl, sym, ap, ◌∙◌, subst}
 use Rattle.std.proofs.Common.{⊎_elim}
@@ -21,7 +21,7 @@ use Rattle.openapi_node.specs.Tree.{Items, Members, Tree, item, list, member, no
 use Rattle.openapi_tables.proofs.SortShown.{Others}
 use Rattle.openapi_tables.proofs.SortHolds.{AllHold, text_held}
 
--- kinds of which all that conforms to the one conforms to the other
+-- kinds of which every node that conforms to the first conforms to the second
 abbrev pub always : Kind → Kind → Bool
 always j any_tree = true
 always any_text any_text = true
@@ -41,7 +41,7 @@ fits (ref_to a_schema) (ref_to a_schema) = true
 fits flag_or_schema flag_or_schema = true
 fits j k = false
 
--- every tree conforms to the kind of any tree
+-- every node conforms to `any_tree`
 pub any_conforms : (T : Tables) (t : Tree) → conforms T any_tree t ≡ true
 any_conforms T null = refl
 any_conforms T t = refl
@@ -107,7 +107,7 @@ pub text_fits : Kind → Bool
 text_fits any_text = true
 text_fits k = false
 
--- whether a row is one of a name, of which what holds fits a kind
+-- whether a row has the name, and what it holds for fits the kind
 pub row_fits : Row → List ℕ → Kind → Bool
 row_fits (row a m j) n k = same_text a n && fits j k
 row_fits (constant a v) n k = same_text a n && text_fits k
@@ -178,12 +178,12 @@ each_covered T s [] es c h o = tt
 each_covered T s (w ∷ ws) es c h o = let p = and_parts (covered s w) (every (covered s) ws) c in
     (covered_holds T s w es p.0 h o, each_covered T s ws es p.1 h o)
 
--- where the rows of a sort hold, and no other kind name is there, all kind names hold
+-- if the rows of a sort hold, and no other kind name is present, the rows of all kind names hold as optional rows
 pub kinds_hold : (T : Tables) (s : Sort) (es : List (Entry Tree)) → AllHold T es (sort_rows s) → Others s es
     → AllHold T es (each made_optional any_rows)
 kinds_hold T s es h o = each_covered T s any_rows es (sort_in (λ x. every (covered x) any_rows) all_covered s) h o
 
--- of what the rows of a sort and others before them write, the names that the sort does not allow are absent
+-- in what the rows of a sort and others before them write, the kind names that the sort does not allow are absent
 pub others_written : (T : Tables) (pre : List Row) (s : Sort) (fs : List Form) → names_fit pre s ≡ true
     → OwnWrites T (join pre (sort_rows s)) fs → Others s (members_for T (join pre (sort_rows s)) fs)
 others_written T pre s fs n g m p q =

@@ -1,4 +1,4 @@
--- An object's form by its members: which may change places, and which count for nothing.
+-- Which members of an object may be swapped, and which have no effect on its form.
 use Rattle.openapi_tables.proofs.ListLaws.{every_same}
 use Rattle.std.proofs.Common.{ℕ, Bool, true, false, not, cond, ◌&&◌, ◌||◌, List, [], ◌∷◌, Some, ◌≡◌, refl, sym, ap, ◌∙◌}
 use Rattle.std.proofs.Common.{subst, codes}
@@ -16,17 +16,17 @@ use Rattle.openapi_tables.proofs.ListLaws.{Each, every_each, same_text-refl, eac
 use Rattle.openapi_tables.proofs.RowLaws.{not_both}
 use Rattle.openapi_tables.proofs.ReadLaws.{reads, slot_in, form-fields}
 
--- two lists of members hold the same under each kind name
+-- two lists of members have the same value at each kind name
 abbrev SameKinds : List (Entry Tree) → List (Entry Tree) → Type 0
 SameKinds es ds = (n : List ℕ) → has kind_names n ≡ true → held n es ≡ held n ds
 
--- each of the 24 kind names is one of them
+-- each kind name is found in the list of kind names
 pub kind_names_known : every (has kind_names) kind_names ≡ true
 unfolding kind_names any_rows
 kind_names_known = refl
 
--- two lists of members are alike in what their sort depends on: which kind names are null or missing, the type, and
--- what the further condition of a sort asks
+-- two lists of members agree in what their sort depends on: which kind names are null or missing, the type, and the
+-- values that the further condition of a sort checks
 pub record AlikeKinds (es ds : List (Entry Tree)) : Type 0 where
   pub nulls : Each (λ n. is_null (held n es) ≡ is_null (held n ds)) kind_names
   pub type : held (codes "type") es ≡ held (codes "type") ds
@@ -63,7 +63,7 @@ possible_same null es ds h =
     (h.nulls.1.1.1.1.1.1.1.1.1.1.1.1.1.1.1.1.1.1.1.1.1.1.0 i) (h.nulls.1.1.1.1.1.1.1.1.1.1.1.1.1.1.1.1.1.1.1.1.1.1.1.0 i)
 possible_same t es ds h = refl
 
--- members that are alike in what their sort depends on have the same sort
+-- members that agree in what their sort depends on have the same sort
 pub same_sort : (es ds : List (Entry Tree)) → AlikeKinds es ds → sort_of es ≡ sort_of ds
 same_sort es ds h =
     let p : possible_sort (held (codes "type") es) es ≡ possible_sort (held (codes "type") ds) ds =
@@ -72,7 +72,7 @@ same_sort es ds h =
     ∙ ap (λ b. cond b (possible_sort (held (codes "type") ds) ds) any_sort)
     (meets_same (possible_sort (held (codes "type") ds) ds) es ds h)
 
--- so it is with members that hold the same under each kind name
+-- members that have the same value at each kind name have the same sort
 sort_same : (es ds : List (Entry Tree)) → SameKinds es ds → sort_of es ≡ sort_of ds
 unfolding kind_names any_rows
 sort_same es ds h =
@@ -86,7 +86,7 @@ sort_same es ds h =
       maximum = h (codes "maximum") refl;
     })
 
--- which rows an object is read by depends on the names that have a say in it
+-- the rows by which an object is read depend only on the values at the names that steer
 pub choice_same : (k : Kind) (es ds : List (Entry Tree)) → ((n : List ℕ) → steers k n ≡ true → held n es ≡ held n ds)
     → choice k es ≡ choice k ds
 choice_same (tagged n cs) es ds h = ap (tag_choice cs) (h n (same_text-refl n))
@@ -101,7 +101,8 @@ slots_same T (w ∷ ws) es ds h =
     ap (λ l. slot_of_own w (reads T l) ∷ each (slot_in T es) ws) h.0
     ∙ ap (λ l. slot_in T ds w ∷ l) (slots_same T ws es ds h.1)
 
--- two objects are read as the same form where each name that steers, and each row, finds the same in both
+-- two objects are read as the same form if each name that steers has the same value in both, and each row takes the
+-- same members
 pub form_same : (T : Tables) (k : Kind) (c : Choice) (es ds : List (Entry Tree)) → choice k ds ≡ Some c
     → ((n : List ℕ) → steers k n ≡ true → held n es ≡ held n ds)
     → Each (λ w. own w es ≡ own w ds) (rows_of T k c)
@@ -110,7 +111,7 @@ form_same T k c es ds h g o =
     form-fields T k c es (choice_same k es ds g ∙ h)
     ∙ ap (λ l. fields c (forms_of l)) (slots_same T (rows_of T k c) es ds o) ∙ sym (form-fields T k c ds h)
 
--- a member that does not pass
+-- an element that does not pass a test makes no difference to the elements that pass
 pub only_skips : {A : Type 0} → (p : A → Bool) (xs ys : List A) (x : A) → p x ≡ false
     → only p (join xs (x ∷ ys)) ≡ only p (join xs ys)
 only_skips p [] ys x h = ap (λ b. cond b (x ∷ only p ys) (only p ys)) h
@@ -122,18 +123,18 @@ swapped true true x y l h = cc
 swapped b false x y l h = refl
 swapped b c x y l h = refl
 
--- what passes a test is the same when two neighbours change places that do not both pass it
+-- the elements that pass a test are the same after two neighbors are swapped that do not both pass it
 pub only_swaps : {A : Type 0} → (p : A → Bool) (xs ys : List A) (x y : A) → (p x && p y) ≡ false
     → only p (join xs (y ∷ x ∷ ys)) ≡ only p (join xs (x ∷ y ∷ ys))
 only_swaps p [] ys x y h = swapped (p x) (p y) x y (only p ys) h
 only_swaps p (z ∷ xs) ys x y h = ap (λ l. cond (p z) (z ∷ l) l) (only_swaps p xs ys x y h)
 
--- a name that steers and a name that does not are two names
+-- a name that steers differs from a name that does not
 pub other_name : (k : Kind) (n m : List ℕ) → steers k n ≡ true → steers k m ≡ false → same_text n m ≡ false
 other_name k n m h g = not_both (same_text n m)
     (λ e. both_ways (steers k m) g (subst (λ u. steers k u ≡ true) (same_text_eq n m e) h))
 
--- no text is the same as two that differ
+-- a text is not the same as both of two different texts
 pub not_two : (n d e : List ℕ) → same_text d e ≡ false → (same_text n d && same_text n e) ≡ false
 not_two n d e h =
     not_both (same_text n d && same_text n e) (λ x.

@@ -1,5 +1,5 @@
--- What is cleaned keeps the order of maps, of lists and of the members of a class, and leads from an object to what
--- stands in it.
+-- Normalizing keeps the order of maps, of lists and of the members of a class, and normalizes each member that is read
+-- and written by the kind of its row.
 use Rattle.std.proofs.Common.{true, cond, List, [], ◌∷◌, None, ◌≡◌, refl, inl, inr, sym, ap, ◌∙◌, subst, true≢false}
 use Rattle.std.proofs.Common.{codes}
 use Rattle.std.proofs.lemmas.Bool.{and_parts}
@@ -35,12 +35,12 @@ list_cleaned T k ts =
     ap (print T (list_of k)) (form-list T k ts) ∙ print-list T k (each (form T k) ts)
     ∙ ap (λ l. list (items_of l)) (each-each (print T k) (form T k) ts)
 
--- the text under `$ref` of an object, by the list of its members
+-- an object has no text of a reference, if its list of members has no string at `$ref`
 as_members : (es : List (Entry Tree)) → text_in (held (codes "$ref") es) ≡ None
     → ref_text (object (members_of es)) ≡ None
 as_members es h = ap (λ l. text_in (held (codes "$ref") l)) (members_list-of es) ∙ h
 
--- what one of the rows finds among the members that all of them write
+-- one of the rows takes from the members that all of them write those that it writes itself
 one_found : (T : Tables) (l es : List (Entry Tree)) (ws : List Row) (w : Row) → Found T l ws (each (slot_in T es) ws)
     → Among w ws → own w l ≡ row_print w (printed T (slot_in T es w))
 one_found T l es [] w f a = absurd a
@@ -55,7 +55,7 @@ class_kept T n j os f is =
     ap (λ g. row_print (class n j) (printed T g)) is ∙ ap members_in (print-map T j (each (pair_of T name j) os))
     ∙ members_list-of (each (entry_of T j) (each (pair_of T name j) os)) ∙ each-each (entry_of T j) (pair_of T name j) os
 
--- the members that a class writes for those that it takes
+-- the members that a class whose names are kept writes are those that it takes, each normalized
 class_cleaned : (T : Tables) (n : Class) (j : Kind) (es : List (Entry Tree)) → keeps_names n ≡ true
     → row_print (class n j) (printed T (slot_in T es (class n j))) ≡ each (on_entry (clean T j)) (own (class n j) es)
 class_cleaned T extensions j es h = class_kept T extensions j _ _ (class_form-reads T extensions j (own (class extensions j) es))
@@ -63,7 +63,7 @@ class_cleaned T callback_names j es h = class_kept T callback_names j _ _ (class
 class_cleaned T path_names j es h = class_kept T path_names j _ _ (class_form-reads T path_names j (own (class path_names j) es))
 class_cleaned T status_names j es h = absurd (true≢false (sym h))
 
--- what a row finds among the members of the cleaned object is what it writes for what it reads
+-- the members of the normalized object that a row takes are those that it writes for what it reads
 written_by : (T : Tables) (k : Kind) (c : Choice) (es : List (Entry Tree)) (w : Row) → IsRowOf T k c es w
     → cleaned_by T k w es ≡ row_print w (printed T (slot_in T es w))
 written_by T k c es w (W, s, h, a) =

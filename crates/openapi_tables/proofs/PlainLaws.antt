@@ -1,4 +1,4 @@
--- Kinds whose trees are written as they were read, and what a row of such a kind writes for what it reads.
+-- Kinds whose nodes are written as they were read, and what a row of such a kind writes for what it reads.
 use Rattle.std.proofs.Common.{ℕ, Bool, true, false, cond, List, [], ◌∷◌, Some, ◌≡◌, refl, ap, ◌∙◌, ◌⊎◌, inl, inr}
 use Rattle.openapi_tables.specs.Prelude.{each, items_list, members_list, Entry, Kind, any_text, any_flag, number}
 use Rattle.openapi_tables.specs.Prelude.{any_tree, one_of, null_or, list_of, Mode, row, Tables, is_null, first_tree}
@@ -22,7 +22,7 @@ is_plain (null_or k) = is_plain k
 is_plain (list_of k) = is_plain k
 is_plain _ = false
 
--- no plain kind is one of objects
+-- a plain kind has no choice of rows
 pub plain_no_object : (k : Kind) (c : Choice) (es : List (Entry Tree)) → is_plain k ≡ true → choice k es ≡ Some c → ⊥
 plain_no_object any_text c es h g = cc
 plain_no_object k c es h g = cc
@@ -44,12 +44,12 @@ plain_taken T k t f (as_fields j c ms e) g h = absurd (plain_no_object j c (memb
 plain_taken T k t f (as_inner j u x y) g h = print-null_or T j x ∙ plain_taken T j u x y g h
 plain_taken T k t f x g h = cc
 
--- a tree that is read and written under a plain kind is itself again
+-- a node that is read and written under a plain kind is unchanged
 pub clean-plain : (T : Tables) (t : Tree) → Same T t
 clean-plain T t = by_trees (Same T) (λ u g k h. plain_taken T k u (form T k u) (taken T k u) g h) t
 
--- what an optional row, or one of a list, writes for what it reads of the members that it takes: nothing, or the
--- first of them
+-- the first value that a row writes for the form of a node that normalizing leaves unchanged: null if the row writes
+-- nothing, and otherwise that node
 first_value : (T : Tables) (n : List ℕ) (m : Mode) (k : Kind) (t : Tree) → clean T k t ≡ t → (b : Bool)
     → is_silent m (form T k t) ≡ b
     → (first_tree (row_print (row n m k) (printed T (form T k t))) ≡ null)
@@ -57,7 +57,7 @@ first_value : (T : Tables) (n : List ℕ) (m : Mode) (k : Kind) (t : Tree) → c
 first_value T n m k t e true h = inl (ap (λ b. first_tree (cond b [] (one n (clean T k t)))) h)
 first_value T n m k t e false h = inr (ap (λ b. first_tree (cond b [] (one n (clean T k t)))) h ∙ e)
 
--- a tree u is null, or the tree t
+-- a node `u` is null, or the node `t`
 abbrev pub NullOr : Tree → Tree → Type 0
 NullOr u t = (u ≡ null) ⊎ (u ≡ t)
 
@@ -67,7 +67,8 @@ value_again : (T : Tables) (n : List ℕ) (m : Mode) (k : Kind) (t : Tree) → i
 value_again T n m k t h d true = inl d
 value_again T n m k t h d false = first_value T n m k t (clean-plain T t k h) (is_silent m (form T k t)) refl
 
--- a row of a plain kind writes null, nothing or its first member, if its default is written as null or not at all
+-- the first value that a row of a plain kind writes is null or that of its first member, if its default is written as
+-- null or not at all
 pub written_again : (T : Tables) (n : List ℕ) (m : Mode) (k : Kind) (es : List (Entry Tree)) → is_plain k ≡ true
     → first_tree (row_print (row n m k) (printed T (default_of m k))) ≡ null
     → NullOr (first_tree (row_print (row n m k) (printed T (slot_of_own (row n m k) (reads T es))))) (first_tree es)

@@ -1,4 +1,4 @@
--- What is printed of forms that are made of lists of forms.
+-- The nodes that forms made from lists of forms are written as.
 use Rattle.std.proofs.Common.{List, [], ◌∷◌, Some, ◌≡◌, refl, ap, ◌∙◌}
 use Rattle.openapi_tables.specs.Prelude.{each, members_of, Entry, Kind, null_or, list_of, map_of, by, tagged, ref_to}
 use Rattle.openapi_tables.specs.Prelude.{flag_or_schema, a_schema, a_schema_kind, Row, Tables, Choice, choice, rows_of}
@@ -8,15 +8,15 @@ use Rattle.openapi_node.specs.Tree.{Tree, list, object, items_of}
 use Rattle.openapi_tables.proofs.ListLaws.{each-each}
 use Rattle.openapi_tables.proofs.FormLaws.{on_pair, show, of_forms-of, of_named-of}
 
--- a form, with the tree that it is printed as under each kind
+-- a form, with the node that it is written as under each kind
 abbrev pub printed : (T : Tables) → Form → Prints
 printed T f = show (face_print T) f
 
--- the member that an entry of a map or class is printed as
+-- the member that an entry of a map or class is written as
 abbrev pub entry_of : (T : Tables) → Kind → Pair Form → Entry Tree
 entry_of T k e = record { name = text_of_key e.key; value = print T k e.value }
 
--- a sequence is printed as the list of what each of its forms is printed as
+-- a sequence is written as the list of the nodes that its forms are written as
 pub print-list : (T : Tables) (k : Kind) (fs : List Form)
     → print T (list_of k) (sequence (forms_of fs)) ≡ list (items_of (each (print T k) fs))
 print-list T k fs =
@@ -28,7 +28,7 @@ pair_prints-printed : (T : Tables) (k : Kind) (es : List (Pair Form))
 pair_prints-printed T k [] = refl
 pair_prints-printed T k (e ∷ es) = ap (λ l. entry_of T k e ∷ l) (pair_prints-printed T k es)
 
--- a map is printed as the object of what each of its entries is printed as
+-- a map is written as the object of the members that its entries are written as
 pub print-map : (T : Tables) (k : Kind) (es : List (Pair Form))
     → print T (map_of k) (named (named_of es)) ≡ object (members_of (each (entry_of T k) es))
 print-map T k es =
@@ -39,7 +39,7 @@ print-map T k es =
 abbrev pub members_for : (T : Tables) → List Row → List Form → List (Entry Tree)
 members_for T ws fs = rows_print ws (each (printed T) fs)
 
--- an object's form is printed as the members that its rows write for its slots
+-- the form of an object is written as the members that its rows write for its slots
 pub print-fields : (T : Tables) (k : Kind) (c : Choice) (es : List (Entry Tree)) (fs : List Form) → choice k es ≡ Some c
     → print T k (fields c (forms_of fs)) ≡ object (members_of (members_for T (rows_of T k c) fs))
 print-fields T (by i) c es fs h =
@@ -52,12 +52,12 @@ print-fields T a_schema_kind c es fs h =
     ap (λ l. object (members_of (rows_print (rows_of T a_schema_kind c) l))) (of_forms-of (face_print T) fs)
 print-fields T k c es fs h = cc
 
--- a form is printed under `null_or` a kind as it is under that kind
+-- a form is written under `null_or k` as it is under `k`
 pub print-null_or : (T : Tables) (k : Kind) (f : Form) → print T (null_or k) f ≡ print T k f
 print-null_or T k (deciding n f) = print-null_or T k f
 print-null_or T k f = refl
 
--- a form is printed under `flag_or_schema` as it is under `ref_to a_schema`
+-- a form is written under `flag_or_schema` as it is under `ref_to a_schema`
 pub print-flag_or_schema : (T : Tables) (f : Form) → print T flag_or_schema f ≡ print T (ref_to a_schema) f
 print-flag_or_schema T (deciding n f) = print-flag_or_schema T f
 print-flag_or_schema T f = refl

@@ -1,4 +1,4 @@
--- Which members of an object may change places, and which count for nothing, also where a reference may stand.
+-- Which members of an object may be swapped, and which have no effect, also where a reference is allowed.
 use Rattle.std.proofs.Common.{ℕ, Bool, true, false, ◌&&◌, List, [], ◌∷◌, Some, ◌≡◌, refl, sym, ap, ◌∙◌, codes}
 use Rattle.std.proofs.Common.{true≢false}
 use Rattle.std.proofs.lemmas.Bool.{or_left, or_right}
@@ -47,8 +47,8 @@ named_rows P (either a j b k ∷ ws) s f = absurd (true≢false (sym s))
 named_rows P (class c k ∷ ws) s f = absurd (true≢false (sym s))
 named_rows P (constant n v ∷ ws) s f = absurd (true≢false (sym s))
 
--- what holds of the rows that an object is read by, and of a row of each name that steers, holds of the rows that must
--- hold
+-- what holds for the rows by which an object is read, and for an optional row of each name that steers, holds for the
+-- rows that must hold
 checked_from : (P : Row → Type 0) (T : Tables) (k : Kind) (c : Choice)
     → ((n : List ℕ) (j : Kind) → steers k n ≡ true → P (row n optional j)) → Each P (rows_of T k c)
     → Each P (checked_rows T k c)
@@ -62,7 +62,7 @@ checked_from P T a_schema_kind (sort s) f h = named_rows P any_rows all_named f
 checked_from P T k plain f h = tt
 checked_from P T k c f h = tt
 
--- ---- objects that hold the same under each row
+-- ---- objects of which each row takes the same members
 holds_same : (T : Tables) (es ds : List (Entry Tree)) (ws : List Row) → Each (λ w. own w es ≡ own w ds) ws
     → every (row_holds (judged T es)) ws ≡ every (row_holds (judged T ds)) ws
 holds_same T es ds [] h = refl
@@ -126,13 +126,13 @@ refers T k es s h =
       ap (λ o. reference_or o (conforms T k (object (members_of es)))) (referred (root_conforms T) es ∙ is),
     )
 
--- an object with a text under `$ref` conforms, and is read as that reference: the law `References`
+-- an object with a string at `$ref` conforms, and is read as that reference: the law `References`
 pub references : References
 references T (ref_to k) es s m h = refers T k es s h
 references T flag_or_schema es s m h = refers T a_schema es s h
 references T k es s m h = absurd (true≢false (sym m))
 
--- ---- wherever an object may stand
+-- ---- objects, also where a reference is allowed
 alike : (T : Tables) (k : Kind) (c : Choice) (es ds : List (Entry Tree)) → choice (item_kind k) ds ≡ Some c
     → ((n : List ℕ) → steers k n ≡ true → held n es ≡ held n ds)
     → Each (λ w. own w es ≡ own w ds) (rows_of T (item_kind k) c)
@@ -159,7 +159,7 @@ under : {A : Type 0} (P Q : A → Type 0) (xs : List A) → ((x : A) → P x →
 under P Q [] f h = tt
 under P Q (x ∷ xs) f h = (f x h.0, under P Q xs f h.1)
 
--- a member that no row takes and whose name does not steer counts for nothing: the law `Ignored`
+-- a member that no row takes and whose name does not steer has no effect: the law `Ignored`
 pub ignored : Ignored
 ignored T k c before after e h s g =
     let P : Row → Type 0 = λ w. takes w e.name ≡ false in
@@ -173,7 +173,7 @@ ignored T k c before after e h s g =
     (only_skips (λ (d : Entry Tree). same_text n d.name) before after e (other_name k n e.name x s)))
     (under P Q rows skips all) (under P Q (checked_rows T (item_kind k) c) skips checked)
 
--- neighbours of different names that no row takes both may change places: the law `Order`
+-- neighbors with different names may be swapped if no row takes both: the law `Order`
 pub order : Order
 order T k c before after d e h s g =
     let P : Row → Type 0 = λ w. (takes w d.name && takes w e.name) ≡ false in

@@ -1,4 +1,4 @@
--- What is read of trees that are made of lists of members.
+-- The forms that are read from nodes made from lists of members.
 use Rattle.std.proofs.Common.{ℕ, false, List, [], ◌∷◌, Some, None, ◌≡◌, refl, ap, ◌∙◌, codes}
 use Rattle.openapi_tables.specs.Prelude.{each, members_of, Entry, on_entry, Seen, of_members, Kind, null_or, list_of}
 use Rattle.openapi_tables.specs.Prelude.{map_of, by, tagged, ref_to, flag_or_schema, a_schema, a_schema_kind, Class}
@@ -13,15 +13,15 @@ use Rattle.openapi_tables.proofs.ListLaws.{each-each, each_same, each_all, only-
 use Rattle.openapi_tables.proofs.TreeLaws.{see, of_items-of, of_members-of, members_list-of}
 use Rattle.openapi_tables.proofs.Taken.{trees_of-members, ref_text, is_flag}
 
--- the members of a list with what is read of them
+-- the members of a list, each with the form that is read from it under each kind
 abbrev pub reads : (T : Tables) → List (Entry Tree) → Reads
 reads T es = each (on_entry (see (root_form T))) es
 
--- the entry of a map or class that is read of a member
+-- the entry of a map or class that is read from a member
 abbrev pub pair_of : (T : Tables) → (List ℕ → Key) → Kind → Entry Tree → Pair Form
 pair_of T g k e = record { key = g e.name; value = form T k e.value }
 
--- what is read of a list is the sequence of what is read of each of its trees
+-- a list is read as the sequence of the forms of its items
 pub form-list : (T : Tables) (k : Kind) (ts : List Tree)
     → form T (list_of k) (list (items_of ts)) ≡ sequence (forms_of (each (form T k) ts))
 form-list T k ts =
@@ -33,12 +33,12 @@ pub pairs_as-reads : (T : Tables) (g : List ℕ → Key) (k : Kind) (es : List (
 pairs_as-reads T g k [] = refl
 pairs_as-reads T g k (e ∷ es) = ap (λ l. pair_of T g k e ∷ l) (pairs_as-reads T g k es)
 
--- the form of a class is the entries that are read of its members, gathered
+-- the form of a class is the entries that are read from its members, gathered
 pub class_form-reads : (T : Tables) (c : Class) (k : Kind) (es : List (Entry Tree))
     → class_form c k (reads T es) ≡ named (named_of (gather c (each (pair_of T (key_in c) k) es)))
 class_form-reads T c k es = ap (λ l. named (named_of (gather c l))) (pairs_as-reads T (key_in c) k es)
 
--- the form of a map is the entries that are read of its members
+-- the form of a map is the entries that are read from its members
 pub map_form-reads : (T : Tables) (k : Kind) (es : List (Entry Tree))
     → map_form k (reads T es) ≡ named (named_of (each (pair_of T name k) es))
 map_form-reads T k es = ap (λ l. named (named_of l)) (pairs_as-reads T name k es)
@@ -48,15 +48,15 @@ pub form-map : (T : Tables) (k : Kind) (es : List (Entry Tree))
     → form T (map_of k) (object (members_of es)) ≡ named (named_of (each (pair_of T name k) es))
 form-map T k es = ap (map_form k) (of_members-of (root_form T) es) ∙ map_form-reads T k es
 
--- the members that a row takes, with what is read of them
+-- a row takes the same members, with or without their forms beside them
 pub own-reads : (T : Tables) (w : Row) (es : List (Entry Tree)) → own w (reads T es) ≡ reads T (own w es)
 own-reads T w es = only-each (λ (e : Entry (Seen (Kind → Form))). takes w e.name) (on_entry (see (root_form T))) es
 
--- the slot that a row reads of a list of members
+-- the slot that a row reads from a list of members
 abbrev pub slot_in : (T : Tables) → List (Entry Tree) → Row → Form
 slot_in T es w = slot_of_own w (reads T (own w es))
 
--- the slots of rows, by members seen with their forms, are what the rows read of the list of members
+-- the slots that rows read from members with their forms beside them are those that they read from the list of members
 pub slots-reads : (T : Tables) (ws : List Row) (es : List (Entry Tree))
     → each (slot (reads T es)) ws ≡ each (slot_in T es) ws
 slots-reads T ws es = each_same (slot (reads T es)) (slot_in T es) ws
@@ -71,7 +71,7 @@ chosen T k c es h =
     ∙ ap (λ l. fields c (forms_of (each (slot l) (rows_of T k c)))) (of_members-of (root_form T) es)
     ∙ ap (λ l. fields c (forms_of l)) (slots-reads T (rows_of T k c) es)
 
--- an object under an object kind has a slot for each row
+-- an object under an object kind is read as one slot for each row
 pub form-fields : (T : Tables) (k : Kind) (c : Choice) (es : List (Entry Tree)) → choice k es ≡ Some c
     → form T k (object (members_of es)) ≡ fields c (forms_of (each (slot_in T es) (rows_of T k c)))
 form-fields T (by i) c es h = chosen T (by i) c es h
@@ -80,14 +80,14 @@ form-fields T a_schema c es h = chosen T a_schema c es h
 form-fields T a_schema_kind c es h = chosen T a_schema_kind c es h
 form-fields T k c es h = cc
 
--- a tree that is no reference is an item
+-- a node that is not a reference is read as an item
 pub form-item : (T : Tables) (k : Kind) (t : Tree) → ref_text t ≡ None → form T (ref_to k) t ≡ an_item (form T k t)
 form-item T k (object ms) h =
     ap (λ o. reference_or_item o (form T k (object ms)))
     (ap (λ es. text_in (held (codes "$ref") es)) (trees_of-members (root_form T) ms) ∙ h)
 form-item T k t h = refl
 
--- a tree with a text under `$ref` is a reference
+-- a node with a string at `$ref` is read as a reference
 pub form-reference : (T : Tables) (k : Kind) (t : Tree) (s : List ℕ) → ref_text t ≡ Some s
     → form T (ref_to k) t ≡ reference s
 form-reference T k (object ms) s h =
@@ -95,12 +95,12 @@ form-reference T k (object ms) s h =
     (ap (λ es. text_in (held (codes "$ref") es)) (trees_of-members (root_form T) ms) ∙ h)
 form-reference T k t s h = cc
 
--- a tree is read under `null_or` a kind as it is under that kind
+-- a node is read under `null_or k` as it is under `k`
 pub form-null_or : (T : Tables) (k : Kind) (t : Tree) → form T (null_or k) t ≡ form T k t
 form-null_or T k null = refl
 form-null_or T k t = refl
 
--- a tree that is no flag is read under `flag_or_schema` as it is under `ref_to a_schema`
+-- a node that is not a boolean is read under `flag_or_schema` as it is under `ref_to a_schema`
 pub form-flag_or_schema : (T : Tables) (t : Tree) → is_flag t ≡ false
     → form T flag_or_schema t ≡ form T (ref_to a_schema) t
 form-flag_or_schema T (flag b) h = cc

@@ -1,4 +1,4 @@
--- What is read of a tree that conforms is a proper form: for all kinds and trees.
+-- The form that is read from a node that conforms is proper: for rows.
 use Rattle.std.proofs.Common.{ℕ, Bool, true, false, not, cond, ◌&&◌, ◌||◌, List, [], ◌∷◌, ◌≡◌, refl, sym, ap, ◌∙◌}
 use Rattle.std.proofs.Common.{eq-eqb, ⊎_elim}
 use Rattle.std.proofs.lemmas.Bool.{and_parts, and_from, or_left, or_right, or_cases}
@@ -22,11 +22,11 @@ use Rattle.openapi_tables.proofs.SortHolds.{AllHold, not_null_conforms, null_ref
 use Rattle.openapi_node.specs.Tree.{Tree}
 use Rattle.openapi_tables.proofs.SoundLaws.{sound_pick}
 
--- a tree that conforms is read as a proper form
+-- a node that conforms to a sound kind is read as a proper form
 abbrev pub ReadsProper : (T : Tables) → Tree → Type 0
 ReadsProper T t = (k : Kind) → sound T k ≡ true → conforms T k t ≡ true → proper T k (form T k t) ≡ true
 
--- the tree of each member is read as a proper form under each sound kind that it conforms to
+-- the value of each member is read as a proper form under each sound kind that it conforms to
 abbrev pub ValuesProper : (T : Tables) → List (Entry Tree) → Type 0
 ValuesProper T es = Each (λ (e : Entry Tree). ReadsProper T e.value) es
 
@@ -45,7 +45,7 @@ default_proper T n formatted (format ws b) s h = s
 default_proper T n m (list_of k) s h = cc
 default_proper T n m k s h = cc
 
--- where a flag with `|| false` is true, the flag is true
+-- if `b || false` is true, `b` is true
 pub or_false_right : (b : Bool) → (b || false) ≡ true → b ≡ true
 or_false_right true h = refl
 or_false_right false h = cc
@@ -128,7 +128,7 @@ row_reads_proper T (constant n v) l s a g h = refl
 abbrev pub AllRead : (T : Tables) → List (Entry Tree) → List Row → Type 0
 AllRead T es ws = Each (λ w. RowReads T (own w es) w) ws
 
--- sound rows that find what they must read proper slots, if the trees of the members are read as proper forms
+-- sound rows that find what they must read proper slots, if the values of the members are read as proper forms
 pub rows_read_proper : (T : Tables) (es : List (Entry Tree)) (ws : List Row) → Each (λ w. row_sound T w ≡ true) ws
     → ValuesProper T es → AllRead T es ws → rows_proper ws (each (show (face_proper T)) (each (slot_in T es) ws)) ≡ true
 rows_read_proper T es [] s g h = refl
@@ -137,7 +137,7 @@ rows_read_proper T es (w ∷ ws) s g h =
     (row_reads_proper T w (own w es) s.0 (Each-only _ es)
     (Each_within-only (λ (e : Entry Tree). ReadsProper T e.value) _ es g) h.0) (rows_read_proper T es ws s.1 g h.1)
 
--- rows that hold find what they need
+-- a row of one name that holds finds what it must
 name_reads : (T : Tables) (m : Mode) (k : Kind) (l : List (Entry Tree)) → mode_fits m k ≡ true
     → name_holds m k (judged T l) ≡ true → (name_holds optional k (judged T l) ≡ true)
     × ((may_miss m || not (is_null (first_tree l))) ≡ true)

@@ -1,4 +1,5 @@
--- Rows that are apart: of what rows write, each row takes its own members and no others.
+-- Rows that are apart: no name is taken by two of them. From what such rows write, each takes its own members and no
+-- others.
 use Rattle.std.proofs.Common.{ℕ, Bool, true, false, not, cond, ◌&&◌, ◌≤◌, nat_le, List, [], ◌∷◌, Some, None, ◌≡◌, refl}
 use Rattle.std.proofs.Common.{sym, ap, ◌∙◌, subst, codes, eqb-true, leb-true, arith, ⊎_elim}
 use Rattle.std.proofs.lemmas.Bool.{and_parts, or_cases, or_from, cases_Bool, both_ways, not-true}
@@ -12,7 +13,7 @@ use Rattle.openapi_tables.proofs.ListLaws.{same_text-refl, Each, each_under, onl
 use Rattle.openapi_tables.proofs.ListLaws.{join_assoc, same_text-refl, same_text_eq, every_each}
 use Rattle.openapi_tables.proofs.PrintLaws.{printed, members_for}
 
--- a flag that cannot be true is false
+-- a boolean that cannot be true is false
 pub not_both : (b : Bool) → (b ≡ true → ⊥) → b ≡ false
 not_both b h = ⊎_elim (λ (e : b ≡ true). absurd (h e)) (λ (e : b ≡ false). e) (cases_Bool b)
 
@@ -118,14 +119,14 @@ OwnWrites T [] (f ∷ fs) = ⊥
 OwnWrites T (w ∷ ws) [] = ⊥
 OwnWrites T (w ∷ ws) (f ∷ fs) = TakesAll w (row_print w (printed T f)) × OwnWrites T ws fs
 
--- each row takes of a list what it writes for its form
+-- the members that each row takes from a list are those that it writes for its form
 abbrev pub Found : (T : Tables) → List (Entry Tree) → List Row → List Form → Type 0
 Found T es [] [] = Unit {0}
 Found T es [] (f ∷ fs) = ⊥
 Found T es (w ∷ ws) [] = ⊥
 Found T es (w ∷ ws) (f ∷ fs) = (own w es ≡ row_print w (printed T f)) × Found T es ws fs
 
--- a row that is apart from all rows takes nothing of what they write
+-- a row that is apart from all rows takes nothing from what they write
 pub own_others : (T : Tables) (w : Row) (ws : List Row) (fs : List Form) → Each (λ v. apart w v ≡ true) ws
     → OwnWrites T ws fs → own w (members_for T ws fs) ≡ []
 own_others T w [] fs h g = refl
@@ -181,12 +182,12 @@ nothing_before : (ws : List Row) → Each (λ w. own {X = Tree} w [] ≡ []) ws
 nothing_before [] = tt
 nothing_before (w ∷ ws) = (refl, nothing_before ws)
 
--- of what rows write that are apart, each takes its own
+-- from what rows write that are apart, each takes its own members
 pub found : (T : Tables) (ws : List Row) (fs : List Form) → rows_apart ws ≡ true → OwnWrites T ws fs
     → Found T (members_for T ws fs) ws fs
 found T ws fs a g = found_after T [] ws fs a (nothing_before ws) g
 
--- a name that no row takes is under nothing that they write
+-- if no row takes a name, no member that they write has it
 pub no_name : (T : Tables) (n : List ℕ) (ws : List Row) (fs : List Form) → Each (λ w. takes w n ≡ false) ws
     → OwnWrites T ws fs → only (λ (e : Entry Tree). same_text n e.name) (members_for T ws fs) ≡ []
 no_name T n [] fs h g = refl
@@ -202,7 +203,7 @@ no_name T n (w ∷ ws) (f ∷ fs) h g =
     other e x = not_both (same_text n e.name)
         (λ y. both_ways (takes w e.name) (subst (λ m. takes w m ≡ false) (same_text_eq n e.name y) h.0) x)
 
--- a row of a name takes what it writes under it, be it one member or none
+-- a row of one name takes what it writes at the name, which is one member or none
 pub takes_cond : (n : List ℕ) (m : Mode) (k : Kind) (t : Tree) (b : Bool) → TakesAll (row n m k) (cond b [] (one n t))
 takes_cond n m k t true = tt
 takes_cond n m k t false = (same_text-refl n, tt)

@@ -1,4 +1,4 @@
--- A tree that conforms is cleaned to one of at most twice its size.
+-- A node that conforms is normalized to one of at most twice its size: for rows.
 use Rattle.std.proofs.Common.{ℕ, suc, Bool, true, false, not, cond, ◌&&◌, ◌||◌, List, [], ◌∷◌, Some, ◌≡◌, refl, sym, ap}
 use Rattle.std.proofs.Common.{◌∙◌, subst, ◌≤◌, ◌+◌, ◌*◌, arith, nat_le, leb-true}
 use Rattle.std.proofs.lemmas.Bool.{and_parts}
@@ -20,12 +20,12 @@ use Rattle.openapi_tables.specs.Sound.{extra, extras}
 use Rattle.openapi_node.specs.Tree.{Tree, members_size, null, object, size_of}
 use Rattle.openapi_tables.proofs.SoundLaws.{sound_pick}
 
--- the number of values in the trees of members
+-- the number of values in members, at every depth
 abbrev pub total : List (Entry Tree) → ℕ
 total [] = 0
 total (e ∷ es) = size_of e.value + total es
 
--- a tree has at least one value, itself
+-- a node contains at least one value, itself
 pub size_positive : (t : Tree) → 1 ≤ size_of t
 size_positive null = omega arith
 size_positive t = omega arith
@@ -38,7 +38,7 @@ total-join : (xs ys : List (Entry Tree)) → total (join xs ys) ≡ total xs + t
 total-join [] ys = omega arith
 total-join (x ∷ xs) ys = let p = total-join xs ys in omega arith
 
--- the sizes of what each row takes
+-- the number of values in the members that rows take, added row by row
 abbrev owned : List Row → List (Entry Tree) → ℕ
 owned [] es = 0
 owned (w ∷ ws) es = total (own w es) + owned ws es
@@ -73,11 +73,11 @@ owned_le : (ws : List Row) (es : List (Entry Tree)) → rows_apart ws ≡ true �
 owned_le ws [] h = let p = owned-nil ws in omega arith
 owned_le ws (e ∷ es) h = let p = owned_more ws e es h in let q = owned_le ws es h in omega arith
 
--- one row
+-- a node that conforms to a sound kind is normalized to one of at most twice its size
 abbrev pub Small : (T : Tables) → Tree → Type 0
 Small T t = (k : Kind) → sound T k ≡ true → conforms T k t ≡ true → size_of (clean T k t) ≤ 2 * size_of t
 
--- the tree of each member, where it conforms, is cleaned to one of at most twice its size
+-- the value of each member, if it conforms, is normalized to one of at most twice its size
 abbrev pub Smalls : (T : Tables) → List (Entry Tree) → Type 0
 Smalls T es = Each (λ (e : Entry Tree). Small T e.value) es
 
@@ -144,7 +144,7 @@ pairs_small T g k (e ∷ l) s d h =
     let r = pairs_small T g k l s d.1 p.1 in
     omega arith
 
--- a row whose text is written always has its member
+-- a row of a constant text takes at least one member. For other rows this is true
 abbrev pub Full : List (Entry Tree) → Row → Type 0
 Full l (constant n v) = 1 ≤ total l
 Full l (row n m k) = Unit {0}
@@ -180,7 +180,7 @@ row_small T (class c k) l s d h f =
     subst (λ x. total x ≤ 2 * total l + 0) (sym p) (omega arith)
 row_small T (constant n v) l s d h f = let p : 1 ≤ 2 * total l + 0 = omega arith in p
 
--- each tag among the rows, whose text is always written, is there in a list of members
+-- each row of a constant text, such as a tag, takes at least one member of a list
 abbrev pub AllFull : List (Entry Tree) → List Row → Type 0
 AllFull es ws = Each (λ w. Full (own w es) w) ws
 
@@ -194,7 +194,7 @@ rows_small T es (w ∷ ws) s d h f =
     let r = total-join (row_print w (printed T (slot_in T es w))) (members_for T ws (each (slot_in T es) ws)) in
     omega arith
 
--- an object is cleaned to at most twice its size if its members are and its rows add at most one member
+-- an object is normalized to at most twice its size if its values are and its rows add at most one member
 pub object_small : (T : Tables) (k : Kind) (c : Choice) (es : List (Entry Tree)) → choice k es ≡ Some c
     → rows_apart (rows_of T k c) ≡ true → Each (λ w. row_sound T w ≡ true) (rows_of T k c)
     → nat_le (extras (rows_of T k c)) 1 ≡ true

@@ -1,4 +1,4 @@
--- A form that a value of a kind can have is written as a tree that conforms to the kind.
+-- A proper form is written as a node that conforms to the kind: for rows.
 use Rattle.openapi_tables.proofs.RowLaws.{takes_cond}
 use Rattle.std.proofs.Common.{ℕ, Bool, true, false, not, cond, ◌&&◌, ◌||◌, List, [], ◌∷◌, ◌≡◌, refl, sym, ap, ◌∙◌}
 use Rattle.std.proofs.Common.{subst, ⊎_elim}
@@ -20,7 +20,7 @@ use Rattle.openapi_tables.proofs.FaultLaws.{judged, own_judged}
 use Rattle.openapi_tables.proofs.TreeLaws.{members_list-of}
 use Rattle.openapi_tables.proofs.SoundLaws.{sound_pick}
 
--- a mode that writes nothing for a form takes a missing member
+-- a mode that writes nothing for a form accepts a missing member
 pub silent_may_miss : (m : Mode) (f : Form) → is_silent m f ≡ true → may_miss m ≡ true
 silent_may_miss required f h = cc
 silent_may_miss m f h = refl
@@ -32,7 +32,7 @@ class_prints T c k es =
     ap (λ x. members_in (print T (map_of k) (named x))) (sym (named_of-list es))
     ∙ ap members_in (print-map T k (named_list es)) ∙ members_list-of (each (entry_of T k) (named_list es))
 
--- what is held of the entries of a class
+-- if the check of the entries of a class passes, each key is read again from its name, and each value is proper
 pub class_entries : (T : Tables) (c : Class) (k : Kind) (es : List (Pair Form))
     → every (λ (e : Pair Held). is_written c e.key && e.value.answer (of_kind k))
     (each (on_pair (show (face_proper T))) es) ≡ true
@@ -74,14 +74,14 @@ takes_proper T (class c k) (named es) h =
 takes_proper T (class c k) f h = cc
 takes_proper T (constant n v) f h = (same_text-refl n, tt)
 
--- what is held of the slots of rows
+-- there is one slot for each row, and it is proper for the row
 abbrev pub SlotsProper : (T : Tables) → List Row → List Form → Type 0
 SlotsProper T [] [] = Unit {0}
 SlotsProper T [] (f ∷ fs) = ⊥
 SlotsProper T (w ∷ ws) [] = ⊥
 SlotsProper T (w ∷ ws) (f ∷ fs) = (row_proper w (show (face_proper T) f) ≡ true) × SlotsProper T ws fs
 
--- slots that are found to be proper for rows are proper one by one
+-- if the check of the slots of rows passes, each slot is proper for its row
 pub slots_proper : (T : Tables) (ws : List Row) (fs : List Form)
     → rows_proper ws (each (show (face_proper T)) fs) ≡ true → SlotsProper T ws fs
 slots_proper T [] [] h = tt
@@ -98,7 +98,7 @@ proper_writes T [] (f ∷ fs) h = h
 proper_writes T (w ∷ ws) [] h = h
 proper_writes T (w ∷ ws) (f ∷ fs) h = (takes_proper T w f h.0, proper_writes T ws fs h.1)
 
--- a form whose print conforms where it is proper
+-- if a form is proper for a sound kind, it is written as a node that conforms
 abbrev pub Writes : (T : Tables) → Form → Type 0
 Writes T f = (k : Kind) → sound T k ≡ true → proper T k f ≡ true → conforms T k (print T k f) ≡ true
 
@@ -133,12 +133,12 @@ row_holds_own (either a j b k) es = either_holds a j k es
 row_holds_own (class c k) es = every (λ (e : Entry (Seen (Kind → Bool))). e.value.answer k) es
 row_holds_own (constant n v) es = constant_holds v es
 
--- whether a row holds is seen from the members that it takes
+-- whether a row holds depends only on the members that it takes
 pub row_holds_lem : (w : Row) (es : Judged) → row_holds es w ≡ row_holds_own w (own w es)
 row_holds_lem (row n m k) es = refl
 row_holds_lem w es = refl
 
--- a row holds of what it writes
+-- a row holds for what it writes
 own_writes_holds : (T : Tables) (w : Row) (f : Form) → row_sound T w ≡ true → Deep (Writes T) f
     → row_proper w (show (face_proper T) f) ≡ true → row_holds_own w (judged T (row_print w (printed T f))) ≡ true
 own_writes_holds T (row n m k) f s g h =
@@ -162,7 +162,7 @@ row_writes T w f l s g h e =
     row_holds_lem w (judged T l) ∙ ap (row_holds_own w) (own_judged (root_conforms T) w l ∙ ap (judged T) e)
     ∙ own_writes_holds T w f s g h
 
--- sound rows hold where each finds what it writes for a proper slot, if the forms are printed as what conforms
+-- sound rows hold if each finds what it writes for a proper slot, and the forms are written as nodes that conform
 pub rows_write : (T : Tables) (l : List (Entry Tree)) (ws : List Row) (fs : List Form)
     → Each (λ w. row_sound T w ≡ true) ws → Each (Deep (Writes T)) fs → SlotsProper T ws fs → Found T l ws fs
     → Each (λ w. row_holds (judged T l) w ≡ true) ws

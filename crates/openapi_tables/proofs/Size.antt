@@ -1,4 +1,4 @@
--- A tree that conforms is cleaned to one of at most twice its size: for all kinds and trees.
+-- A node that conforms is normalized to one of at most twice its size: for all kinds and nodes.
 use Rattle.std.proofs.Common.{ℕ, Bool, true, false, cond, ◌&&◌, List, [], ◌∷◌, Option, Some, None, ◌≡◌, refl, sym, ap}
 use Rattle.std.proofs.Common.{◌∙◌, subst, codes, ◌≤◌, ◌+◌, ◌*◌, arith, nat_le, leb-true, le-leb}
 use Rattle.std.proofs.lemmas.Bool.{and_parts, both_ways}
@@ -136,7 +136,7 @@ rows_apart_of T W k c es s h =
 none_more : (ws : List Row) → nat_le (extras ws) 1 ≡ true → nat_le (0 + extras ws) 1 ≡ true
 none_more ws h = let p = leb-true (extras ws) 1 h in le-leb (0 + extras ws) 1 (omega arith)
 
--- the rows that an object is read by add at most one member to those that it has
+-- the rows by which an object is read add at most one member to those that it has
 rows_add : (T : Tables) → tables_small T ≡ true → (k : Kind) (c : Choice) (es : List (Entry Tree)) → choice k es ≡ Some c
     → nat_le (extras (rows_of T k c)) 1 ≡ true
 unfolding rows_of
@@ -154,7 +154,7 @@ rows_add T x a_schema_kind c es e =
     subst (λ d. nat_le (extras (rows_of T a_schema_kind d)) 1 ≡ true) p (kind_small T x (sort_of es))
 rows_add T x k c es e = cc
 
--- and none of them takes from nothing
+-- each row of a constant text by which an object is read takes at least one member
 rows_full : (T : Tables) (W : tables_sound T ≡ true) (k : Kind) (c : Choice) (es : List (Entry Tree))
     → choice k es ≡ Some c → AllFull es (rows_of T k c)
 unfolding rows_of
@@ -175,7 +175,7 @@ rows_full T W a_schema_kind c es e =
     subst (λ d. AllFull es (rows_of T a_schema_kind d)) p (sort_full (sort_of es) es refl)
 rows_full T W k c es e = cc
 
--- an object is cleaned to at most twice its size, where the values inside are
+-- an object is normalized to at most twice its size, if the values inside are
 whole_small : (T : Tables) (W : tables_sound T ≡ true) → tables_small T ≡ true → (k : Kind) (ms : Members)
     → sound T k ≡ true → (conforms T k (object (members_of (members_list ms))) ≡ true → ReadBy T k (members_list ms))
     → Smalls T (members_list ms) → conforms T k (object ms) ≡ true
@@ -302,6 +302,6 @@ small_step T W x (whole (pos n)) g status_code s h = at (nat_le 100 n && nat_le 
 small_step T W x null g k s h = cc
 small_step T W x t g k s h = cc
 
--- a tree that conforms is cleaned to one of at most twice its size
+-- a node that conforms is normalized to one of at most twice its size
 pub small : (T : Tables) (W : tables_sound T ≡ true) → tables_small T ≡ true → (t : Tree) → Small T t
 small T W x t = by_trees (Small T) (small_step T W x) t

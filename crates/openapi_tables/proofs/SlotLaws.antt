@@ -15,11 +15,11 @@ use Rattle.openapi_tables.proofs.ReadLaws.{reads}
 use Rattle.openapi_tables.proofs.PrintLaws.{printed, print-fields, print-null_or, print-flag_or_schema}
 use Rattle.openapi_tables.proofs.RowLaws.{TakesAll}
 
--- a tree that a sound kind reads to what stays is read, written and read again as the same
+-- if the form of a node under a sound kind stays, it is unchanged when it is written and read again
 abbrev pub Good : (T : Tables) → Tree → Type 0
 Good T t = (k : Kind) → sound T k ≡ true → stays T k (form T k t) ≡ true → again T k (form T k t) ≡ form T k t
 
--- what is read of a tree that is not null is not written as null
+-- a form that is read from a node other than null is not written as null
 pub not_null : (T : Tables) (k : Kind) (t : Tree) (f : Form) → Taken T k t f → is_null t ≡ false
     → is_null (print T k f) ≡ false
 not_null T k t f (as_leaf j u e) h = h
@@ -58,7 +58,7 @@ silent_flagged (leaf (flag false)) h = refl
 silent_flagged (leaf null) h = cc
 silent_flagged f h = cc
 
--- a form for which a row writes nothing is what the row reads where nothing stands
+-- a form that was read and for which a row writes nothing is the default of the row
 pub silent_default : (T : Tables) (m : Mode) (k : Kind) (t : Tree) (f : Form) → Taken T k t f → mode_fits m k ≡ true
     → is_silent m f ≡ true → default_of m k ≡ f
 silent_default T optional k t f x g h = silent_optional f h
@@ -87,7 +87,7 @@ settled_written T n m k f h e =
       ap (λ es. slot_of_own (row n m k) (reads T es)) p ∙ e,
     )
 
--- what a row reads where nothing stands is written and read again as the same
+-- a row reads its default again from what it writes for it
 pub settled_default : (T : Tables) (n : List ℕ) (m : Mode) (k : Kind) → mode_fits m k ≡ true
     → Settled T (row n m k) (default_of m k)
 settled_default T n required k h = settled_written T n required k absent refl refl
@@ -101,7 +101,8 @@ settled_default T n formatted k h = settled_silent T n formatted k unset refl re
 settled_default T n listed k h = cc
 settled_default T n (styled s) k h = cc
 
--- what a row reads of a tree that is not null is settled, where that form is read again under the kind
+-- a row reads the form of a node other than null again from what it writes for it, if the form is read again under the
+-- kind
 pub settled_value : (T : Tables) (n : List ℕ) (m : Mode) (k : Kind) (t : Tree) → mode_fits m k ≡ true
     → is_null t ≡ false → again T k (form T k t) ≡ form T k t → (b : Bool) → is_silent m (form T k t) ≡ b
     → Settled T (row n m k) (form T k t)

@@ -1,4 +1,5 @@
--- Lists of slots: what they write and lose together, and which names they take.
+-- Lists of slots: the members that they are written as, the locations of their unwritable names and codes, and the
+-- names that they take.
 use Rattle.std.proofs.Common.{◌≡◌, ℕ, Bool, true, false, cond, ◌||◌, List, [], ◌∷◌, ◌++◌, Some, None, refl, sym, ap}
 use Rattle.std.proofs.Common.{◌∙◌, subst, bytes_eq, true≢false, inl, inr}
 use Rattle.std.proofs.lemmas.Bool.{and_parts, and_from}
@@ -19,7 +20,7 @@ use Rattle.openapi_tables.proofs.RowLaws.{apart_back}
 use Rattle.openapi_tables.proofs.again.ObjectsBack.{table_sound}
 use Rattle.openapi_tables.proofs.ByRowLaws.{same_bytes}
 
--- the slots of rows, written
+-- the members that rows write for forms are those that the slots of these rows and forms are written as
 pub slots_print-rows : (T : Tables) (ws : List Row) (fs : List Form)
     → rows_print ws (each (printed T) fs) ≡ slots_print T (slots ws fs)
 unfolding slots_print
@@ -27,7 +28,7 @@ slots_print-rows T [] fs = refl
 slots_print-rows T (w ∷ ws) [] = refl
 slots_print-rows T (w ∷ ws) (f ∷ fs) = ap (λ l. join (row_print w (printed T f)) l) (slots_print-rows T ws fs)
 
--- what is unwritable in the forms of rows is what is so in the slots that the rows and forms make
+-- the unwritable locations in the forms of rows are those in the slots of these rows and forms
 pub slots_lost-rows : (T : Tables) (ws : List Row) (fs : List Form)
     → rows_lost ws (each (lost T) fs) ≡ slots_lost T (slots ws fs)
 unfolding slots_lost
@@ -35,19 +36,19 @@ slots_lost-rows T [] fs = refl
 slots_lost-rows T (w ∷ ws) [] = refl
 slots_lost-rows T (w ∷ ws) (f ∷ fs) = ap (λ l. join (row_lost w (lost T f)) l) (slots_lost-rows T ws fs)
 
--- the members made of a list of entries are those made of its names with their trees
+-- the members made from a list of entries are those made from its pairs of a name and a node
 pub members_untied : (es : List (Entry Tree)) → members_of es ≡ node_members (untied es)
 members_untied [] = refl
 members_untied (e ∷ es) = ap (λ ms. member e.name e.value ms) (members_untied es)
 
--- an object is written as the slots of its rows, and loses what they lose
+-- the form of an object is written as the members that the slots of its rows are written as
 pub fields_print : (T : Tables) (k : Kind) (c : Choice) (es : List (Entry Tree)) (fs : List Form) → choice k es ≡ Some c
     → print T k (fields c (forms_of fs)) ≡ object (node_members (untied (slots_print T (slots (rows_of T k c) fs))))
 fields_print T k c es fs h =
     print-fields T k c es fs h ∙ ap (λ l. object (members_of l)) (slots_print-rows T (rows_of T k c) fs)
     ∙ ap object (members_untied (slots_print T (slots (rows_of T k c) fs)))
 
--- what is unwritable in an object's form is what is so in the slots of its rows
+-- the unwritable locations in the form of an object are those in the slots of its rows
 pub fields_lost : (T : Tables) (k : Kind) (c : Choice) (es : List (Entry Tree)) (fs : List Form) → choice k es ≡ Some c
     → unwritable T k (fields c (forms_of fs)) ≡ slots_lost T (slots (rows_of T k c) fs)
 fields_lost T (by i) c es fs h =
@@ -64,7 +65,7 @@ fields_lost T a_schema_kind c es fs h =
     ∙ slots_lost-rows T (rows_of T a_schema_kind c) fs
 fields_lost T k c es fs h = cc
 
--- the slots of apart rows are apart
+-- a row that is apart from other rows is apart from the rows of their slots
 pub slots_part : (w : Row) (ws : List Row) (fs : List Form) → every (apart w) ws ≡ true
     → every (λ (s : Slot). apart w s.0) (slots ws fs) ≡ true
 slots_part w [] fs h = refl
@@ -73,7 +74,7 @@ slots_part w (v ∷ ws) (f ∷ fs) h =
     let p = and_parts (apart w v) (every (apart w) ws) h in
     and_from (apart w v) (every (λ (s : Slot). apart w s.0) (slots ws fs)) p.0 (slots_part w ws fs p.1)
 
--- the slots of rows of which no two take the same name are apart
+-- the slots of rows are apart, if no two of the rows take the same name
 pub slots_apart-rows : (ws : List Row) (fs : List Form) → rows_apart ws ≡ true → slots_apart (slots ws fs) ≡ true
 slots_apart-rows [] fs h = refl
 slots_apart-rows (w ∷ ws) [] h = refl
@@ -88,7 +89,7 @@ pub table_apart : (T : Tables) (W : tables_sound T ≡ true) (i : TableName) (fs
 table_apart T W i fs =
     slots_apart-rows (T i) fs (and_parts (rows_apart (T i)) (every (row_sound T) (T i)) (table_sound T W i)).0
 
--- the slots through one are those before it, and it
+-- the slots up to and including one are those before it, and it
 pub through-before : (p : Row → Bool) (ss : List Slot) (s : Slot) → slot_where p ss ≡ Some s
     → through p ss ≡ join (before p ss) (s ∷ [])
 through-before p [] s e = cc
@@ -100,7 +101,7 @@ through-before p (x ∷ ss) s e = go (λ q. through-before p ss s q) (p x.0) e
     go more true q = let h : x ≡ s = cc in ap (λ y. y ∷ []) h
     go more false q = ap (λ l. x ∷ l) (more q)
 
--- two lists of slots in a row are written as the first and then the second
+-- the concatenation of two lists of slots is written as the first and then the second list
 pub slots_print-join : (T : Tables) (xs ys : List Slot)
     → slots_print T (join xs ys) ≡ join (slots_print T xs) (slots_print T ys)
 unfolding slots_print
@@ -109,7 +110,7 @@ slots_print-join T (x ∷ xs) ys =
     ap (λ l. join (row_print x.0 (printed T x.1)) l) (slots_print-join T xs ys)
     ∙ sym (join_assoc (row_print x.0 (printed T x.1)) (slots_print T xs) (slots_print T ys))
 
--- what is unwritable in two lists of slots in a row is that of the first and then that of the second
+-- the unwritable locations in a concatenation of slots are those in the first and then those in the second list
 pub slots_lost-join : (T : Tables) (xs ys : List Slot)
     → slots_lost T (join xs ys) ≡ join (slots_lost T xs) (slots_lost T ys)
 unfolding slots_lost
@@ -118,12 +119,12 @@ slots_lost-join T (x ∷ xs) ys =
     ap (λ l. join (row_lost x.0 (lost T x.1)) l) (slots_lost-join T xs ys)
     ∙ sym (join_assoc (row_lost x.0 (lost T x.1)) (slots_lost T xs) (slots_lost T ys))
 
--- two lists of members in a row, as names with their trees, are the first and then the second
+-- a concatenation of members, as pairs of a name and a node, is the first and then the second list
 pub untied-join : (xs ys : List (Entry Tree)) → untied (join xs ys) ≡ untied xs ++ untied ys
 untied-join [] ys = refl
 untied-join (x ∷ xs) ys = ap (λ l. (x.name, x.value) ∷ l) (untied-join xs ys)
 
--- a flag with `|| true` is true
+-- `b || true` is true
 pub or_true : (b : Bool) → (b || true) ≡ true
 or_true true = refl
 or_true false = refl
@@ -138,13 +139,13 @@ taken-first (x ∷ xs) ys n h = go (takes x.0 n) (taken xs n) (λ q. taken-first
     go true c f q = refl
     go false c f q = f q
 
--- a name that the row of the last slot takes is taken by one of the rows
+-- a name that the row of the last slot takes is taken by the row of one of the slots
 pub taken-last : (xs : List Slot) (s : Slot) (n : List ℕ) → takes s.0 n ≡ true → taken (join xs (s ∷ [])) n ≡ true
 unfolding taken
 taken-last [] s n h = ap (λ b. b || false) h
 taken-last (x ∷ xs) s n h = ap (λ b. takes x.0 n || b) (taken-last xs s n h) ∙ or_true (takes x.0 n)
 
--- names that are each taken by one of some slots still are with more slots behind
+-- if each name is taken by one of some slots, that is still so with more slots after them
 pub all_taken-first : (xs ys : List Slot) (es : Entries Tree) → all_taken xs es ≡ true
     → all_taken (join xs ys) es ≡ true
 unfolding all_taken
@@ -153,7 +154,7 @@ all_taken-first xs ys (e ∷ es) h =
     let p = and_parts (taken xs e.0) (all_taken xs es) h in
     and_from _ _ (taken-first xs ys e.0 p.0) (all_taken-first xs ys es p.1)
 
--- where the rows take each name of two lists of members, they take each of both in a row
+-- if the rows take each name of two lists of members, they take each name of their concatenation
 pub all_taken-append : (ss : List Slot) (es fs : Entries Tree) → all_taken ss es ≡ true → all_taken ss fs ≡ true
     → all_taken ss (es ++ fs) ≡ true
 unfolding all_taken
@@ -162,7 +163,7 @@ all_taken-append ss (e ∷ es) fs h g =
     let p = and_parts (taken ss e.0) (all_taken ss es) h in
     and_from _ _ p.0 (all_taken-append ss es fs p.1 g)
 
--- what holds of each slot holds of the one that is found
+-- what holds for each slot holds for the one that is found
 pub slot_each : (P : Slot → Type 0) (p : Row → Bool) (ss : List Slot) (s : Slot) → Each P ss
     → slot_where p ss ≡ Some s → P s
 slot_each P p [] s h e = cc
@@ -172,7 +173,7 @@ slot_each P p (x ∷ ss) s h e = go (λ q. slot_each P p ss s h.1 q) (p x.0) e
     go more true q = let r : x ≡ s = cc in subst P r h.0
     go more false q = more q
 
--- where slots are apart, a name that the row of one takes is taken by none before it
+-- if slots are apart, a name that the row of one takes is taken by none before it
 pub not_taken : (p : Row → Bool) (ss : List Slot) (s : Slot) (n : List ℕ) → slots_apart ss ≡ true
     → slot_where p ss ≡ Some s → takes s.0 n ≡ true → taken (before p ss) n ≡ false
 unfolding taken
@@ -190,7 +191,7 @@ not_taken p (x ∷ ss) s n a e t = go (λ q. not_taken p ss s n parts.1 q t) (p 
         slot_each (λ y. apart x.0 y.0 ≡ true) p ss s (every_each (λ (y : Slot). apart x.0 y.0) ss parts.0) q in
         ap (λ b. b || taken (before p ss) n) (apart_back x.0 s.0 n h t) ∙ more q
 
--- a name that no row takes is not there
+-- if each name of members is taken by a row, no member has a name that no row takes
 pub get_none : (ss : List Slot) (es : Entries Tree) (n : List ℕ) → all_taken ss es ≡ true → taken ss n ≡ false
     → get n es ≡ None
 unfolding all_taken
@@ -205,7 +206,7 @@ get_none ss (e ∷ es) n h g =
         absurd (true≢false (sym t ∙ ap (taken ss) (sym (same_text_eq n e.0 (same_bytes n e.0 ∙ q))) ∙ g))
     go t more false q = more
 
--- a name that is in neither of two lists of members is not in both in a row
+-- a name that is in neither of two lists of members is not in their concatenation
 pub get_none-append : (xs ys : Entries Tree) (n : List ℕ) → get n xs ≡ None → get n ys ≡ None → get n (xs ++ ys) ≡ None
 get_none-append [] ys n h g = g
 get_none-append (x ∷ xs) ys n h g = go (λ q. get_none-append xs ys n q g) (bytes_eq n x.0) h
@@ -215,12 +216,12 @@ get_none-append (x ∷ xs) ys n h g = go (λ q. get_none-append xs ys n q g) (by
     go more true q = cc
     go more false q = more q
 
--- a list with the empty list behind it is that list
+-- the concatenation of a list and the empty list is that list
 pub append_nil : {A : Type 0} (xs : List A) → xs ++ [] ≡ xs
 append_nil [] = refl
 append_nil (x ∷ xs) = ap (λ l. x ∷ l) (append_nil xs)
 
--- a place of a list is, with the step before it, a place of the list seen from one step above
+-- a location in a list is, with a step at its front, in the list with this step at the front of each location
 pub below_each : (s : Step) (q : Place) (ps : List Place) → Among q ps → Among (s ∷ q) (each_below s ps)
 below_each s q [] h = absurd h
 below_each s q (r ∷ ps) (inl e) = inl (ap (λ x. s ∷ x) e)

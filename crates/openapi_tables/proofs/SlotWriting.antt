@@ -28,7 +28,7 @@ use Rattle.openapi_tables.proofs.SlotLists.{all_taken-first}
 -- The slot of a row that passes a test, where the slots before it are written.
 module _ (T : Tables) (ss : List Slot) (p : Row → Bool) (s : Slot) (at : slot_where p ss ≡ Some s) (out : Entries Tree)
     (done : IsWritten T (before p ss) out) where
-  -- members that the slot is written as are put behind those of the slots before it
+  -- if the members that the slot is written as are appended, the slots up to this one are written
   pub slot_put : (more new : Entries Tree) → new ≡ out ++ more → more ≡ untied (row_print s.0 (printed T s.1))
       → row_lost s.0 (lost T s.1) ≡ [] → all_taken (join (before p ss) (s ∷ [])) more ≡ true
       → IsWritten T (through p ss) new
@@ -53,7 +53,7 @@ module _ (T : Tables) (ss : List Slot) (p : Row → Bool) (s : Slot) (at : slot_
   unfolding all_taken
   taken_one n t h = ap (λ b. b && true) (taken-last (before p ss) s n h)
 
-  -- one member
+  -- the same for one member
   pub one_put : (n : List ℕ) (t : Tree) (new : Entries Tree) → takes s.0 n ≡ true
       → row_print s.0 (printed T s.1) ≡ one n t → row_lost s.0 (lost T s.1) ≡ [] → new ≡ out ++ (n, t) ∷ []
       → IsWritten T (through p ss) new
@@ -63,11 +63,11 @@ module _ (T : Tables) (ss : List Slot) (p : Row → Bool) (s : Slot) (at : slot_
   unfolding all_taken
   taken_none = refl
 
-  -- no member
+  -- the same for no member
   pub none_put : row_print s.0 (printed T s.1) ≡ [] → row_lost s.0 (lost T s.1) ≡ [] → IsWritten T (through p ss) out
   none_put f l = slot_put [] out (sym (append_nil out)) (ap untied (sym f)) l taken_none
 
-  -- what the slot loses the object loses
+  -- an unwritable location of the slot is one of the object
   pub slot_loses : (q : Place) → Among q (row_lost s.0 (lost T s.1)) → Among q (slots_lost T ss)
   unfolding slots_lost
   slot_loses q h = go ss at
@@ -85,37 +85,38 @@ module _ (T : Tables) (ss : List Slot) (p : Row → Bool) (s : Slot) (at : slot_
               (subst (λ z. Among q (row_lost z.0 (lost T z.1))) y h)
           step more false r = among_right q (row_lost x.0 (lost T x.1)) (slots_lost T ss) (more r)
 
-  -- a name that the row takes is new
+  -- if the slots are apart, a name that the row takes is new
   module _ (apart : slots_apart ss ≡ true) where
-    -- it is not there yet: no slot before this one takes it
+    -- no member has it yet: no slot before this one takes it
     pub is_new : (n : List ℕ) → takes s.0 n ≡ true → get n out ≡ None
     is_new n t = get_none (before p ss) out n done.names (not_taken p ss s n apart at t)
 
--- a row of a name
+-- the slot of a row of one name, where the slots before it are written
 module _ (T : Tables) (ss : List Slot) (n : List ℕ) (m : Mode) (k : Kind) (f : Form)
     (at : slot_where (is_named n) ss ≡ Some (row n m k, f)) (out : Entries Tree)
     (done : IsWritten T (before (is_named n) ss) out) where
   abbrev the_slot : Slot
   the_slot = (row n m k, f)
 
-  -- its name is not there yet, where no two of the slots take the same name
+  -- no member has its name yet, if no two of the slots take the same name
   pub row_new : slots_apart ss ≡ true → get n out ≡ None
   row_new a = is_new T ss (is_named n) the_slot at out done a n (same_text-refl n)
 
-  -- where its value is put last and nothing of it is lost, the slots as far as it are written
+  -- if its value is appended and has no unwritable location, the slots up to this one are written
   pub row_put : (new : Entries Tree) → is_silent m f ≡ false → unwritable T k f ≡ []
       → new ≡ out ++ (n, print T k f) ∷ [] → IsWritten T (through (is_named n) ss) new
   row_put new loud l e =
       one_put T ss (is_named n) the_slot at out done n (print T k f) new (same_text-refl n)
       (ap (λ b. cond b [] (one n (print T k f))) loud) (ap (λ ps. each_below (at_name n) ps) l) e
 
-  -- where it leaves its value out, the slots as far as it are written with no member more
+  -- if its value is omitted and has no unwritable location, the slots up to this one are written without a further
+  -- member
   pub row_silent : is_silent m f ≡ true → unwritable T k f ≡ [] → IsWritten T (through (is_named n) ss) out
   row_silent quiet l =
       none_put T ss (is_named n) the_slot at out done (ap (λ b. cond b [] (one n (print T k f))) quiet)
       (ap (λ ps. each_below (at_name n) ps) l)
 
-  -- what is lost of its value is lost of the object, one step below at its name
+  -- an unwritable location of its value is one of the object, with the name at its front
   pub row_loses : (q : Place) → Among q (unwritable T k f) → Among (at_name n ∷ q) (slots_lost T ss)
   row_loses q h =
       slot_loses T ss (is_named n) the_slot at out done (at_name n ∷ q) (below_each (at_name n) q (unwritable T k f) h)
@@ -127,7 +128,7 @@ module _ (T : Tables) (c : Class) (k : Kind) where
   prints [] = []
   prints (e ∷ es) = (text_of_key e.key, print T k e.value) ∷ prints es
 
-  -- whether a key is read again and nothing of its value is lost
+  -- whether a key is read again and its value has no unwritable location
   abbrev pub is_kept : Pair Form → Bool
   is_kept e = is_written c e.key && is_empty (unwritable T k e.value)
 
@@ -162,7 +163,7 @@ module _ (T : Tables) (c : Class) (k : Kind) where
       (empty_is (unwritable T k e.value) w.1)
       ∙ values_kept es p.1
 
-  -- the keys are in the class
+  -- the names that the entries are written as are taken by the row of the class
   keys_in : (es : List (Pair Form)) (ss : List Slot) (f : Form) → every is_kept es ≡ true
       → all_taken (join ss ((class c k, f) ∷ [])) (prints es) ≡ true
   unfolding all_taken
@@ -216,14 +217,14 @@ module _ (T : Tables) (c : Class) (k : Kind) where
       ap (λ (x : Pair Form). Some (text_of_key x.key, print T k x.value)) same
   slice-prints (d ∷ es) (suc j) e g = slice-prints es j e g
 
-  -- the row of the class
+  -- the slot of the class, where the slots before it are written
   module _ (ss : List Slot) (es : List (Pair Form))
       (at : slot_where (is_class c) ss ≡ Some (class c k, named (named_of es))) (out : Entries Tree)
       (done : IsWritten T (before (is_class c) ss) out) where
     abbrev the_class : Slot
     the_class = (class c k, named (named_of es))
 
-    -- where all its entries are put last and none is lost, the slots as far as it are written
+    -- if all its entries are appended and have no unwritable location, the slots up to this one are written
     pub class_put : (new : Entries Tree) → new ≡ out ++ prints es → every is_kept es ≡ true
         → IsWritten T (through (is_class c) ss) new
     class_put new e h =
@@ -241,7 +242,7 @@ module _ (T : Tables) (c : Class) (k : Kind) where
         (is_new T ss (is_class c) the_class at out done a (text_of_key e.key) h)
         (absent-next (prints es) j (text_of_key e.key, print T k e.value) d (slice-prints es j e g))
 
-    -- a key that would not be read again is lost of the object, at its name
+    -- a key that would not be read again is an unwritable location of the object, at its name
     pub class_key_loses : (j : ℕ) (e : Pair Form) → slice_get es j ≡ Some e → is_written c e.key ≡ false
         → Among (at_name (text_of_key e.key) ∷ []) (slots_lost T ss)
     class_key_loses j e g h =
@@ -249,7 +250,7 @@ module _ (T : Tables) (c : Class) (k : Kind) where
         (among_left (at_name (text_of_key e.key) ∷ []) (lost_keys c (named_of es))
         (unwritable T (map_of k) (named (named_of es))) (key_lost es j e g h))
 
-    -- what is lost of the value under a key is lost of the object, one step below at its name
+    -- an unwritable location of the value at a key is one of the object, with the name of the key at its front
     pub class_value_loses : (j : ℕ) (e : Pair Form) (q : Place) → slice_get es j ≡ Some e
         → Among q (unwritable T k e.value) → Among (at_name (text_of_key e.key) ∷ q) (slots_lost T ss)
     class_value_loses j e q g h =
@@ -258,12 +259,12 @@ module _ (T : Tables) (c : Class) (k : Kind) where
         (unwritable T (map_of k) (named (named_of es)))
         (subst (λ ps. Among (at_name (text_of_key e.key) ∷ q) ps) (sym (values_lost es)) (value_lost es j e q g h)))
 
--- nothing is written where there are no slots
+-- an empty list of members is what no slots are written as
 pub none_written : (T : Tables) (out : Entries Tree) → out ≡ [] → IsWritten T [] out
 unfolding slots_print slots_lost all_taken
 none_written T out e = record { members = e; nothing_lost = refl; names = ap (all_taken []) e }
 
--- a list is itself with nothing put behind it
+-- a list is itself with the empty list appended
 pub nothing_more : (out : Entries Tree) → out ≡ out ++ []
 nothing_more out = sym (append_nil out)
 

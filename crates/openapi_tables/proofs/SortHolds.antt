@@ -1,5 +1,4 @@
--- Members of which the rows of a sort hold, and that have no other kind name, have that sort; and all kind names hold
--- of them.
+-- If the rows of a sort hold for members that have no other kind name, the members have that sort.
 use Rattle.openapi_tables.proofs.TreeLaws.{null_tree}
 use Rattle.std.proofs.Common.{ℕ, Bool, true, false, not, ◌&&◌, ◌||◌, List, [], ◌∷◌, ◌≡◌, refl, sym, ap, ◌∙◌}
 use Rattle.std.proofs.Common.{codes, ⊎_elim}
@@ -22,7 +21,8 @@ use Rattle.openapi_tables.proofs.SortShown.{Others, Shows, possible_shown, sort_
 use Rattle.openapi_tables.specs.Conforms.{is_text}
 use Rattle.openapi_node.specs.Tree.{Items, Tree, flag, item, list, no_items, null, text, whole}
 
--- a test that null passes, and each tree of a kind, is passed by what a row of that kind holds of
+-- if null and each node of a kind pass a test, so does the first member that a row of that kind takes, if the row
+-- holds. Without a member, null counts
 first_passes : (T : Tables) (q : Tree → Bool) (m : Mode) (k : Kind) (l : List (Entry Tree))
     → name_holds m k (judged T l) ≡ true → q null ≡ true → ((t : Tree) → conforms T k t ≡ true → q t ≡ true)
     → q (first_tree l) ≡ true
@@ -33,13 +33,13 @@ first_passes T q m k (e ∷ l) h n g =
     (λ (x : conforms T k e.value ≡ true). g e.value x)
     (or_cases (skips_null m && is_null e.value) (conforms T k e.value) h)
 
--- null does not conform to a kind that refuses it
+-- null does not conform to a kind that rejects it (`refuses_null`)
 pub null_refused : (T : Tables) (k : Kind) → refuses_null k ≡ true → conforms T k null ≡ false
 null_refused T (ref_to k) h = null_refused T k h
 null_refused T (format ws true) h = cc
 null_refused T k h = cc
 
--- a tree that conforms to a kind that null does not conform to is not null
+-- a node that conforms to a kind to which null does not conform is not null
 pub not_null_conforms : (T : Tables) (k : Kind) (t : Tree) → conforms T k null ≡ false → conforms T k t ≡ true
     → not (is_null t) ≡ true
 not_null_conforms T k null h g = absurd (both_ways (conforms T k null) h g)
@@ -50,7 +50,7 @@ required_held : (T : Tables) (k : Kind) (l : List (Entry Tree)) → conforms T k
 required_held T k [] h g = cc
 required_held T k (e ∷ l) h g = not_null_conforms T k e.value h g
 
--- a tree that is found to be a given text is that text
+-- a node that is a given text by `is_text` is that text
 pub text_held : (v : List ℕ) (t : Tree) → is_text v t ≡ true → t ≡ text v
 text_held v (text s) h = ap text (sym (same_text_eq v s h))
 text_held v t h = cc
@@ -99,11 +99,11 @@ signed_tree : (T : Tables) (t : Tree) → conforms T (number signed) t ≡ true 
 signed_tree T (whole z) h = h
 signed_tree T t h = cc
 
--- each row holds of a list of members
+-- each row holds for the members that it takes from a list
 abbrev pub AllHold : (T : Tables) → List (Entry Tree) → List Row → Type 0
 AllHold T es ws = Each (λ w. row_holds_own w (judged T (own w es)) ≡ true) ws
 
--- where all rows are found to hold of members, each holds of those that it takes
+-- if the check of all rows for members passes, each row holds for those that it takes
 pub all_hold : (T : Tables) (es : List (Entry Tree)) (ws : List Row) → every (row_holds (judged T es)) ws ≡ true
     → AllHold T es ws
 all_hold T es [] h = tt
@@ -114,7 +114,7 @@ all_hold T es (w ∷ ws) h =
       all_hold T es ws p.1,
     )
 
--- where each row holds of the members that it takes, all are found to hold
+-- if each row holds for the members that it takes, the check of all rows passes
 pub from_all_hold : (T : Tables) (es : List (Entry Tree)) (ws : List Row) → AllHold T es ws
     → every (row_holds (judged T es)) ws ≡ true
 from_all_hold T es [] h = refl
@@ -156,7 +156,7 @@ further_holds T boolean_sort es h =
     (entries_conform T is_null_or_flag (null_or any_flag) (flag_entry T))
 further_holds T s es h = refl
 
--- members of which the rows of a sort hold show the sort
+-- if the rows of a sort other than `any_sort` hold for members, the members show the sort (`Shows`)
 shown_held : (T : Tables) (s : Sort) (es : List (Entry Tree)) → AllHold T es (sort_rows s) → is_any s ≡ false → Shows s es
 unfolding any_rows sort_rows string_rows object_rows array_rows boolean_rows
 shown_held T one_of_sort es h a =
@@ -169,7 +169,7 @@ shown_held T not_sort es h a = required_held T schema_ref (own (row (codes "not"
 shown_held T any_sort es h a = cc
 shown_held T s es h a = constant_held T (type_word s) (own (constant (codes "type") (type_word s)) es) h.0
 
--- members of which the rows of a sort hold, and that have no other kind name, have that sort
+-- members have a sort other than `any_sort`, if its rows hold for them and they have no other kind name
 pub sort_holds : (T : Tables) (s : Sort) (es : List (Entry Tree)) → is_any s ≡ false → AllHold T es (sort_rows s)
     → Others s es → sort_of es ≡ s
 sort_holds T s es a h n =

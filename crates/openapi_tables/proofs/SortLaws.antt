@@ -1,4 +1,5 @@
--- A schema of a sort with a type of its own, or of one of the four names, is written as a schema of that sort.
+-- A schema of a sort other than `any_sort` is written as a schema of that sort: the names that it may have, and the
+-- further condition of the sort.
 use Rattle.std.proofs.Common.{ℕ, Bool, true, not, ◌&&◌, ◌||◌, List, [], ◌∷◌, ◌≡◌, refl, ap, ◌∙◌, subst, codes, inl, inr}
 use Rattle.std.proofs.Common.{⊎_elim}
 use Rattle.std.proofs.lemmas.Bool.{and_parts, and_from, or_cases, or_left, or_right, not-true}
@@ -16,17 +17,17 @@ use Rattle.openapi_tables.proofs.PrintLaws.{printed, members_for}
 use Rattle.openapi_tables.proofs.RowLaws.{OwnWrites, Found, no_name}
 use Rattle.openapi_tables.proofs.PlainLaws.{NullOr, written_again}
 
--- each row takes of a list what it writes for what it reads of another
+-- the members that each row takes from `l` are those that it writes for what it reads from `es`
 abbrev pub Rewrites : (T : Tables) → List (Entry Tree) → List (Entry Tree) → List Row → Type 0
 Rewrites T es l ws = Each (λ w. own w l ≡ row_print w (printed T (slot_in T es w))) ws
 
--- where rows find in a list what they write for what they read, each row by itself takes that of the list
+-- if rows find in `l` what they write for what they read from `es`, each row by itself takes that from `l`
 pub rewrites : (T : Tables) (es l : List (Entry Tree)) (ws : List Row) → Found T l ws (each (slot_in T es) ws)
     → Rewrites T es l ws
 rewrites T es l [] h = tt
 rewrites T es l (w ∷ ws) h = (h.0, rewrites T es l ws h.1)
 
--- what holds of each element of two lists in a row holds of each of the second
+-- what holds for each element of a concatenation holds for each element of the second list
 pub Each_behind : {A : Type 0} → (P : A → Type 0) (xs ys : List A) → Each P (join xs ys) → Each P ys
 Each_behind P [] ys h = h
 Each_behind P (x ∷ xs) ys h = Each_behind P xs ys h.1
@@ -39,7 +40,7 @@ held_nothing T n ws fs h g =
     (each_under (λ w (x : not (takes w n) ≡ true). not-true (takes w n) x) ws
     (every_each (λ w. not (takes w n)) ws h)) g)
 
--- no sort has a row that takes a kind name which the sort does not allow, by computation
+-- no row of a sort takes a kind name that the sort does not allow, by computation
 pub names_fit_none : every (names_fit []) sorts ≡ true
 unfolding any_rows sort_rows allowed kind_names string_rows object_rows array_rows boolean_rows
 names_fit_none = refl
@@ -52,7 +53,7 @@ each_name p (m ∷ ns) n h g =
     ⊎_elim (λ (x : same_text m n ≡ true). subst (λ u. p u ≡ true) (same_text_eq m n x) h.0)
     (λ (x : has ns n ≡ true). each_name p ns n h.1 x) (or_cases (same_text m n) (has ns n) g)
 
--- of what rows write, each name is allowed in the sort or null, if it is allowed or taken by no row
+-- each name of a list is allowed in the sort or null in what rows write, if it is allowed or taken by no row
 pub names_held : (T : Tables) (s : Sort) (ws : List Row) (fs : List Form) → OwnWrites T ws fs → (ns : List (List ℕ))
     → Each (λ n. (has (allowed s) n || untaken ws n) ≡ true) ns
     → Each (λ n. (has (allowed s) n || is_null (held n (members_for T ws fs))) ≡ true) ns
@@ -69,14 +70,15 @@ passes : (q : Tree → Bool) (u t : Tree) → q null ≡ true → q t ≡ true �
 passes q u t h g (inl e) = ap q e ∙ h
 passes q u t h g (inr e) = ap q e ∙ g
 
--- a test that null passes, and that the member of a name passed, is passed by what its row writes
+-- a test that null passes, and that the member of a name passed, is passed by what the row of the name writes for that
+-- member
 held_passes : (T : Tables) (q : Tree → Bool) (n : List ℕ) (m : Mode) (k : Kind) (es l : List (Entry Tree))
     → q null ≡ true → q (held n es) ≡ true
     → NullOr (first_tree (row_print (row n m k) (printed T (slot_in T es (row n m k))))) (held n es)
     → own (row n m k) l ≡ row_print (row n m k) (printed T (slot_in T es (row n m k))) → q (held n l) ≡ true
 held_passes T q n m k es l h g o e = ap (λ x. q (first_tree x)) e ∙ passes q _ (held n es) h g o
 
--- the further condition of a sort holds again
+-- if the further condition of a sort holds for members, it holds for what the rows of the sort write for them
 pub further_again : (T : Tables) (s : Sort) (es l : List (Entry Tree)) → Rewrites T es l (sort_rows s)
     → further s es ≡ true → further s l ≡ true
 unfolding any_rows sort_rows string_rows object_rows array_rows boolean_rows

@@ -1,4 +1,4 @@
--- The rows of a sort read, where the 24 names of a schema's kind hold as optional rows.
+-- The rows of a sort find what they must, if the 24 names of the kind of a schema hold as optional rows.
 use Prim.Native.String.{String}
 use Rattle.std.proofs.Common.{ℕ, Bool, true, false, cond, ◌||◌, List, [], ◌∷◌, Option, Some, None, ◌≡◌, refl, subst}
 use Rattle.std.proofs.Common.{codes}
@@ -87,12 +87,12 @@ further_of es s a e =
     (and_parts (every (λ n. has (allowed s) n || is_null (held n es)) kind_names) (further s es)
     (sort_meets es s e a).1).1
 
--- an entry before others
+-- a pair, as an infix operator
 infixr 30 ◌⨾◌
 abbrev ◌⨾◌ : {A B : Type 0} → A → B → A × B
 h ⨾ g = (h, g)
 
--- the row of a name
+-- the first row of a name
 abbrev row_named : List ℕ → List Row → Option Row
 row_named n [] = None
 row_named n (w ∷ ws) = cond (same_text n (row_name w)) (Some w) (row_named n ws)
@@ -110,7 +110,7 @@ named_holds T es n (v ∷ ws) w e h = at (same_text n (row_name v)) (λ q. named
     at true g q = let p : v ≡ w = cc in subst (λ x. OptionalHolds T es x) p h.0
     at false g q = g q
 
--- rows that can miss nothing read what they hold of when they are optional
+-- a row that requires no member finds what it must, if it holds as an optional row
 optional_reads : (T : Tables) (w : Row) (es : List (Entry Tree)) → never_misses w ≡ true → OptionalHolds T es w
     → RowReads T (own w es) w
 optional_reads T (row n required k) es m h = cc
@@ -127,13 +127,13 @@ all_optional_read T (w ∷ ws) es m h =
     let p = and_parts (never_misses w) (every never_misses ws) m in
     optional_reads T w es p.0 h.0 ⨾ all_optional_read T ws es p.1 h.1
 
--- the rows of the sort of members find what they must, where the 24 kind names hold as optional rows
+-- the rows of the sort of members find what they must, if the 24 kind names hold as optional rows
 pub sort_reads : (T : Tables) (s : Sort) (es : List (Entry Tree)) → AllHold T es (each made_optional any_rows)
     → sort_of es ≡ s → AllRead T es (sort_rows s)
 unfolding any_rows sort_rows string_rows object_rows array_rows boolean_rows
 sort_reads T s es h e = at s e
   where
-    -- the row of one of the 24 names holds, and reads
+    -- the row of one of the 24 kind names holds as an optional row
     holds : (n : String) (w : Row) → row_named (codes n) any_rows ≡ Some w → OptionalHolds T es w
     holds n w q = named_holds T es (codes n) any_rows w q h
 

@@ -1,4 +1,4 @@
--- Which sort members have, by what shows it: their type, or which of the four names is present.
+-- Which sort members have, by what shows it: their type, or which of `oneOf`, `allOf`, `anyOf` and `not` is present.
 use Rattle.std.proofs.Common.{ℕ, Bool, true, false, not, cond, List, [], ◌≡◌, refl, ap, ◌∙◌, codes}
 use Rattle.openapi_tables.specs.Prelude.{has, Entry, is_null, held, is_present, meets, sort_of, is_any, any_rows}
 use Rattle.openapi_tables.specs.Prelude.{Sort, string_sort, number_sort, integer_sort, boolean_sort, object_sort}
@@ -17,7 +17,7 @@ sort_from l s h g =
 abbrev pub Others : Sort → List (Entry Tree) → Type 0
 Others s es = (n : List ℕ) → has kind_names n ≡ true → has (allowed s) n ≡ false → held n es ≡ null
 
--- the word of a sort that `type` names
+-- the text of `type` that names a sort, or the empty text if there is none
 abbrev pub type_word : Sort → List ℕ
 type_word string_sort = codes "string"
 type_word number_sort = codes "number"
@@ -27,7 +27,7 @@ type_word object_sort = codes "object"
 type_word array_sort = codes "array"
 type_word _ = []
 
--- what shows a sort: its word under `type`, or that a member of its name is present
+-- what shows a sort: its text at `type`, or that the member of its name is present
 abbrev pub Shows : Sort → List (Entry Tree) → Type 0
 Shows one_of_sort es = is_present es (codes "oneOf") ≡ true
 Shows all_of_sort es = is_present es (codes "allOf") ≡ true
@@ -35,21 +35,21 @@ Shows any_of_sort es = is_present es (codes "anyOf") ≡ true
 Shows not_sort es = is_present es (codes "not") ≡ true
 Shows s es = held (codes "type") es ≡ text (type_word s)
 
--- the sort by the first of four names that is present
+-- the sort of the first of `oneOf`, `allOf`, `anyOf` and `not` that is present, or `any_sort`
 abbrev pub chain : Bool → Bool → Bool → Bool → Sort
 chain a b c d = cond a one_of_sort (cond b all_of_sort (cond c any_of_sort (cond d not_sort any_sort)))
 
--- without a type, the sort is that of the first of the four names that is present
+-- without a type, the possible sort is that of the first of the four names that is present
 untyped : (es : List (Entry Tree)) → held (codes "type") es ≡ null → possible_sort (held (codes "type") es) es
     ≡ chain (is_present es (codes "oneOf")) (is_present es (codes "allOf")) (is_present es (codes "anyOf"))
     (is_present es (codes "not"))
 untyped es h = ap (λ t. possible_sort t es) h
 
--- a name that holds null is not present
+-- a name whose value is null is not present
 gone : (n : List ℕ) (es : List (Entry Tree)) → held n es ≡ null → is_present es n ≡ false
 gone n es h = ap (λ t. not (is_null t)) h
 
--- members that show a sort, and have no kind name that it does not allow, can have no other sort
+-- if members show a sort other than `any_sort`, and have no kind name that it does not allow, it is their possible sort
 pub possible_shown : (s : Sort) (es : List (Entry Tree)) → Shows s es → is_any s ≡ false → Others s es
     → possible_sort (held (codes "type") es) es ≡ s
 unfolding any_rows sort_rows string_rows object_rows array_rows boolean_rows kind_names allowed

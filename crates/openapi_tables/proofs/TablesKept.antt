@@ -1,4 +1,4 @@
--- What conforms by an earlier list of tables, and by the final one.
+-- Nodes that conform by one list of tables, and by a later one.
 use Rattle.std.proofs.Common.{ℕ, Bool, true, List, [], ◌∷◌, Option, Some, None, ◌≡◌, refl, sym, subst, inl, inr}
 use Rattle.std.proofs.lemmas.Bool.{and_parts, and_from}
 use Rattle.openapi_tables.proofs.KindsHold.{any_conforms}
@@ -21,14 +21,14 @@ use Rattle.openapi_tables.proofs.AskedLaws.{OfAsked, Meets, all_met, table_confo
 use Rattle.openapi_tables.proofs.Kept.{RowsKept, kept_same, kept_changed, kept_dropped, kept_added, all_same, Keeps}
 use Rattle.openapi_tables.proofs.Kept.{Kept, item_kept, kept}
 
--- nothing is asked of what is asked
+-- the condition on requirements that always holds
 abbrev Free : Kind → Tree → Type 0
 Free k t = Unit {0}
 
 free : (l : List Asking) → OfAsked Free l
 free l = each_all (λ a. tt) l
 
--- all entries of a map conform
+-- if the check of the entries of a map passes, each of them conforms
 judged_each : (T : Tables) (k : Kind) (es : List (Entry Tree))
     → every (λ (e : Entry (Seen (Kind → Bool))). e.value.answer k) (judged T es) ≡ true
     → Each (λ (e : Entry Tree). conforms T k e.value ≡ true) es
@@ -74,7 +74,8 @@ all_widened : (j k : Kind) (es : List (Entry Tree))
 all_widened j k [] c s g h = tt
 all_widened j k (e ∷ es) c s g h = (c e.value g.0 s h.0 (free _), all_widened j k es c s g.1 h.1)
 
--- a map of path items is a Callback object, its names that begin with `x-` being extensions
+-- a node that conforms as a map of path items conforms as a Callback Object, where names that begin with `x-` are
+-- extensions
 map_is_object : (ms : Members) → Each (λ (e : Entry Tree). Callbacks e.value) (members_list ms)
     → conforms tables_before_callbacks callback_map (object ms) ≡ true
     → conforms tables_before_xml (by callback_object) (object ms) ≡ true
@@ -129,7 +130,7 @@ widened (object ms) g j k (of_each i l c) s h o =
 widened t g j k of_map s h o = cc
 widened t g j k x s h o = cc
 
--- what conforms before callbacks have a table conforms when they have one: the law `CallbacksKept`
+-- a node that conforms before callbacks have a table conforms when they have one: the law `CallbacksKept`
 pub callbacks_kept : CallbacksKept
 callbacks_kept k t s h =
     (kept tables_before_callbacks tables_before_xml second_sound Free Widened callback_rows widened t).0 k s h (free _)
@@ -138,7 +139,7 @@ callbacks_kept k t s h =
 abbrev Unchanged : Kind → Kind → Type 0
 Unchanged j k = ⊥
 
--- without `xml`
+-- the rows of the tables without `xml` are those of the final tables, where the row of `xml` is left out
 rows_without : (i : TableName) → RowsKept tables_before_xml Free Unchanged (final_tables i) (tables_before_xml i)
 unfolding final_tables tables_before_xml tables_with
 rows_without schema_data =
@@ -148,7 +149,7 @@ rows_without schema_data =
     (kept_same _ _ _ (kept_same _ _ _ (kept_dropped _ _ _ (all_same _ _ _ _)))))))))))
 rows_without i = all_same tables_before_xml Free Unchanged (tables_before_xml i)
 
--- with `xml`, where what is asked under it conforms
+-- the value conforms, if it must be an XML Object
 abbrev XmlConforms : Kind → Tree → Type 0
 XmlConforms k t = k ≡ by xml_object → conforms final_tables (by xml_object) t ≡ true
 
@@ -180,7 +181,8 @@ each_among : {A : Type 0} → (P : A → Type 0) (l : List A) → ((a : A) → A
 each_among P [] h = tt
 each_among P (x ∷ l) h = (h x (inl refl), each_among P l (λ a m. h a (inr m)))
 
--- a tree conforms exactly where it does without `xml` and what is asked under `xml` does: the law `XmlKept`
+-- a node conforms if and only if it conforms without `xml`, and each value that must be an XML Object conforms: the law
+-- `XmlKept`
 pub xml_kept : XmlKept
 xml_kept k t s f = (
   (λ h. (

@@ -1,4 +1,4 @@
--- What reading gives of a tree under a kind, one rule for each way.
+-- The form that is read from a node under a kind, with one rule for each case.
 use Rattle.std.proofs.Common.{ℕ, pos, Bool, true, false, cond, ◌&&◌, nat_le, List, Option, Some, None, ◌≡◌, refl, sym}
 use Rattle.std.proofs.Common.{ap, ◌∙◌, subst, codes}
 use Rattle.openapi_tables.specs.Prelude.{each, has, items_list, members_list, on_entry, Seen, Shape, of_items}
@@ -13,17 +13,17 @@ use Rattle.openapi_tables.specs.Read.{object_form}
 use Rattle.openapi_tables.proofs.ListLaws.{each-each, each_id}
 use Rattle.openapi_tables.proofs.TreeLaws.{see, of_items_lem, of_members_lem, seen_root, tree_of_root-seen}
 
--- the text that makes a tree a reference
+-- the text of a reference, if the node is one
 abbrev pub ref_text : Tree → Option (List ℕ)
 ref_text (object ms) = text_in (held (codes "$ref") (members_list ms))
 ref_text _ = None
 
--- whether a tree is a flag
+-- whether a node is a boolean
 abbrev pub is_flag : Tree → Bool
 is_flag (flag b) = true
 is_flag _ = false
 
--- the ways in which a tree is read under a kind, each with the form that it gives
+-- the cases of reading a node under a kind, each with the form that is read
 pub data Taken (T : Tables) : Kind → Tree → Form → Type 0 where
   as_leaf : (k : Kind) (t : Tree) → form T k t ≡ leaf t → Taken T k t (leaf t)
   as_known : (ws : List (List ℕ)) (b : Bool) (s : List ℕ) → has ws s ≡ true → Taken T (format ws b) (text s) (known s)
@@ -48,14 +48,14 @@ leaf_at T k t e =
     let q : form T k t ≡ leaf t = e ∙ ap leaf (tree_of_root-seen (root_form T) t) in
     subst (λ f. Taken T k t f) (sym q) (as_leaf k t q)
 
--- the trees of members that are seen with a function's answers are the members as they were
+-- members with the results of a function beside them, without these results, are the members
 pub trees_of-members : {X : Type 0} → (f : Shape (Seen X) → X) (ms : Members)
     → trees (of_members f ms) ≡ members_list ms
 trees_of-members f ms =
     ap trees (of_members_lem f ms) ∙ each-each (on_entry (λ x. x.tree)) (on_entry (see f)) (members_list ms)
     ∙ each_id (members_list ms)
 
--- whether a tree is a reference, by what is seen of it
+-- the text of a reference is the same with the results of a function beside the members of an object
 pub reference_of : {X : Type 0} → (f : Shape (Seen X) → X) (ms : Members)
     → is_reference (an_object (of_members f ms)) ≡ ref_text (object ms)
 reference_of f ms = ap (λ l. text_in (held (codes "$ref") l)) (trees_of-members f ms)
@@ -110,7 +110,7 @@ taken_ref_object T k ms f h =
     taken_ref T k (object ms) f (text_in (held (codes "$ref") (trees (of_members (root_form T) ms))))
     (ap (λ es. text_in (held (codes "$ref") es)) (sym (trees_of-members (root_form T) ms))) h
 
--- every tree is read under every kind in one of these ways
+-- every node is read under every kind by one of these cases
 pub taken : (T : Tables) (k : Kind) (t : Tree) → Taken T k t (form T k t)
 taken T (format ws b) null = as_unset ws b
 taken T (format ws b) (text s) = taken_format T ws b s (has ws s) refl

@@ -1,4 +1,4 @@
--- What the rows of an object weigh together is at most what its members weigh.
+-- The members that the rows of an object take contain at most as many values as all its members.
 use Rattle.std.proofs.Common.{ℕ, ◌+◌, ◌≤◌, Bool, true, false, cond, List, [], ◌∷◌, ◌≡◌, refl, ap, ◌∙◌, arith}
 use Rattle.std.proofs.lemmas.Bool.{and_parts}
 use Rattle.openapi_node.specs.Tree.{Tree, Members, no_members, member, members_size, size_of}
@@ -8,13 +8,13 @@ use Rattle.openapi_tables.proofs.ListLaws.{Each, every_each}
 use Rattle.openapi_tables.proofs.RowLaws.{apart_takes}
 use Rattle.openapi_tables.proofs.again.ObjectsBack.{table_sound}
 
--- the weight of members of which the first counts or not
+-- the number of values in members of which the first counts or not, by a boolean
 pub weight_cond : (b : Bool) (e : Entry Tree) (es : List (Entry Tree))
     → weight (cond b (e ∷ es) es) ≡ cond b (size_of e.value) 0 + weight es
 weight_cond true e es = refl
 weight_cond false e es = omega arith
 
--- the sum over the rows that take a name
+-- the number of values in a member, counted once for each row that takes it
 abbrev pub taken_by : List Row → Entry Tree → ℕ
 taken_by [] e = 0
 taken_by (w ∷ ws) e = cond (takes w e.name) (size_of e.value) 0 + taken_by ws e
@@ -65,12 +65,12 @@ pub weight-all : (ms : Members) → weight (members_list ms) ≡ members_size ms
 weight-all no_members = refl
 weight-all (member n t ms) = ap (λ x. size_of t + x) (weight-all ms)
 
--- rows that are apart take no more values than all members of an object have
+-- the members that rows take contain at most as many values as all members of an object, if the rows are apart
 pub rows_weight-le : (ws : List Row) (ms : Members) → rows_apart ws ≡ true → rows_weight ws ms ≤ members_size ms
 rows_weight-le ws ms h =
     omega (arith, rows_weight-weights ws ms, weight-all ms, weights-le ws (members_list ms) h)
 
--- the rows of a sound table take no more values than all members of an object have
+-- the members that the rows of a sound table take contain at most as many values as all members of an object
 pub table_weight-le : (T : Tables) (W : tables_sound T ≡ true) (i : TableName) (ms : Members)
     → rows_weight (T i) ms ≤ members_size ms
 table_weight-le T W i ms =

@@ -39,18 +39,19 @@ pub final_kinds : every (sound final_tables) type_kinds ≡ true
 unfolding tables_with final_tables string_rows object_rows array_rows boolean_rows any_rows
 final_kinds = refl
 
--- of the tables before callbacks, none has two rows that are written where nothing was read
+-- of the tables before callbacks, none has two rows that are written if nothing was read, and neither has a sort of
+-- schema
 pub first_small : tables_small tables_before_callbacks ≡ true
 unfolding tables_with tables_before_callbacks any_rows string_rows object_rows array_rows boolean_rows sort_rows
     table_names
 first_small = refl
 
--- of the tables before `xml`, none has two rows that are written where nothing was read
+-- of the tables before `xml`, none has two rows that are written if nothing was read, and neither has a sort of schema
 pub second_small : tables_small tables_before_xml ≡ true
 unfolding tables_with tables_before_xml any_rows string_rows object_rows array_rows boolean_rows sort_rows table_names
 second_small = refl
 
--- of the final tables, none has two rows that are written where nothing was read
+-- of the final tables, none has two rows that are written if nothing was read, and neither has a sort of schema
 pub final_small : tables_small final_tables ≡ true
 unfolding tables_with final_tables any_rows string_rows object_rows array_rows boolean_rows sort_rows table_names
 final_small = refl

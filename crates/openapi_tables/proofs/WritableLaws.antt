@@ -1,4 +1,4 @@
--- A form is proper exactly where it is shaped and none of its names and codes is unwritable.
+-- A form is proper if and only if it is shaped and none of its names and codes is unwritable.
 use Rattle.openapi_tables.proofs.BoolLaws.{assoc, shuffle, and_true, and_false}
 use Rattle.std.proofs.Common.{ℕ, suc, Bool, true, false, not, cond, ◌&&◌, ◌||◌, List, [], ◌∷◌, Option, Some, None, ◌≡◌}
 use Rattle.std.proofs.Common.{refl, sym, ap, ◌∙◌, subst, codes}
@@ -29,7 +29,7 @@ use Rattle.openapi_tables.proofs.ReadProper.{same_key-refl}
 use Rattle.openapi_tables.proofs.RowLaws.{not_both}
 use Rattle.openapi_tables.proofs.CodeLaws.{code_of-text_of, writable-code_of, same_code_eq}
 
--- what is proper is shaped, with nothing that is unwritable
+-- a form is proper if and only if it is shaped and has no unwritable location
 abbrev Splits : (T : Tables) → Form → Type 0
 Splits T f = (k : Kind) → proper T k f ≡ (shaped T k f && is_empty (unwritable T k f))
 
@@ -68,7 +68,7 @@ pairs_split T k (under n f es) g =
     (of_named (face_held is_key T) es)) && b)
     (lost_at (at_name (text_of_key n)) (unwritable T k f) (lost_pairs k (of_named (face_lost T) es)))
 
--- what is written as a name of a class is a key of it
+-- a key that is written as a name of a class is a key of it (`is_key`)
 written_is_key : (c : Class) (n : Key) → is_written c n ≡ (is_key c n && is_written c n)
 written_is_key status_names (name n) = at (code_of n)
   where
@@ -121,7 +121,7 @@ class_split T c k (under n f es) g =
     key_at true = refl
     key_at false = refl
 
--- one row
+-- a slot that is absent, where its mode allows that, has no unwritable location
 absent_lost : (T : Tables) (m : Mode) (k : Kind) (f : Form) → may_be_absent m f ≡ true
     → is_empty (unwritable T k f) ≡ true
 absent_lost T optional k absent h = refl
@@ -164,7 +164,7 @@ rows_split T (w ∷ ws) (more f fs) g =
 rows_split T ws no_forms g = refl
 rows_split T ws fs g = refl
 
--- one root, under a bare kind
+-- a leaf is proper if and only if it is shaped and has no unwritable location
 leaf_split : (T : Tables) (t : Tree) (k : Kind)
     → proper T k (leaf t) ≡ (shaped T k (leaf t) && is_empty (unwritable T k (leaf t)))
 leaf_split T null (null_or k) = refl
@@ -266,7 +266,7 @@ code_written c false h = not_both (is_written status_names (coded c)) again
 text_written : (n : List ℕ) (b : Bool) → (same_key (name n) (name n) && b) ≡ b
 text_written n b = ap (λ x. x && b) (same_key-refl (name n))
 
--- a form is proper exactly where it is shaped and nothing in it is unwritable: the law `Writable`
+-- a form is proper if and only if it is shaped and nothing in it is unwritable: the law `Writable`
 pub writable : Writable
 writable = (
   (λ T k f. (

@@ -1,4 +1,4 @@
--- A form that a value of a kind can have is written as a tree that conforms to the kind: for all kinds and forms.
+-- A proper form is written as a node that conforms to the kind: for all kinds and forms.
 use Rattle.std.proofs.Common.{ℕ, Bool, true, ◌&&◌, List, [], ◌∷◌, Option, Some, None, ◌≡◌, refl, sym, ap, ◌∙◌, subst}
 use Rattle.std.proofs.lemmas.Bool.{and_parts, and_from}
 use Rattle.openapi_tables.proofs.KindsHold.{any_conforms}
@@ -30,7 +30,7 @@ use Rattle.openapi_tables.specs.Members.{tag}
 use Rattle.openapi_tables.specs.Sound.{rows_sound}
 use Rattle.openapi_node.specs.Tree.{Tree, items_of, object, text, whole, null}
 
--- the rows of a sound kind, by a choice that its forms may have
+-- the rows of a sound kind are sound, by each choice that its forms may have
 pub rows_proper_sound : (T : Tables) (W : tables_sound T ≡ true) (k : Kind) (c : Choice) → sound T k ≡ true
     → choice_proper k c ≡ true → rows_sound T (rows_of T k c) ≡ true
 unfolding rows_of
@@ -41,7 +41,7 @@ rows_proper_sound T W a_schema_kind (sort s') s h = sort_sound T W s'
 rows_proper_sound T W (by i) c s h = cc
 rows_proper_sound T W k c s h = cc
 
--- an object's form is printed as the members that its rows write, by a choice that its kind may have
+-- the form of an object is written as the members that its rows write, by a choice that its kind may have
 pub print-proper : (T : Tables) (k : Kind) (c : Choice) (fs : Forms) → choice_proper k c ≡ true
     → print T k (fields c fs) ≡ object (members_of (members_for T (rows_of T k c) (forms_list fs)))
 print-proper T (by i) c fs h = ap (λ l. object (members_of (rows_print (rows_of T (by i) c) l)))
@@ -54,7 +54,7 @@ print-proper T a_schema_kind c fs h =
     ap (λ l. object (members_of (rows_print (rows_of T a_schema_kind c) l))) (of_forms_lem (face_print T) fs)
 print-proper T k c fs h = cc
 
--- what is known of the members that an object of a kind writes for a proper form
+-- what is known about the members that an object of a kind writes for a proper form
 pub record Written (T : Tables) (k : Kind) (c : Choice) (fs : List Form) : Type 0 where
   pub apart_rows : rows_apart (rows_of T k c) ≡ true
   pub sound_rows : Each (λ w. row_sound T w ≡ true) (rows_of T k c)
@@ -62,7 +62,7 @@ pub record Written (T : Tables) (k : Kind) (c : Choice) (fs : List Form) : Type 
   pub writes : OwnWrites T (rows_of T k c) fs
   pub finds : Found T (members_for T (rows_of T k c) fs) (rows_of T k c) fs
 
--- what `Written` says is so of each proper form of an object whose kind is sound
+-- `Written` holds for each proper form of an object whose kind is sound
 pub written : (T : Tables) (W : tables_sound T ≡ true) (k : Kind) (c : Choice) (fs : List Form) → sound T k ≡ true
     → choice_proper k c ≡ true → rows_proper (rows_of T k c) (each (show (face_proper T)) fs) ≡ true → Written T k c fs
 written T W k c fs s h g =
@@ -84,7 +84,7 @@ written T W k c fs s h g =
     w : OwnWrites T (rows_of T k c) fs
     w = proper_writes T (rows_of T k c) fs p
 
--- whether an object holds is seen from the rows of its choice, by the list of its members
+-- whether an object conforms is given by the rows of its choice and the list of its members
 pub object_conforms : (T : Tables) (k : Kind) (es : List (Entry Tree))
     → object_holds T k (of_members (root_conforms T) (members_of es)) ≡ chosen_holds T k (judged T es) (choice k es)
 object_conforms T k es =
@@ -100,7 +100,7 @@ all_written T k c fs w g = all_hold T l (rows_of T k c)
     l : List (Entry Tree)
     l = members_for T (rows_of T k c) fs
 
--- where rows that stand in two lists in a row hold, those of each list do
+-- if the rows of a concatenation hold, those of each list do
 pub behind : (T : Tables) (es : List (Entry Tree)) (pre ws : List Row) → AllHold T es (join pre ws)
     → AllHold T es pre × AllHold T es ws
 behind T es [] ws h = (tt, h)
@@ -138,7 +138,7 @@ schema_kind_writes T s fs w g =
     object_conforms T a_schema_kind l ∙ from_all_hold T l (each made_optional any_rows)
     (kinds_hold T s l (all_written T a_schema_kind (sort s) fs w g) o)
 
--- the choice and the slots of fields that are proper
+-- if the check of an object's form passes, its choice is one of the kind and its slots are proper
 pub proper_parts : (T : Tables) (c : Choice) (fs : Forms) (k : Kind)
     → (choice_proper k c && rows_proper (rows_of T k c) (of_forms (face_proper T) fs)) ≡ true
     → (choice_proper k c ≡ true) × (rows_proper (rows_of T k c) (each (show (face_proper T)) (forms_list fs)) ≡ true)
@@ -254,6 +254,6 @@ writes_step T W (fields c fs) g k s h = fields_write T W c fs g k s h
 writes_step T W f g (null_or any_text) s h = cc
 writes_step T W f g k s h = cc
 
--- a proper form is written as a tree that conforms
+-- a proper form is written as a node that conforms
 pub writes_all : (T : Tables) (W : tables_sound T ≡ true) (f : Form) → Writes T f
 writes_all T W f = by_deep (Writes T) (writes_step T W) f

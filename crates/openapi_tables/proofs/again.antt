@@ -1,14 +1,15 @@
--- What stays when it is read again. A form is read of a tree and printed as a tree, of which a form is read again. A form
--- stays where no schema in it changes its sort by being printed (`stays` in specs/Stays.antt). Three things are shown, each
--- of rows first, then of objects and schemas, and then of all kinds:
+-- What stays when it is written and read again. A form is read from a node, and written as a node from which a form is
+-- read again. A form stays if no schema of `any_sort` in it is written as a schema of another sort (`stays` in
+-- specs/Stays.antt). Three facts are proved, each first for rows, then for objects and schemas, and then for all kinds:
 --
--- 1. A form that stays is read again of what it is printed as: RowsBack, ObjectsBack, SortsBack, KindsBack, and for the
---    whole ReadAgain (`read_again`).
--- 2. A form that is read again of what it is printed as stays: RowsStay, and for the whole FirstValue (`first_stays`).
--- 3. What is read of what a proper form is printed as stays: RowsSettle, SchemasSettle, and for the whole AllSettle
+-- 1. A form that was read and stays is unchanged when it is written and read again: RowsBack, ObjectsBack, SortsBack,
+--    KindsBack, and for all kinds ReadAgain (`read_again`).
+-- 2. A form that was read and is unchanged when it is written and read again stays: RowsStay, and for all kinds
+--    FirstValue (`first_stays`).
+-- 3. A proper form that is written and read again stays: RowsSettle, SchemasSettle, and for all kinds AllSettle
 --    (`calm_all`).
 --
--- Cleaned puts them together: what was printed and read once is settled.
+-- Cleaned combines them: a proper form that was written and read once is in stable form.
 pub mod RowsBack
 pub mod ObjectsBack
 pub mod SortsBack

@@ -1,5 +1,5 @@
--- The document and what is said about it: OpenAPI, Info, Contact, License, Server, Server Variable, Tag, External
--- Documentation and Components Object.
+-- The field tables of a document and its metadata: the OpenAPI, Info, Contact, License, Server, Server Variable, Tag,
+-- External Documentation and Components Objects.
 use Rattle.std.specs.Prelude.{List, ◌∷◌}
 use Rattle.openapi_tables.specs.Kind.{Kind, any_text, list_of, map_of, by, ref_to, Row, info, contact, license, example}
 use Rattle.openapi_tables.specs.Kind.{server, server_variable, tag, external_documentation, components, paths, header}
@@ -79,7 +79,7 @@ external_documentation_rows =
     ∷ required_row "url" any_text
     ∷ extension_rows
 
--- Components Object, whose callbacks are of a kind
+-- Components Object, with a given kind for its callbacks
 abbrev pub components_rows : Kind → List Row
 components_rows callback =
     list_row "schemas" (map_of schema_ref)

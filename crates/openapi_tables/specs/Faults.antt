@@ -1,4 +1,4 @@
--- What is asked of which value at which place, and which causes a value breaks by itself.
+-- What is required of which value at which location, and the causes of the faults of a value itself.
 use Rattle.std.specs.Prelude.{ℕ, suc, pos, negsuc, Bool, ◌&&◌, cond, nat_le, List, [], ◌∷◌, Option, Some, None}
 use Rattle.openapi_node.specs.Place.{Step, named as at_name, indexed as at_index}
 use Rattle.openapi_node.specs.declared.fault.Expected.{Expected}
@@ -21,8 +21,8 @@ use Rattle.openapi_tables.specs.Members.{is_null, own, trees, any_sort, Choice, 
 use Rattle.openapi_tables.specs.Conforms.{skips_null, is_reference}
 use Rattle.openapi_tables.specs.Read.{tree_of_root}
 
--- What a value can break: a required member is missing, both of two members are, the value is of another kind, it is
--- a number out of range or no status code, it is a text outside its set.
+-- The cause of a fault. A required member is missing, or both of two members are. Or the value is of another kind, is a
+-- number out of range or not a status code, or is a string outside its set.
 pub data Cause : Type 0 where
   missing : List ℕ → Cause
   missing_either : List ℕ → List ℕ → Cause
@@ -30,17 +30,17 @@ pub data Cause : Type 0 where
   not_allowed : Cause
   unknown_variant : Cause
 
--- A kind that is asked of a value at a place.
+-- A requirement: a kind that is required of a value at a location.
 pub record Asking : Type 0 where
   pub place : List Step
   pub kind : Kind
   pub tree : Tree
 
--- a cause, unless something holds
+-- a list of one cause, or no cause if the condition is true
 abbrev pub unless : Bool → Cause → List Cause
 unless b c = cond b [] (c ∷ [])
 
--- what a row misses among the members of an object
+-- the cause of a row whose required member is missing, given the members that the row takes
 abbrev pub misses : {X : Type 0} → Row → List (Entry X) → List Cause
 misses (row n required k) [] = missing n ∷ []
 misses (row n m k) es = []
@@ -49,22 +49,22 @@ misses (either a j b k) (e ∷ es) = []
 misses (class c k) es = []
 misses (constant n v) es = []
 
--- what a row misses in an object
+-- the same, given all members of an object
 abbrev pub row_misses : {X : Type 0} → List (Entry X) → Row → List Cause
 row_misses es w = misses w (own w es)
 
--- an object that lacks its tag misses it
+-- the cause that an object lacks its tag, if there are no members with the name of the tag
 abbrev pub tag_misses : List ℕ → List (Entry Tree) → List Cause
 tag_misses n [] = missing n ∷ []
 tag_misses n (e ∷ es) = []
 
--- the word for a kind or null
+-- what is expected where a value must be of a kind or null
 abbrev pub word_or_null : Kind → Expected
 word_or_null any_flag = flag_or_null
 word_or_null (number w) = whole_or_null
 word_or_null _ = text_or_null
 
--- the causes that a value breaks by itself under a kind
+-- the causes of the faults of a value itself under a kind, without those of the values inside
 abbrev pub causes : (T : Tables) → Kind → Tree → List Cause
 causes T any_text (text s) = []
 causes T any_text t = wrong_kind expected_text ∷ []
@@ -104,26 +104,26 @@ causes T status_code (whole (pos n)) = unless (nat_le 100 n && nat_le n 999) not
 causes T status_code (whole (negsuc n)) = not_allowed ∷ []
 causes T status_code t = wrong_kind text_or_whole ∷ []
 
--- a value, with what each kind asks in it
+-- a value, with the requirements that each kind has at and below it
 abbrev pub Asks : Type 0
 Asks = Seen (Kind → List Asking)
 
--- what is asked of a value, seen from one step above
+-- requirements with one more step at the front of each location
 abbrev pub below : Step → List Asking → List Asking
 below p [] = []
 below p (a ∷ as') = record { place = p ∷ a.place; kind = a.kind; tree = a.tree } ∷ below p as'
 
--- a list asks its kind of each element, counted from an index
+-- the requirements of a list for its elements, each of the kind `k`. The indexes begin with `i`
 abbrev pub asks_items : Kind → ℕ → List Asks → List Asking
 asks_items k i [] = []
 asks_items k i (x ∷ xs) = join (below (at_index i) (x.answer k)) (asks_items k (suc i) xs)
 
--- a map asks its kind of each member
+-- the requirements of a map for its members, each of the kind `k`
 abbrev pub asks_members : Kind → List (Entry Asks) → List Asking
 asks_members k [] = []
 asks_members k (e ∷ es) = join (below (at_name e.name) (e.value.answer k)) (asks_members k es)
 
--- what a row asks of the members that it takes
+-- the requirements of a row for the members that it takes
 abbrev pub asks_own : Row → List (Entry Asks) → List Asking
 asks_own (row n m k) [] = []
 asks_own (row n m k) (e ∷ es) = cond (skips_null m && is_null e.value.tree) []
@@ -133,15 +133,15 @@ asks_own (either a j b k) (e ∷ es) = below (at_name e.name) (e.value.answer (c
 asks_own (class c k) es = asks_members k es
 asks_own (constant n v) es = []
 
--- what a row asks in an object
+-- the requirements of a row in an object
 abbrev pub asks_row : List (Entry Asks) → Row → List Asking
 asks_row es w = asks_own w (own w es)
 
--- a kind that is asked of a value itself
+-- the requirement of a kind for a value itself
 abbrev pub here : Kind → Shape Asks → Asking
 here k s = record { place = []; kind = k; tree = tree_of_root s }
 
--- what rows ask in an object, row by row
+-- the requirements of rows in an object, row by row
 abbrev pub asks_rows : List (Entry Asks) → List Row → List Asking
 asks_rows es ws = flat (each (asks_row es) ws)
 
@@ -149,30 +149,31 @@ asks_rows es ws = flat (each (asks_row es) ws)
 abbrev pub words : List Case → List (List ℕ)
 words cs = each (λ c. c.word) cs
 
--- the table that a tag stands for
+-- the table that the text of a tag selects, or `open_api` if the tag may not have the text
 abbrev pub tag_table : List Case → List ℕ → TableName
 tag_table [] s = open_api
 tag_table (c ∷ cs) s = cond (same_text c.word s) c.table (tag_table cs s)
 
--- what a tag asks: its set of the tag, and the table of the tag of the object
+-- the requirements of the table that the tag of an object selects, or none if it selects none
 abbrev pub asks_tag : (T : Tables) → List ℕ → List Case → List (Entry Asks) → Option Choice → List Asking
 asks_tag T n cs es (Some (tag s)) = here (by (tag_table cs s)) (an_object es)
     ∷ asks_rows es (checked_rows T (by (tag_table cs s)) plain)
 asks_tag T n cs es c = []
 
--- what an object kind asks of the members of an object: a schema, all that it may have, whatever its sort
+-- the requirements of an object kind for the members of an object. A tag must have one of its texts, and the table that
+-- it selects applies. A schema is checked by all rows that it may have, whatever its sort
 abbrev pub asks_inner : (T : Tables) → Kind → List (Entry Asks) → List Asking
 asks_inner T (by i) es = asks_rows es (checked_rows T (by i) plain)
 asks_inner T (tagged n cs) es = join (asks_own (row n required (one_of (words cs))) (own (constant n []) es))
     (asks_tag T n cs es (choice (tagged n cs) (trees es)))
 asks_inner T k es = asks_rows es (checked_rows T k (sort any_sort))
 
--- in a reference nothing more is asked
+-- the requirements, or none if the value is a reference
 abbrev pub unless_reference : Option (List ℕ) → List Asking → List Asking
 unless_reference None as' = as'
 unless_reference (Some s) as' = []
 
--- what is asked at and below a value
+-- the requirements of a kind at and below a value
 abbrev pub root_asks : (T : Tables) → Shape Asks → Kind → List Asking
 root_asks T s (ref_to k) = here (ref_to k) s ∷ unless_reference (is_reference s) (root_asks T s k)
 root_asks T (a_list xs) (list_of k) = here (list_of k) (a_list xs) ∷ asks_items k 0 xs
@@ -186,10 +187,10 @@ root_asks T (an_object es) flag_or_schema =
     ∷ unless_reference (is_reference (an_object es)) (here a_schema (an_object es) ∷ asks_inner T a_schema es)
 root_asks T s k = here k s ∷ []
 
--- what is asked where a kind is asked of a tree
+-- the requirements of a kind at every location of a node
 abbrev pub asked : (T : Tables) → Kind → Tree → List Asking
 asked T k t = of_tree (root_asks T) t k
 
--- whether nothing that is asked is broken
+-- whether a requirement is met: its value itself has no cause of a fault
 abbrev pub is_met : (T : Tables) → Asking → Bool
 is_met T a = is_empty (causes T a.kind a.tree)

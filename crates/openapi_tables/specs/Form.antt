@@ -1,15 +1,16 @@
--- What is read of a tree: forms. Which form a tree has is said in Read, and which tree a form is written as in Print.
+-- Forms, the parsed values that are read from nodes. `Read` defines the form of a node, and `Print` the node that a
+-- form is written as.
 use Rattle.std.specs.Prelude.{ℕ, List, [], ◌∷◌}
 use Rattle.openapi_node.specs.Tree.{Tree}
 use Rattle.openapi_tables.specs.Kind.{Code}
 use Rattle.openapi_tables.specs.Members.{Choice}
 
--- The name of an entry of a map or a class: a text or a status code.
+-- The key of an entry of a map or of a class of names: a text or a status code.
 pub data Key : Type 0 where
   name : List ℕ → Key
   coded : Code → Key
 
--- A form. `fields` has one slot for each row.
+-- A form: the parsed value of a node under a kind. `fields` holds one form for each row, which is its slot.
 mutual
   pub data Form : Type 0 where
     absent : Form
@@ -33,12 +34,12 @@ mutual
     no_named : Named
     under : Key → Form → Named → Named
 
--- A key with what stands under it.
+-- A key and the value at that key.
 pub record Pair (X : Type 0) : Type 0 where
   pub key : Key
   pub value : X
 
--- What is seen of a form at its root.
+-- The root of a form: its variant with its data, and an X for each form inside.
 pub data Face (X : Type 0) : Type 0 where
   f_absent : Face X
   f_leaf : Tree → Face X
@@ -53,32 +54,32 @@ pub data Face (X : Type 0) : Type 0 where
   f_deciding : List ℕ → X → Face X
   f_fields : Choice → List X → Face X
 
--- A form with what a function gives of it.
+-- A form and the result of a function for it.
 pub record Shown (X : Type 0) : Type 0 where
   pub form : Form
   pub answer : X
 
--- the list that forms are
+-- `Forms` as a list of forms
 abbrev pub forms_list : Forms → List Form
 forms_list no_forms = []
 forms_list (more f fs) = f ∷ forms_list fs
 
--- forms of a list
+-- a list of forms as `Forms`
 abbrev pub forms_of : List Form → Forms
 forms_of [] = no_forms
 forms_of (f ∷ fs) = more f (forms_of fs)
 
--- the list of entries that a map or class is
+-- the entries of a map or class as a list
 abbrev pub named_list : Named → List (Pair Form)
 named_list no_named = []
 named_list (under n f es) = record { key = n; value = f } ∷ named_list es
 
--- a map or class of a list of entries
+-- the map or class with the entries of a list
 abbrev pub named_of : List (Pair Form) → Named
 named_of [] = no_named
 named_of (e ∷ es) = under e.key e.value (named_of es)
 
--- What a function gives of a form, where it is stated by the root, the forms inside, and what it gives of those.
+-- Recursion over a form: `of_form g` is `g` of the root, which holds each form inside with its own result.
 abbrev mutual
   pub of_form : {X : Type 0} → (Face (Shown X) → X) → Form → X
   of_form g absent = g f_absent

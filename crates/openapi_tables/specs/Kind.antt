@@ -1,12 +1,13 @@
--- What a value is read as: kinds, the classes of names, the modes of rows, and rows; and the names of the tables.
+-- Kinds (what a value may be), classes of names, rows (the fields of field tables) with their modes, and the names of
+-- the tables.
 use Rattle.std.specs.Prelude.{ℕ, ℤ, pos, negsuc, Bool, true, false, not, ◌&&◌, ◌||◌, List, [], ◌∷◌, ◌==◌, nat_le, codes}
 use Rattle.openapi_tables.specs.Lists.{same_text}
 use Rattle.openapi_tables.specs.Code.{is_code, code_of}
--- what others name through this module
+-- definitions that other modules import from this one
 pub use Rattle.openapi_tables.specs.Code.{Code, code, range, is_digit, is_x, code_of_bytes, code_of, is_code}
 pub use Rattle.openapi_tables.specs.Code.{writable_code, text_of}
 
--- the whole numbers that a number is to be within: all of them, the sizes, those of 64 bits with sign
+-- the range of a whole number: unlimited, from 0 to the maximum of `u64` (`sizes`), or that of `i64` (`signed`)
 pub data Limits : Type 0 where
   unlimited : Limits
   sizes : Limits
@@ -20,9 +21,9 @@ within sizes (negsuc n) = false
 within signed (pos n) = nat_le n 9223372036854775807
 within signed (negsuc n) = nat_le n 9223372036854775807
 
--- The names of the tables: one for each object of OpenAPI 3.0; and one for the parts of a parameter that do not
--- depend on its place, for what all schemas may have, for each type that a schema may have, and for a choice of two
--- members that stands by itself.
+-- The names of the field tables: those of the objects of OpenAPI 3.0 and of their variants, such as each type of
+-- schema. Others are for the fields that all parameters share, for those that all schemas share, and for a choice of
+-- two members as an object of its own.
 pub data TableName : Type 0 where
   open_api : TableName
   info : TableName
@@ -76,16 +77,17 @@ pub data TableName : Type 0 where
   callback_object : TableName
   xml_object : TableName
 
--- A text of a tag, with the name of its table.
+-- A text that a tag may have, and the name of the table that it selects.
 pub record Case : Type 0 where
   pub word : List ℕ
   pub table : TableName
 
--- A kind, which says what a value may be: a text, a flag, a whole number within limits, any tree, one of a set of
--- texts; the name of a format, of which some are known and any other is taken too, and null if the flag says so; null
--- or what a kind says; a list of a kind; an object whose members are all of a kind; an object by the table of a name;
--- an object whose tag, a text under a name, says its table; a reference or what a kind says; a flag, or a schema or
--- reference; a schema; a schema without what all schemas may have; a status code.
+-- A kind: what a value may be. It is a string, a boolean, a whole number within limits, any node, or one of a set of
+-- strings. `format`: a known format or any other string, or null if the boolean is true. `null_or`: null or a value of
+-- a kind. `list_of`: a list of a kind. `map_of`: an object whose members are all of a kind. `by`: an object of a table.
+-- `tagged`: an object whose tag, a string at a name, selects its table. `ref_to`: a reference or a value of a kind.
+-- `flag_or_schema`: a boolean, or a schema or a reference to one. `a_schema`: a schema. `a_schema_kind`: a schema
+-- without the fields that all schemas share. `status_code`: a status code.
 pub data Kind : Type 0 where
   any_text : Kind
   any_flag : Kind
@@ -104,11 +106,11 @@ pub data Kind : Type 0 where
   a_schema_kind : Kind
   status_code : Kind
 
--- How a row takes a member that is missing or null, and when it writes one. `required`: it may not be missing.
--- `optional`: missing and null are absent, which is not written. `nullable`: the same, but absent is written as null.
--- `listed`: missing is empty, and empty is not written. `flagged`: missing is false, and false is not written.
--- `styled`: missing is the default, and it is always written. `formatted`: missing and null are unset, which is not
--- written.
+-- How a row reads a member that is missing or null, and when it writes one. `required`: the member may not be missing.
+-- `optional`: missing and null are read as absent, which is not written. `nullable`: the same, but absent is written as
+-- null. `listed`: missing is read as empty, and empty is not written. `flagged`: missing is read as false, and false is
+-- not written. `styled`: missing is read as the default, and the member is always written. `formatted`: missing and
+-- null are read as unset, which is not written.
 pub data Mode : Type 0 where
   required : Mode
   optional : Mode
@@ -118,25 +120,26 @@ pub data Mode : Type 0 where
   styled : List ℕ → Mode
   formatted : Mode
 
--- A class of names: those that begin with `x-`, those that do not, those that begin with `/`, and the status codes.
+-- A class of names: those that begin with `x-`, those that do not, those that begin with `/`, or the status codes.
 pub data Class : Type 0 where
   extensions : Class
   callback_names : Class
   path_names : Class
   status_names : Class
 
--- A row of a table: a name; the first of two names; a class of names; a name that always has one text, as a tag.
+-- A row: a field of a field table. It has one name, two names of which the first in the object is read, a class of
+-- names, or a name with one constant text, such as a tag.
 pub data Row : Type 0 where
   row : List ℕ → Mode → Kind → Row
   either : List ℕ → Kind → List ℕ → Kind → Row
   class : Class → Kind → Row
   constant : List ℕ → List ℕ → Row
 
--- Tables: the rows of each name.
+-- Tables: the rows of the table of each name.
 abbrev pub Tables : Type 0
 Tables = TableName → List Row
 
--- whether a text begins with another
+-- whether the second text begins with the first
 abbrev pub begins : List ℕ → List ℕ → Bool
 begins [] t = true
 begins (a ∷ p) [] = false
@@ -149,7 +152,7 @@ in_class callback_names n = not (begins (codes "x-") n)
 in_class path_names n = begins (codes "/") n
 in_class status_names n = is_code (code_of n)
 
--- whether a row takes the member of a name
+-- whether a row takes the members of a name: the name is that of the row, one of its two names, or in its class
 abbrev pub takes : Row → List ℕ → Bool
 takes (row a m k) n = same_text a n
 takes (either a j b k) n = same_text a n || same_text b n

@@ -1,5 +1,5 @@
--- Parameters and headers, and the bodies that are sent: Parameter, Header, Media Type, Encoding, Example and Request
--- Body Object.
+-- The field tables of parameters, headers and bodies: the Parameter, Header, Media Type, Encoding, Example and Request
+-- Body Objects.
 use Rattle.std.specs.Prelude.{ℕ, List, [], ◌∷◌, codes}
 use Rattle.openapi_tables.specs.Lists.{join}
 use Rattle.openapi_tables.specs.Kind.{Kind, any_text, any_flag, any_tree, one_of, map_of, by, tagged, ref_to, Row}
@@ -29,7 +29,7 @@ header_styles = codes "simple" ∷ []
 abbrev pub content : Kind
 content = map_of (by media_type)
 
--- Parameter Object, tagged by the place that the parameter is in
+-- Parameter Object, whose tag `in` is the location of the parameter in a request
 abbrev pub parameter : Kind
 parameter = tagged (codes "in")
     (case "query" query_parameter
@@ -37,7 +37,7 @@ parameter = tagged (codes "in")
     ∷ case "path" path_parameter
     ∷ case "cookie" cookie_parameter ∷ [])
 
--- what parameters of all places have
+-- the fields that parameters of all locations have
 abbrev pub parameter_rows : List Row
 parameter_rows =
     required_row "name" any_text
@@ -80,7 +80,7 @@ cookie_parameter_rows =
     (style_row "style" "form" cookie_styles
     ∷ [])
 
--- the schema or the content of a parameter or header, by itself
+-- the schema or the content of a parameter or header, as an object of its own
 abbrev pub schema_or_content_rows : List Row
 schema_or_content_rows =
     either_row "schema" schema_ref "content" content

@@ -1,4 +1,4 @@
--- What may be called: Paths, Path Item, Operation and Callback Object.
+-- The field tables of paths and operations: the Paths, Path Item, Operation and Callback Objects.
 use Rattle.std.specs.Prelude.{List, ◌∷◌}
 use Rattle.openapi_tables.specs.Kind.{Kind, any_text, list_of, map_of, by, ref_to, Row, class, path_names}
 use Rattle.openapi_tables.specs.Kind.{callback_names, server, path_item, operation, external_documentation}
@@ -7,7 +7,7 @@ use Rattle.openapi_tables.specs.Rows.{required_row, optional_row, list_row, flag
 use Rattle.openapi_tables.specs.ParameterTables.{parameter}
 use Rattle.openapi_tables.specs.SecurityTables.{security_requirement}
 
--- Paths Object: a path item or a reference to one under each name that begins with `/`
+-- Paths Object: a path item or a reference to one at each name that begins with `/`
 abbrev pub paths_rows : List Row
 paths_rows =
     class path_names (ref_to (by path_item))
@@ -30,7 +30,7 @@ path_item_rows =
     ∷ list_row "parameters" (list_of (ref_to parameter))
     ∷ extension_rows
 
--- Operation Object, whose callbacks are of a kind
+-- Operation Object, with a given kind for its callbacks
 abbrev pub operation_rows : Kind → List Row
 operation_rows callback =
     list_row "tags" (list_of any_text)
@@ -47,12 +47,12 @@ operation_rows callback =
     ∷ list_row "servers" (list_of (by server))
     ∷ extension_rows
 
--- Callback Object: a path item under each name that does not begin with `x-`
+-- Callback Object: a path item at each name that does not begin with `x-`
 abbrev pub callback_rows : List Row
 callback_rows =
     class callback_names (by path_item)
     ∷ extension_rows
 
--- a callback before it had a table: a map of path items, without extensions
+-- a callback in `tables_before_callbacks`: a map of path items, without extensions
 abbrev pub callback_map : Kind
 callback_map = map_of (by path_item)

@@ -1,4 +1,4 @@
--- The definitions that most proofs name, from one module.
+-- The definitions that most proofs use, re-exported from one module.
 pub use Rattle.openapi_tables.specs.Tree.{Entry, Seen, Shape, a_flag, a_list, a_null, a_text, a_whole, an_object}
 pub use Rattle.openapi_tables.specs.Tree.{items_list, members_list, members_of, of_items, of_members, of_tree, on_entry}
 pub use Rattle.openapi_tables.specs.Lists.{each, every, flat, has, is_empty, join, only, same_text}

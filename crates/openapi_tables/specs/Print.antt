@@ -1,5 +1,5 @@
--- The tree that a form gives (`print`), and what reading and printing again do: `clean` reads a tree and prints its
--- form, and `again` prints a form and reads it.
+-- The node that a form is written as (`print`). `clean` reads a node and writes its form, and `again` writes a form and
+-- reads the result.
 use Rattle.std.specs.Prelude.{ℕ, Bool, true, false, cond, List, [], ◌∷◌, codes}
 use Rattle.openapi_tables.specs.Lists.{each, join, same_text}
 use Rattle.openapi_node.specs.Tree.{Tree, null, flag, text, list, object, items_of}
@@ -12,11 +12,11 @@ use Rattle.openapi_tables.specs.Form.{name, coded, Pair, Face, f_leaf, f_code, f
 use Rattle.openapi_tables.specs.Form.{f_sequence, f_named, f_deciding, f_fields, Shown, of_form}
 use Rattle.openapi_tables.specs.Read.{form}
 
--- a form, with the tree that it gives under each kind
+-- a form, with the node that it is written as under each kind
 abbrev pub Prints : Type 0
 Prints = Shown (Kind → Tree)
 
--- the name that an entry is written under
+-- the name that a key is written as
 abbrev pub text_of_key : Key → List ℕ
 text_of_key (name n) = n
 text_of_key (coded c) = text_of c
@@ -30,16 +30,16 @@ is_silent flagged (leaf (flag false)) = true
 is_silent formatted unset = true
 is_silent _ _ = false
 
--- one member
+-- a list of one member
 abbrev pub one : List ℕ → Tree → List (Entry Tree)
 one n t = record { name = n; value = t } ∷ []
 
--- the members of a tree that is an object
+-- the members of a node that is an object, and otherwise none
 abbrev pub members_in : Tree → List (Entry Tree)
 members_in (object ms) = members_list ms
 members_in _ = []
 
--- the one of two names that was read is written
+-- the member of a row of two names: it has the name that was read
 abbrev pub either_print : List ℕ → Kind → Kind → Prints → Form → List (Entry Tree)
 either_print a j k p (deciding n f) = one n (p.answer (cond (same_text a n) j k))
 either_print a j k p _ = []
@@ -62,13 +62,14 @@ abbrev pub pair_prints : Kind → List (Pair Prints) → List (Entry Tree)
 pair_prints k [] = []
 pair_prints k (e ∷ es) = record { name = text_of_key e.key; value = e.value.answer k } ∷ pair_prints k es
 
--- the kind that a form under a kind was made by, with no null or flag before it
+-- the kind without the alternatives null and boolean: `null_or` is removed, and `flag_or_schema` is replaced with a
+-- reference or a schema
 abbrev pub bare : Kind → Kind
 bare (null_or k) = bare k
 bare flag_or_schema = ref_to a_schema
 bare k = k
 
--- the tree of a root, under a kind with no null or flag before it
+-- the node that a root is written as, under a kind without alternatives (see `bare`)
 abbrev pub bare_print : (T : Tables) → Face Prints → Kind → Tree
 bare_print T (f_leaf t) k = t
 bare_print T (f_code c) k = text (text_of c)
@@ -81,19 +82,19 @@ bare_print T (f_named es) (map_of k) = object (members_of (pair_prints k es))
 bare_print T (f_fields c ps) k = object (members_of (rows_print (rows_of T k c) ps))
 bare_print T _ k = null
 
--- the tree of a root; a slot of two names gives that of its form
+-- the node that a root is written as. A slot of two names is written as the form that it contains
 abbrev pub face_print : (T : Tables) → Face Prints → Kind → Tree
 face_print T (f_deciding n p) k = p.answer k
 face_print T p k = bare_print T p (bare k)
 
--- the tree of a form under a kind
+-- the node that a form is written as under a kind
 abbrev pub print : (T : Tables) → Kind → Form → Tree
 print T k f = of_form (face_print T) f k
 
--- a tree read and written
+-- a node normalized: read and written once
 abbrev pub clean : (T : Tables) → Kind → Tree → Tree
 clean T k t = print T k (form T k t)
 
--- a form written and read
+-- a form written once and read again
 abbrev pub again : (T : Tables) → Kind → Form → Form
 again T k f = form T k (print T k f)

@@ -1,4 +1,4 @@
--- What an operation answers: Responses, Response and Link Object.
+-- The field tables of the responses of an operation: the Responses, Response and Link Objects.
 use Rattle.std.specs.Prelude.{List, [], ◌∷◌}
 use Rattle.openapi_tables.specs.Kind.{any_text, any_tree, map_of, by, ref_to, Row, class, status_names, server, header}
 use Rattle.openapi_tables.specs.Kind.{response, link}
@@ -31,7 +31,7 @@ link_rows =
     ∷ optional_row "server" (by server)
     ∷ extension_rows
 
--- the operation that a link leads to, by itself
+-- the operation that a link refers to, as an object of its own
 abbrev pub link_operation_rows : List Row
 link_operation_rows =
     either_row "operationRef" any_text "operationId" any_text

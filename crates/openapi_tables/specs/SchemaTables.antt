@@ -1,4 +1,4 @@
--- The Schema Object, and the objects that stand in it: Discriminator Object and XML Object.
+-- The field tables of the Schema Object and of objects in it: the Discriminator Object and the XML Object.
 use Rattle.std.specs.Prelude.{ℕ, List, [], ◌∷◌, codes}
 use Rattle.openapi_tables.specs.Lists.{join}
 use Rattle.openapi_tables.specs.Kind.{Kind, any_text, any_flag, number, any_tree, null_or, list_of, map_of, by, tagged}
@@ -23,7 +23,7 @@ integer_formats = codes "int32" ∷ codes "int64" ∷ []
 abbrev pub string_formats : List (List ℕ)
 string_formats = codes "date" ∷ codes "date-time" ∷ codes "password" ∷ codes "byte" ∷ codes "binary" ∷ []
 
--- what all schemas may have, whatever their `type`, with the members that stand behind `default`
+-- the fields that all schemas may have, whatever their `type`, with given fields after `default`
 abbrev pub data_rows : List Row → List Row
 data_rows behind =
     flag_row "nullable"
@@ -38,7 +38,7 @@ data_rows behind =
     ∷ optional_row "default" any_tree
     ∷ join behind extension_rows
 
--- what a schema of the type `string` may have besides
+-- the further fields of a schema of the type `string`
 unfoldable pub string_rows : List Row
 string_rows =
     format_row "format" string_formats
@@ -48,7 +48,7 @@ string_rows =
     ∷ optional_row "maxLength" (number sizes)
     ∷ []
 
--- what a schema of the type `number` or `integer` may have besides, its limits and entries being numbers of a range
+-- the further fields of a schema of the type `number` or `integer`, where all numbers are within given limits
 abbrev pub number_rows : Limits → List (List ℕ) → List Row
 number_rows w known =
     format_row "format" known
@@ -60,7 +60,7 @@ number_rows w known =
     ∷ list_row "enum" (list_of (null_or (number w)))
     ∷ []
 
--- what a schema of the type `object` may have besides
+-- the further fields of a schema of the type `object`
 unfoldable pub object_rows : List Row
 object_rows =
     list_row "properties" (map_of schema_ref)
@@ -70,7 +70,7 @@ object_rows =
     ∷ optional_row "maxProperties" (number sizes)
     ∷ []
 
--- what a schema of the type `array` may have besides
+-- the further fields of a schema of the type `array`
 unfoldable pub array_rows : List Row
 array_rows =
     optional_row "items" schema_ref
@@ -79,13 +79,13 @@ array_rows =
     ∷ flag_row "uniqueItems"
     ∷ []
 
--- what a schema of the type `boolean` may have besides
+-- the further fields of a schema of the type `boolean`
 unfoldable pub boolean_rows : List Row
 boolean_rows =
     list_row "enum" (list_of (null_or any_flag))
     ∷ []
 
--- what a schema that is of no one type may have: the 24 names of all of them, each as it stands
+-- the further fields of a schema that is of no single type: the 24 kind names of all sorts, each read by itself
 unfoldable pub any_rows : List Row
 any_rows =
     optional_row "type" any_text
@@ -114,23 +114,23 @@ any_rows =
     ∷ optional_row "not" schema_ref
     ∷ []
 
--- what a schema of the one member `oneOf` has besides
+-- the further field of a schema of the sort `oneOf`
 abbrev pub one_of_rows : List Row
 one_of_rows = required_row "oneOf" (list_of schema_ref) ∷ []
 
--- what a schema of the one member `allOf` has besides
+-- the further field of a schema of the sort `allOf`
 abbrev pub all_of_rows : List Row
 all_of_rows = required_row "allOf" (list_of schema_ref) ∷ []
 
--- what a schema of the one member `anyOf` has besides
+-- the further field of a schema of the sort `anyOf`
 abbrev pub any_of_rows : List Row
 any_of_rows = required_row "anyOf" (list_of schema_ref) ∷ []
 
--- what a schema of the one member `not` has besides
+-- the further field of a schema of the sort `not`
 abbrev pub not_rows : List Row
 not_rows = required_row "not" schema_ref ∷ []
 
--- a schema's type by itself, tagged by `type`
+-- the type of a schema as an object of its own, tagged by `type`
 abbrev pub schema_type : Kind
 schema_type = tagged (codes "type")
     (case "string" string_type

@@ -1,4 +1,4 @@
--- Who may call: Security Scheme, Security Requirement, OAuth Flows and OAuth Flow Object.
+-- The field tables of security: the Security Scheme, Security Requirement, OAuth Flows and OAuth Flow Objects.
 use Rattle.std.specs.Prelude.{List, [], ◌∷◌, codes}
 use Rattle.openapi_tables.specs.Kind.{Kind, any_text, one_of, list_of, map_of, by, tagged, Row, api_key_scheme}
 use Rattle.openapi_tables.specs.Kind.{http_scheme, oauth2_scheme, open_id_connect_scheme, oauth2_flows, implicit_flow}
@@ -17,7 +17,7 @@ security_scheme = tagged (codes "type")
     ∷ case "oauth2" oauth2_scheme
     ∷ case "openIdConnect" open_id_connect_scheme ∷ [])
 
--- a scheme by an API key, which stands in the query, in a header or in a cookie
+-- a scheme by an API key in the query, in a header or in a cookie
 abbrev pub api_key_rows : List Row
 api_key_rows =
     required_row "in" (one_of (codes "query" ∷ codes "header" ∷ codes "cookie" ∷ []))

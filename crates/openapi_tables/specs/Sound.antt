@@ -1,4 +1,4 @@
--- Which rows and kinds are well made: what the laws rest on.
+-- Which rows, kinds and tables are well made: the conditions that laws assume.
 use Rattle.std.specs.Prelude.{ℕ, ◌+◌, nat_le, Bool, true, false, not, ◌&&◌, ◌||◌, List, [], ◌∷◌, codes}
 use Rattle.openapi_tables.specs.Lists.{every, same_text, has, join, each}
 use Rattle.openapi_tables.specs.Kind.{Kind, any_text, any_flag, number, any_tree, one_of, format, null_or, list_of}
@@ -49,7 +49,7 @@ abbrev pub rows_apart : List Row → Bool
 rows_apart [] = true
 rows_apart (w ∷ ws) = every (apart w) ws && rows_apart ws
 
--- whether no null conforms to a kind
+-- whether null does not conform to a kind
 abbrev pub refuses_null : Kind → Bool
 refuses_null any_tree = false
 refuses_null (format ws b) = not b
@@ -73,13 +73,13 @@ mode_fits _ _ = false
 abbrev pub spares_ref : List Row → Bool
 spares_ref ws = every (λ w. not (takes w (codes "$ref"))) ws
 
--- whether a row writes no text under `$ref` where it read none: it does not take that name, or it takes objects of a
--- table
+-- whether a row writes no string at `$ref` if it read none: it does not take the name, or it takes objects of a table
+-- at callback names
 abbrev pub keeps_ref : Row → Bool
 keeps_ref (class callback_names (by i)) = true
 keeps_ref w = not (takes w (codes "$ref"))
 
--- whether an object of the kind, if it holds no text under `$ref`, is written as one that holds none
+-- whether an object of the kind that has no string at `$ref` is also written as an object that has none
 abbrev pub under_ref : Tables → Kind → Bool
 under_ref T (by i) = every keeps_ref (T i)
 under_ref T (tagged n cs) = not (same_text n (codes "$ref")) && every (λ c. spares_ref (T c.table)) cs
@@ -87,7 +87,7 @@ under_ref T (map_of (by i)) = true
 under_ref T a_schema = true
 under_ref T _ = false
 
--- the kinds that may be asked of a value or null
+-- the kinds that may be used in `null_or`
 abbrev pub may_be_null : Kind → Bool
 may_be_null any_text = true
 may_be_null any_flag = true
@@ -110,19 +110,19 @@ row_sound T (either a j b k) = sound T j && sound T k && not (same_text a b)
 row_sound T (class c k) = sound T k
 row_sound T (constant n v) = true
 
--- whether a row takes members of its own: all but a tag
+-- whether a row reads members: every row does but that of a tag
 abbrev pub has_members : Row → Bool
 has_members (constant n v) = false
 has_members _ = true
 
--- whether a row can miss nothing
+-- whether a row requires no member
 abbrev pub never_misses : Row → Bool
 never_misses (row n required k) = false
 never_misses (row n m k) = true
 never_misses (class c k) = true
 never_misses _ = false
 
--- whether rows are apart, and each is well made
+-- whether no name is taken by two of the rows, and each row is well made
 abbrev pub rows_sound : Tables → List Row → Bool
 rows_sound T ws = rows_apart ws && every (row_sound T) ws
 
@@ -135,7 +135,7 @@ sorts = string_sort ∷ number_sort ∷ integer_sort ∷ boolean_sort ∷ object
 abbrev pub untaken : List Row → List ℕ → Bool
 untaken ws n = every (λ w. not (takes w n)) ws
 
--- whether the kind names that a sort does not allow are under none of its rows, nor of those before them
+-- whether the kind names that a sort does not allow are taken by none of its rows, nor by the rows before them
 abbrev pub names_fit : List Row → Sort → Bool
 names_fit pre s = every (λ n. has (allowed s) n || untaken (join pre (sort_rows s)) n) kind_names
 
@@ -151,7 +151,7 @@ table_names =
     ∷ one_of_schema ∷ all_of_schema ∷ any_of_schema ∷ not_schema ∷ schema_or_content ∷ link_operation
     ∷ callback_object ∷ xml_object ∷ []
 
--- all that a schema may have, each kind name being optional
+-- all rows that a schema may have, where those of kind names are optional
 abbrev pub schema_rows : Tables → List Row
 schema_rows T = join (T schema_data) (each made_optional any_rows)
 
@@ -166,7 +166,7 @@ tables_sound T =
     && every never_misses (schema_rows T)
     && every (names_fit (T schema_data)) sorts
 
--- the kinds of the types that are no objects of a table, and those of the references
+-- the kinds of the types that are not objects of a table, and those of references
 abbrev pub type_kinds : List Kind
 type_kinds =
     parameter ∷ security_scheme ∷ schema_type ∷ content ∷ callback_map ∷ security_requirement
@@ -175,18 +175,18 @@ type_kinds =
     ∷ ref_to (by header) ∷ ref_to security_scheme ∷ ref_to (by link) ∷ ref_to (by callback_object) ∷ ref_to callback_map
     ∷ ref_to (by path_item) ∷ []
 
--- what a row may write where it read nothing
+-- the number of members that a row may write if it read none
 abbrev pub extra : Row → ℕ
 extra (row n nullable k) = 1
 extra (row n (styled s) k) = 1
 extra w = 0
 
--- how many members rows may write where they read nothing
+-- the number of members that rows may write if they read none
 abbrev pub extras : List Row → ℕ
 extras [] = 0
 extras (w ∷ ws) = extra w + extras ws
 
--- whether no table has two rows that are written where nothing was read
+-- whether no table, and no sort of schema, has two rows that are written if nothing was read
 abbrev pub tables_small : Tables → Bool
 tables_small T = every (λ n. nat_le (extras (T n)) 1) table_names
     && every (λ s. nat_le (extras (join (T schema_data) (sort_rows s))) 1) sorts

@@ -1,5 +1,6 @@
--- The table of each object by its name: three lists of tables, the final one and two earlier ones. The rows stand by
--- subject in DocumentTables, PathTables, ParameterTables, ResponseTables, SecurityTables and SchemaTables.
+-- The field table of each object by its name, in three lists of tables: the final one and two earlier ones. The rows
+-- are defined by subject in DocumentTables, PathTables, ParameterTables, ResponseTables, SecurityTables and
+-- SchemaTables.
 use Rattle.std.specs.Prelude.{List, [], ◌∷◌}
 use Rattle.openapi_tables.specs.Kind.{Kind, by, ref_to, unlimited, signed, Row, Tables, open_api, info, contact}
 use Rattle.openapi_tables.specs.Kind.{license, example, server, server_variable, tag, external_documentation}
@@ -26,7 +27,7 @@ use Rattle.openapi_tables.specs.SecurityTables.{oauth2_flows_rows, implicit_flow
 use Rattle.openapi_tables.specs.SecurityTables.{authorization_code_flow_rows}
 use Rattle.openapi_tables.specs.SchemaTables.{data_rows, one_of_rows, all_of_rows, any_of_rows, not_rows}
 use Rattle.openapi_tables.specs.SchemaTables.{discriminator_rows, xml_rows}
--- what others name through this module
+-- definitions that other modules import from this one
 pub use Rattle.openapi_tables.specs.Rows.{required_row, list_row, flag_row, format_row}
 pub use Rattle.openapi_tables.specs.ParameterTables.{parameter, content, path_styles, query_styles, cookie_styles}
 pub use Rattle.openapi_tables.specs.ParameterTables.{header_styles}
@@ -37,8 +38,8 @@ pub use Rattle.openapi_tables.specs.PathTables.{callback_map}
 unfoldable pub use Rattle.openapi_tables.specs.SchemaTables.{string_rows, object_rows, array_rows, boolean_rows}
 unfoldable pub use Rattle.openapi_tables.specs.SchemaTables.{any_rows}
 
--- The table of each object, with what the lists of tables differ in: the kinds of the callbacks of an operation and
--- of the components, and what a schema may have behind `default`.
+-- The table of each object. The lists of tables differ in the kinds of callbacks, `c` in an operation and `d` in the
+-- components, and in the fields `b` of a schema after `default`.
 unfoldable pub tables_with : Kind → Kind → List Row → Tables
 tables_with c d b open_api = open_api_rows
 tables_with c d b info = info_rows
@@ -104,6 +105,6 @@ tables_before_callbacks = tables_with callback_map (ref_to callback_map) []
 unfoldable pub tables_before_xml : Tables
 tables_before_xml = tables_with callback_ref callback_ref []
 
--- the tables with both: those of OpenAPI 3.0.3 as this crate reads them
+-- the tables with a Callback Object and with `xml`: those of OpenAPI 3.0.3 as this crate reads them
 unfoldable pub final_tables : Tables
 final_tables = tables_with callback_ref callback_ref (optional_row "xml" (by xml_object) ∷ [])

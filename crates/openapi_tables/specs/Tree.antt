@@ -1,14 +1,14 @@
--- Trees, what a tree shows at its root, and functions from trees by what they are on the trees inside.
+-- Nodes (JSON values): their items and members as lists, the root of a node, and recursion over a node.
 use Rattle.std.specs.Prelude.{ℕ, ℤ, Bool, List, [], ◌∷◌}
 use Rattle.openapi_node.specs.Tree.{Tree, null, flag, whole, text, list, object, Items, no_items, item, Members}
 use Rattle.openapi_node.specs.Tree.{no_members, member}
 
--- A name with what stands under it.
+-- A name and the value at that name, such as a member of an object.
 pub record Entry (X : Type 0) : Type 0 where
   pub name : List ℕ
   pub value : X
 
--- What is seen of a tree at its root, with an X for each tree inside.
+-- The root of a node: its type of JSON value with its data, and an X for each item or member value inside.
 pub data Shape (X : Type 0) : Type 0 where
   a_null : Shape X
   a_flag : Bool → Shape X
@@ -17,31 +17,31 @@ pub data Shape (X : Type 0) : Type 0 where
   a_list : List X → Shape X
   an_object : List (Entry X) → Shape X
 
--- A tree with what a function gives of it.
+-- A node and the result of a function for it.
 pub record Seen (X : Type 0) : Type 0 where
   pub tree : Tree
   pub answer : X
 
--- the list that items are
+-- items as a list of nodes
 abbrev pub items_list : Items → List Tree
 items_list no_items = []
 items_list (item t ts) = t ∷ items_list ts
 
--- the list that members are
+-- members as a list of entries
 abbrev pub members_list : Members → List (Entry Tree)
 members_list no_members = []
 members_list (member n t ms) = record { name = n; value = t } ∷ members_list ms
 
--- members of a list
+-- a list of entries as members
 abbrev pub members_of : List (Entry Tree) → Members
 members_of [] = no_members
 members_of (e ∷ es) = member e.name e.value (members_of es)
 
--- an entry, with f of its value
+-- an entry with the same name and with `f` of its value
 abbrev pub on_entry : {X Y : Type 0} → (X → Y) → Entry X → Entry Y
 on_entry f e = record { name = e.name; value = f e.value }
 
--- What a function gives of a tree, where it is stated by the root, the trees inside, and what it gives of those.
+-- Recursion over a node: `of_tree f` is `f` of the root, which holds each item and member value with its own result.
 abbrev mutual
   pub of_tree : {X : Type 0} → (Shape (Seen X) → X) → Tree → X
   of_tree f null = f a_null

@@ -1,4 +1,4 @@
--- The members that a row of status codes writes stand by name, where those that it read stood so.
+-- The members that are written for status codes are sorted by name if those that were read are.
 use Rattle.std.proofs.Common.{◌≡◌, ℕ, ◌≤◌, ◌<◌, ◌+◌, ◌-◌, ◌*◌, ◌/◌, ◌%◌, ◌==◌, List, [], ◌∷◌, Bool, true, false, cond, ◌&&◌, Some, None}
 use Rattle.std.proofs.Common.{nat_le, nat_lt, Ordering, Less, Equal, Greater, nat_cmp, ◌⊎◌, inl, inr, refl, sym, ap, ◌∙◌, arith}
 use Rattle.std.proofs.Common.{eqb-true, leb-true, le-leb, le-ltb, lt-ltb, ne_eqb, ⊎_elim}
@@ -146,7 +146,7 @@ range_text a b c h =
     other fits = rw fits refl
 
 -- ---- keys in order
--- a key's text is below that of another, or they are the same
+-- the text of `d` is less than that of `q`, or both are the same key
 abbrev Upto : Key → Key → Type 0
 Upto q d = (slice_cmp nat_cmp (text_of_key d) (text_of_key q) ≡ Less) ⊎ (d ≡ q)
 
@@ -208,7 +208,7 @@ names_climb (a ∷ b ∷ c ∷ []) m h g o = cc
 names_climb (a ∷ b ∷ []) m h g o = cc
 names_climb n m h g o = cc
 
--- ---- a map of codes in their order
+-- ---- a map of codes, in its order
 module _ (T : Tables) (k : Kind) where
   abbrev AllUpto : Key → List (Pair Form) → Type 0
   AllUpto q m = Each (λ (d : Pair Form). Upto q d.key) m
@@ -245,7 +245,7 @@ module _ (T : Tables) (k : Kind) where
       at true v = u
       at false v = (u.0, v)
 
-  -- the key of each entry is that of each later one, or its text is below the other
+  -- the key of each entry is the same as that of each later one, or its text is less
   abbrev Climbs : List (Pair Form) → Type 0
   Climbs [] = Unit {0}
   Climbs (e ∷ m) = Each (λ (d : Pair Form). Upto d.key e.key) m × Climbs m
@@ -277,7 +277,7 @@ module _ (T : Tables) (k : Kind) where
   climbs_of [] o t = tt
   climbs_of (e ∷ l) o t = (climbs_after e.name l t.0 o.0 t.1, climbs_of l o.1 t.1)
 
-  -- what is written of status codes stands by name
+  -- the members that are written for status codes are sorted by name if those that were read are
   pub codes_ascend : (l : List (Entry Tree)) → Ascends l → TakesAll (class status_names k) l
       → Ascends (each (entry_of T k) (put_all [] (each (pair_of T (key_in status_names) k) l)))
   codes_ascend l o t =

@@ -1,4 +1,4 @@
--- A cleaned tree nests no deeper than the tree that it was made of, and its numbers are whole where those of that tree are.
+-- A normalized node nests no deeper than the node that it is made from, and its numbers are whole if those of that node are.
 use Rattle.std.proofs.Common.{ℕ, Bool, true, false, cond, List, [], ◌∷◌, Some, ◌≡◌, ◌≤◌, sym, ap, ◌∙◌, subst, codes, arith}
 use Rattle.openapi_node.specs.Tree as tree
 use Rattle.openapi_node.specs.Tree.{Tree, Items, Members, null, text, list, object, items_of}
@@ -17,22 +17,22 @@ use Rattle.openapi_tables.proofs.Taken.{Taken, as_fields, as_inner, as_item, as_
 use Rattle.openapi_tables.proofs.Taken.{as_other, as_reference, as_schema, as_text_code, as_unset, ref_text, taken}
 use Rattle.openapi_tables.proofs.TreeLaws.{Inside, by_trees, members_list-of, members_of-list, of_members_lem}
 
--- one tree nests no deeper than another, and its numbers are whole where those of the other are
+-- one node nests no deeper than another, and its numbers are whole if those of the other are
 abbrev pub Kept : Tree → Tree → Type 0
 Kept u t = (nesting u ≤ nesting t) × (AreWhole t → AreWhole u)
 
--- so it is with what a tree is cleaned to, by each kind
+-- the same for the normalized node beside the node itself, under each kind
 abbrev pub Keeps : (T : Tables) → Tree → Type 0
 Keeps T t = (k : Kind) → Kept (clean T k t) t
 
 -- ---- members
--- one list of members beside another
+-- `Kept` for two lists of members
 abbrev Within : List (Entry Tree) → List (Entry Tree) → Type 0
 Within xs ys =
     (members_nesting (members_of xs) ≤ members_nesting (members_of ys))
     × (MembersAreWhole (members_of ys) → MembersAreWhole (members_of xs))
 
--- a tree beside a list of members
+-- the same for a node beside a list of members
 abbrev Fits : Tree → List (Entry Tree) → Type 0
 Fits u ys = (nesting u ≤ members_nesting (members_of ys)) × (MembersAreWhole (members_of ys) → AreWhole u)
 
@@ -195,7 +195,7 @@ map_kept T k ms d =
     ∙ ap (print T (map_of k)) (map_form-reads T k es) ∙ print-map T k m in
     subst (λ u. Kept u (object ms)) (sym p) (object_kept (each (entry_of T k) m) ms (pairs_within T name k es d))
 
--- ---- all trees
+-- ---- all nodes
 taken_kept : (T : Tables) (k : Kind) (t : Tree) (f : Form) → Taken T k t f → Inside (Keeps T) t → Kept (print T k f) t
 taken_kept T k t f (as_leaf j u e) g = (omega arith, λ w. w)
 taken_kept T k t f (as_known ws b s e) g = (omega arith, λ w. tt)
@@ -213,6 +213,6 @@ taken_kept T k t f (as_schema u x e y) g =
     subst (λ v. Kept v u) (sym (print-flag_or_schema T x)) (taken_kept T (ref_to a_schema) u x y g)
 taken_kept T k t f (as_inner j u x y) g = subst (λ v. Kept v u) (sym (print-null_or T j x)) (taken_kept T j u x y g)
 
--- what any tree is cleaned to, by any kind
+-- `Keeps` holds for every node
 pub keeps : (T : Tables) (t : Tree) → Keeps T t
 keeps T t = by_trees (Keeps T) (λ u g k. taken_kept T k u (form T k u) (taken T k u) g) t

@@ -1,4 +1,4 @@
--- What a tree that stands by name is cleaned to, is read alike by name: for all kinds and trees.
+-- If a node is sorted by name, its normalized node is read as the same form after sorting by name: for all kinds and nodes.
 use Rattle.std.proofs.Common.{◌≡◌, ℕ, List, [], ◌∷◌, Bool, true, false, ◌&&◌, Option, Some, None, codes, refl, sym, ap, subst, ◌∙◌, pos, negsuc}
 use Rattle.std.proofs.lemmas.Bool.{and_parts, both_ways}
 use Rattle.openapi_node.specs.Named.{items_named, lacks, members_named, well_named}
@@ -111,7 +111,7 @@ ascends_cleaned : (T : Tables) (k : Kind) (es : List (Entry Tree)) → Ascends e
 ascends_cleaned T k [] o = tt
 ascends_cleaned T k (e ∷ es) o = (below_cleaned T k e.name es o.0, ascends_cleaned T k es o.1)
 
--- ---- what holds of the values inside
+-- ---- the claim for the values inside
 abbrev Claim : Tree → Type 0
 Claim t =
     tree_by_name t ≡ t → well_named t ≡ true → (k : Kind) → sound final_tables k ≡ true → conforms final_tables k t ≡ true
@@ -207,7 +207,7 @@ flagged_schema ms w c inner =
         ∙ ap (λ x. clean final_tables a_schema (object x)) (sym (members_of-list ms))
         ∙ cleaned_object final_tables a_schema (sort (sort_of es)) es refl) whole
 
--- ---- all kinds and trees
+-- ---- all kinds and nodes
 may_flat : (k : Kind) → may_be_null k ≡ true → is_plain k ≡ true
 may_flat any_text h = refl
 may_flat any_flag h = refl
@@ -310,7 +310,7 @@ unflat (object ms) g o w flag_or_schema e s c = flagged_schema ms w c (λ h. sch
 unflat (list ts) g o w k e s c = cc
 unflat (object ms) g o w k e s c = cc
 
--- of a tree that stands by name and conforms to a kind, what it is cleaned to is read alike by name
+-- if a node is sorted by name, has no name twice in an object, and conforms to a kind, its normalized node is `Same`
 pub clean_same : (t : Tree) → tree_by_name t ≡ t → well_named t ≡ true → (k : Kind) → sound final_tables k ≡ true
     → conforms final_tables k t ≡ true → Same final_tables k (clean final_tables k t)
 clean_same t = by_trees Claim (λ u g o w k s c. at u g o w k s c (is_flat k) refl) t

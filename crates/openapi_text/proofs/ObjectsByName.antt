@@ -1,4 +1,4 @@
--- What an object is cleaned to stays the same by name, where the object stands by name and its values are ready.
+-- The normalized node of an object is `Same` if the object is sorted by name and its values are `Ready`.
 use Rattle.std.proofs.Common.{◌≡◌, ℕ, List, [], ◌∷◌, Bool, true, false, cond, Some}
 use Rattle.std.proofs.Common.{refl, sym, ap, subst, ◌∙◌, pos, negsuc}
 use Rattle.std.proofs.lemmas.Bool.{and_parts}
@@ -27,7 +27,7 @@ use Rattle.openapi_text.proofs.RowsByName.{AllMade, Ready, class_printed, made_s
 use Rattle.openapi_text.proofs.SameByName.{RowFine, Same, kind_in, object_same}
 use Rattle.openapi_text.proofs.Sorting.{Ascends, Below, ascends_only, held_sorted, inserted}
 
--- ---- what a row writes stands by name
+-- ---- what a row writes is sorted by name
 few : (b : Bool) (n : List ℕ) (u : Tree) → Ascends (cond b [] (one n u))
 few true n u = tt
 few false n u = (tt, tt)
@@ -55,7 +55,7 @@ row_ascends T (class callback_names k) l o t = subst Ascends (sym (class_printed
 row_ascends T (class path_names k) l o t = subst Ascends (sym (class_printed T path_names k l)) (ascends_named T k l o)
 row_ascends T (constant n v) l o t = (tt, tt)
 
--- ---- what is found of what rows write
+-- ---- the members that rows take from what rows write
 abbrev pub RowMade : (T : Tables) → List (Entry Tree) → Row → Type 0
 RowMade T l w = Ascends (own w l) × AllMade T w (own w l)
 
@@ -83,7 +83,7 @@ all_same T w (e ∷ l) h = (made_same T (kind_in w e.name) e.value h.0, all_same
 pub made_fine : (T : Tables) (l : List (Entry Tree)) (w : Row) → RowMade T l w → RowFine T l w
 made_fine T l w h = (h.0, all_same T w (own w l) h.1)
 
--- the members that an object is cleaned to
+-- the members of the normalized object
 abbrev pub written_by : (T : Tables) → Kind → Choice → List (Entry Tree) → List (Entry Tree)
 written_by T k c es = members_for T (rows_of T k c) (each (slot_in T es) (rows_of T k c))
 

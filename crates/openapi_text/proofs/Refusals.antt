@@ -1,4 +1,4 @@
--- What a refusal that is no want of memory says.
+-- An error for any cause but a failed allocation means that the value does not conform.
 use Rattle.std.proofs.Common.{◌≡◌, ◌≢◌, false, refl}
 use Rattle.openapi_node.specs.Tree.{Tree}
 use Rattle.openapi_node.specs.declared.fault.Cause.{Cause}

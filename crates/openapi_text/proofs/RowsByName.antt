@@ -1,4 +1,4 @@
--- What a row writes for members that stand by name, each ready to be cleaned and put by name.
+-- What a row writes for members that are sorted by name, whose values are all `Ready`.
 use Rattle.std.proofs.Common.{◌≡◌, ℕ, List, [], ◌∷◌, Bool, true, false, cond, not, ◌&&◌, ◌||◌, ◌⊎◌, inl, inr, refl, sym, ap, subst, ◌∙◌}
 use Rattle.std.proofs.lemmas.Bool.{and_parts}
 use Rattle.openapi_node.specs.Tree.{Tree, list, object}
@@ -19,7 +19,7 @@ use Rattle.openapi_tables.proofs.TreeLaws.{members_list-of}
 use Rattle.openapi_text.proofs.Kept.{keeps}
 use Rattle.openapi_text.proofs.SameByName.{Same, fixed_same, flat_fixed, kind_in}
 
--- ---- kinds that are cleaned to what stands by name if it did
+-- ---- kinds whose normalized nodes are sorted by name if the nodes are
 abbrev pub is_flat : Kind → Bool
 is_flat (format ws b) = true
 is_flat k = is_plain k
@@ -35,13 +35,13 @@ flat_value T (format ws b) (object ms) h s c = cc
 flat_value T (format ws b) v h s c = flat_fixed (clean T (format ws b) v) (keeps T v (format ws b)).0
 flat_value T k v h s c = plain_value T k v h s
 
--- ---- what is made of a value
--- a value that stands by name, and what it is cleaned to stays the same by name
+-- ---- the normalized node of a value
+-- a value that is sorted by name, and whose normalized node is `Same` under each well-made kind to which it conforms
 abbrev pub Ready : (T : Tables) → Tree → Type 0
 Ready T v =
     (tree_by_name v ≡ v) × ((k : Kind) → sound T k ≡ true → conforms T k v ≡ true → Same T k (clean T k v))
 
--- a value that stands by name, or stays the same by name under a kind
+-- a value that is sorted by name, or is `Same` under a kind that is not flat
 abbrev pub Made : (T : Tables) → Kind → Tree → Type 0
 Made T k v = (tree_by_name v ≡ v) ⊎ ((is_flat k ≡ false) × Same T k v)
 
@@ -59,7 +59,7 @@ made_of T k v r s c = at (is_flat k) refl
 abbrev pub AllMade : (T : Tables) → Row → List (Entry Tree) → Type 0
 AllMade T w l = Each (λ (e : Entry Tree). Made T (kind_in w e.name) e.value) l
 
--- ---- what a row makes
+-- ---- what a row writes
 default_made : (T : Tables) (n : List ℕ) (m : Mode) (k : Kind)
     → AllMade T (row n m k) (row_print (row n m k) (printed T (default_of m k)))
 default_made T n required k = (inl refl, tt)
@@ -98,7 +98,7 @@ module _ (T : Tables) (k : Kind) where
   entries_made [] h = tt
   entries_made (e ∷ es) h = (h.0.1, entries_made es h.1)
 
--- the members that a class writes
+-- what the row of a class writes for the members that it read
 pub class_printed : (T : Tables) (c : Class) (k : Kind) (l : List (Entry Tree))
     → row_print (class c k) (printed T (class_form c k (reads T l)))
     ≡ each (entry_of T k) (gather c (each (pair_of T (key_in c) k) l))

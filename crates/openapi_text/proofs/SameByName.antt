@@ -1,4 +1,4 @@
--- What is read of an object whose members are put by name, where each row finds its members by name before.
+-- What is read from an object after sorting by name, if the members that each row takes were sorted before.
 use Rattle.std.proofs.Common.{◌≡◌, ℕ, ◌≤◌, pos, negsuc, List, [], ◌∷◌, Bool, cond, ◌&&◌, ◌||◌, Some}
 use Rattle.std.proofs.Common.{refl, sym, ap, ◌∙◌, arith}
 use Rattle.openapi_node.specs.Tree as tree
@@ -18,7 +18,7 @@ use Rattle.openapi_tables.proofs.RowWrites.{row_holds_lem, row_holds_own}
 use Rattle.openapi_tables.proofs.Writes.{object_conforms}
 use Rattle.openapi_text.proofs.Sorting.{Ascends, inserted, passing_sorted, sorted_object}
 
--- ---- trees by name
+-- ---- nodes sorted by name
 pub flat_fixed : (v : Tree) → nesting v ≤ 0 → tree_by_name v ≡ v
 flat_fixed tree.null h = refl
 flat_fixed (tree.flag b) h = refl
@@ -37,14 +37,14 @@ text_same u (tree.whole (pos n)) = refl
 text_same u (tree.whole (negsuc n)) = refl
 text_same u v = refl
 
--- by name the same is read of a tree, and it conforms if it did
+-- after sorting by name, the same form is read from the node, and it conforms if and only if it did
 abbrev pub Same : (T : Tables) → Kind → Tree → Type 0
 Same T k v = (form T k (tree_by_name v) ≡ form T k v) × (conforms T k (tree_by_name v) ≡ conforms T k v)
 
 pub fixed_same : (T : Tables) (k : Kind) (v : Tree) → tree_by_name v ≡ v → Same T k v
 fixed_same T k v e = (ap (form T k) e, ap (conforms T k) e)
 
--- the kind by which a row asks of a member
+-- the kind that a row requires of the member of a name
 abbrev pub kind_in : Row → List ℕ → Kind
 kind_in (row n m k) x = k
 kind_in (either a j b k) x = cond (same_text a x) j k
@@ -54,7 +54,7 @@ kind_in (constant n v) x = any_text
 abbrev pub AllSame : (T : Tables) → Row → List (Entry Tree) → Type 0
 AllSame T w l = Each (λ (e : Entry Tree). Same T (kind_in w e.name) e.value) l
 
--- ---- what a row reads, and whether it holds
+-- ---- what a row reads, and whether it conforms
 pub pairs_same : (T : Tables) (g : List ℕ → Key) (k : Kind) (l : List (Entry Tree)) → Each (λ (e : Entry Tree). Same T k e.value) l
     → each (pair_of T g k) (each (on_entry tree_by_name) l) ≡ each (pair_of T g k) l
 pairs_same T g k [] h = refl
@@ -89,7 +89,7 @@ holds_same T (constant n v) [] h = refl
 holds_same T (constant n v) (e ∷ l) h = text_same v e.value
 
 -- ---- objects
--- a row finds its members by name, and by name the same is read of each
+-- the members that a row takes are sorted by name, and each is `Same`
 abbrev pub RowFine : (T : Tables) → List (Entry Tree) → Row → Type 0
 RowFine T l w = Ascends (own w l) × AllSame T w (own w l)
 
@@ -118,7 +118,7 @@ conforms_object T a_schema_kind c es h =
     object_conforms T a_schema_kind es ∙ ap (chosen_holds T a_schema_kind (judged T es)) h
 conforms_object T k c es h = cc
 
--- of an object by its rows the same is read by name, and it conforms if it did
+-- an object is `Same` if sorting does not change its choice, and `RowFine` holds for all its rows
 pub object_same : (T : Tables) (k : Kind) (c : Choice) (l : List (Entry Tree)) → choice k l ≡ Some c
     → choice k (inserted l []) ≡ Some c → Each (RowFine T l) (rows_of T k c) → Each (RowFine T l) (checked_rows T k c)
     → Same T k (object (members_of l))

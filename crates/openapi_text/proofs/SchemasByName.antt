@@ -1,4 +1,4 @@
--- What a schema is cleaned to stays the same by name, also where cleaning makes it a schema of another sort.
+-- The normalized node of a schema is `Same`, also if normalizing makes it a schema of another sort.
 use Rattle.std.proofs.Common.{◌≡◌, ℕ, List, [], ◌∷◌, Bool, true, false, cond, Option, Some, None, MatchOption, codes}
 use Rattle.std.proofs.Common.{◌⊎◌, inl, inr, refl, sym, ap, subst, ◌∙◌}
 use Rattle.std.proofs.lemmas.Bool.{both_ways}
@@ -29,7 +29,7 @@ use Rattle.openapi_text.proofs.Sorting.{Ascends, held_sorted, inserted, lone}
 use Rattle.openapi_tables.proofs.ReadProper.{RowReads}
 use Rattle.openapi_tables.proofs.ListLaws.{Each_within-only}
 
--- the kind of a member of a schema that may hold an object whose members stand by the rows of a table
+-- the kind of the member of a name in a schema, if its value may contain an object that is written by the rows of a table
 abbrev pub core : List ℕ → Option Kind
 core n =
     cond (same_text n (codes "properties")) (Some (map_of (ref_to a_schema)))
@@ -43,14 +43,14 @@ core n =
     (cond (same_text n (codes "discriminator")) (Some (by discriminator))
     (cond (same_text n (codes "xml")) (Some (by xml_object)) None)))))))))
 
--- a row of a kind name, by the kind that a member of its name has
+-- the kind of a row of one name is what `core` gives for the name, or flat if that is `None`
 abbrev Suited : Row → Type 0
 Suited (row n m j) = MatchOption (core n) (is_flat j ≡ true) (λ c. j ≡ c)
 Suited (constant n v) = core n ≡ None
 Suited (either a i b j) = ⊥
 Suited (class c j) = ⊥
 
--- the same of a row of what all schemas may have
+-- the same for a row of what all schemas may have
 abbrev Suits : Row → Type 0
 Suits (class c j) = is_flat j ≡ true
 Suits w = Suited w
@@ -141,8 +141,8 @@ all_optional : (ws : List Row) → Each Suited ws → Each Suited (each made_opt
 all_optional [] h = tt
 all_optional (w ∷ ws) h = (optional_suited w h.0, all_optional ws h.1)
 
--- ---- the members of a cleaned schema
--- a value stands by name, or stays the same by name under the kind of its member
+-- ---- the members of a normalized schema
+-- a value that is sorted by name, or is `Same` under the kind that `core` gives for the name of its member
 abbrev pub IsGood : Entry Tree → Type 0
 IsGood e = (tree_by_name e.value ≡ e.value) ⊎ ((c : Kind) × (core e.name ≡ Some c) × Same final_tables c e.value)
 
@@ -174,7 +174,7 @@ all_good es (w ∷ ws) h g s r d =
     (Each_within-only (λ (e : Entry Tree). Ready final_tables e.value) (λ (e : Entry Tree). takes w e.name) es d) r.0))
     (all_good es ws h.1 g.1 s.1 r.1 d)
 
--- ---- what another row reads of them
+-- ---- what another row reads from them
 name_same : (n : List ℕ) (j : Kind) (e : Entry Tree) → MatchOption (core n) (is_flat j ≡ true) (λ c. j ≡ c) → n ≡ e.name
     → IsGood e → Same final_tables j e.value
 name_same n j e h same (inl fixed) = fixed_same final_tables j e.value fixed
@@ -232,7 +232,7 @@ all_fine : (l : List (Entry Tree)) (ws : List Row) → members_named (members_of
 all_fine l [] d g h = tt
 all_fine l (w ∷ ws) d g h = (suited_fine l w d g h.0, all_fine l ws d g h.1)
 
--- the sort stays the same by name
+-- for a name without a kind in `core`, the value is the same after sorting by name; so the sort of the schema is too
 held_fixed : (n : List ℕ) (l : List (Entry Tree)) → members_named (members_of l) ≡ true → Each IsGood l → core n ≡ None
     → held n (inserted l []) ≡ held n l
 held_fixed n l d g h =

@@ -1,4 +1,4 @@
--- What `settle` writes is written again by `settle`.
+-- What `settle` writes is written again by `settle` without changes.
 use Rattle.std.proofs.Common.{◌≡◌, ◌≤◌, ℕ, List, true, sym, ap, subst, ◌∙◌, arith}
 use Rattle.std.specs.Str.{IsUtf8}
 use Rattle.json.specs.Lex.{tokens}
@@ -32,7 +32,7 @@ use Rattle.openapi_text.proofs.KindsByName.{clean_same}
 use Rattle.openapi_text.proofs.SameByName.{Same}
 use Rattle.openapi_text.proofs.TextsByName.{IsByName, put_by_name, text_by_name}
 
--- neither cleaning nor settling nests a tree deeper
+-- neither the normalized node nor the stable form nests deeper than the node
 pub nests_no_deeper : (k : Kind) (t : Tree)
     → (nesting (clean final_tables k t) ≤ nesting t) × (nesting (settled k t) ≤ nesting t)
 nests_no_deeper k t =
@@ -43,12 +43,12 @@ nests_no_deeper k t =
 abbrev document : Kind
 document = by open_api
 
--- the tree of a document that can be read of a text
+-- a node that can be read from a text, and conforms as a document
 record IsDocument (t : Tree) : Type 0 where
   readable : IsReadable max_depth t
   accepted : conforms final_tables document t ≡ true
 
--- which it still is once it is cleaned
+-- the normalized node is one too
 still_document : (t : Tree) → IsDocument t → IsDocument (clean final_tables document t)
 still_document t d =
     let proper = read_proper final_tables final_sound t document document_sound d.accepted in
@@ -64,7 +64,7 @@ still_document t d =
       accepted = writes_all final_tables final_sound (form final_tables document t) document document_sound proper;
     }
 
--- and once it is settled, when settling changes nothing
+-- and so is the stable form
 settled_document : (t : Tree) → IsDocument t → IsDocument (settled document t)
 settled_document t d = still_document (clean final_tables document t) (still_document t d)
 
@@ -73,20 +73,20 @@ settled_stays t d =
     let once = cleaned_thrice final_tables final_sound document t document_sound d.accepted in
     ap (clean final_tables document) once ∙ once
 
--- what holds of a text of the tokens that are written of a settled tree
+-- a text with the tokens of the stable form is read in order as the stable form
 written_again : (text : List ℕ) (t : Tree) → IsUtf8 text
     → tokens text ≡ data_tokens (data_in_order (settled document t)) → IsDocument t → IsTreeInOrder text (settled document t)
 written_again text t utf8 is d =
     let s = settled_document t d in
     read_again text (settled document t) utf8 is s.readable.named s.readable.whole s.readable.nests
 
--- a text has one tree by name
+-- a text is read, by name, as at most one node
 one_by_name : (text : List ℕ) (t u : Tree) → IsTreeOfText text t → IsTreeOfText text u → t ≡ u
 one_by_name text t u a b =
     let same : a.value ≡ b.value = some_same (sym a.reads ∙ b.reads) in
     a.is.same ∙ ap tree_of_data same ∙ sym b.is.same
 
--- of a settled tree the same is read by name, if what it was settled of stood by name
+-- the stable form of a document that is sorted by name is `Same`
 settled_by_name : (t : Tree) → IsDocument t → IsByName t → Same final_tables document (settled document t)
 settled_by_name t d b =
     let c = clean final_tables document t in

@@ -1,4 +1,4 @@
--- The members of an object by name: which of them a row takes, where those that it takes stood by name before.
+-- The members of an object sorted by name: which of them a row takes, if those that it takes were sorted before.
 use Rattle.std.proofs.Common.{◌≡◌, ℕ, List, [], ◌∷◌, Bool, true, false, not, cond, ◌&&◌, Ordering, Less, Equal, Greater, nat_cmp}
 use Rattle.std.proofs.Common.{refl, sym, ap, subst, ◌∙◌, bytes_eq}
 use Rattle.std.proofs.lemmas.Bool.{and_parts, not-true}
@@ -18,7 +18,7 @@ use Rattle.openapi_tables.specs.Prelude.{members_list, members_of}
 use Rattle.openapi_tables.proofs.ListLaws.{Each, join-nil, join_assoc, same_bytes, same_text_eq}
 use Rattle.openapi_tables.proofs.TreeLaws.{members_list-of, members_of-list}
 
--- a member put among others by its name, in the place of the one of that name
+-- a member inserted among others by its name; if one of them has that name, its value is replaced
 abbrev pub ins : Entry Tree → List (Entry Tree) → List (Entry Tree)
 ins e [] = e ∷ []
 ins e (x ∷ xs) = match_ordering (slice_cmp nat_cmp e.name x.name) (e ∷ x ∷ xs)
@@ -52,7 +52,7 @@ data_list tree.no_members ds = refl
 data_list (tree.member k t ms) ds =
     data_list ms (put k (data_of t) ds) ∙ ap (inserted (members_list ms)) (put_list k (data_of t) ds)
 
--- an object by name
+-- an object sorted by name has the members of the object, inserted one after another
 pub sorted_object : (es : List (Entry Tree)) → tree_by_name (object (members_of es)) ≡ object (members_of (inserted es []))
 sorted_object es =
     ap object (sym (members_of-list (members_of_data (members_data (members_of es) json.no_members)))
@@ -109,7 +109,7 @@ below_only q n (e ∷ es) b = by (q e.name) (below_only q n es b.1)
     by true r = (b.0, r)
     by false r = r
 
--- ---- what passes a test
+-- ---- members whose names pass a test
 module _ (q : List ℕ → Bool) where
   abbrev passing : List (Entry Tree) → List (Entry Tree)
   passing es = only (λ (e : Entry Tree). q e.name) es
@@ -167,7 +167,7 @@ module _ (q : List ℕ → Bool) where
       by true = refl
       by false = refl
 
--- members in order are put in their order
+-- a name that is less than all names of a list is less than that of each element in it
 below_in : (n : List ℕ) (done : List (Entry Tree)) (e : Entry Tree) (es : List (Entry Tree)) → Below n (join done (e ∷ es))
     → slice_cmp nat_cmp n e.name ≡ Less
 below_in n [] e es b = b.0
@@ -183,7 +183,7 @@ ins_last t (x ∷ xs) e es o =
     ap (λ r. match_ordering r (f ∷ x ∷ xs) (record { name = x.name; value = t } ∷ xs) (x ∷ ins f xs)) above
     ∙ ap (λ l. x ∷ l) (ins_last t xs e es o.1)
 
--- a member's tree has no say in the order
+-- `Below` still holds if a member is replaced with another of the same name
 below_other : (n : List ℕ) (done : List (Entry Tree)) (e f : Entry Tree) (es : List (Entry Tree)) → f.name ≡ e.name
     → Below n (join done (e ∷ es)) → Below n (join done (f ∷ es))
 below_other n [] e f es is b = (ap (slice_cmp nat_cmp n) is ∙ b.0, b.1)
@@ -194,7 +194,7 @@ ascends_other : (done : List (Entry Tree)) (e f : Entry Tree) (es : List (Entry 
 ascends_other [] e f es is o = (subst (λ n. Below n es) (sym is) o.0, o.1)
 ascends_other (x ∷ xs) e f es is o = (below_other x.name xs e f es is o.0, ascends_other xs e f es is o.1)
 
--- members in order are put in their order
+-- members in ascending order are inserted in this order, each with its value sorted by name
 pub in_turn : (done es : List (Entry Tree)) → Ascends (join done es) → inserted es done ≡ join done (each (on_entry tree_by_name) es)
 in_turn done [] o = sym (join-nil done)
 in_turn done (e ∷ es) o =
@@ -204,7 +204,7 @@ in_turn done (e ∷ es) o =
     ap (inserted es) (ins_last (tree_by_name e.value) done e es o) ∙ in_turn (join done (f ∷ [])) es next
     ∙ join_assoc done (f ∷ []) (each (on_entry tree_by_name) es)
 
--- what passes a test by name, where it stood by name before, is what passed, each by name
+-- if the members that pass a test are in ascending order, those that pass after sorting are these, each sorted by name
 pub passing_sorted : (q : List ℕ → Bool) (es : List (Entry Tree)) → Ascends (only (λ (e : Entry Tree). q e.name) es)
     → only (λ (e : Entry Tree). q e.name) (inserted es [])
     ≡ each (on_entry tree_by_name) (only (λ (e : Entry Tree). q e.name) es)
@@ -222,7 +222,7 @@ none_named n k (e ∷ es) h l =
     ap (λ b. cond b (e ∷ only (λ (e : Entry Tree). same_text n e.name) es) (only (λ (e : Entry Tree). same_text n e.name) es)) apart
     ∙ none_named n k es h p.1
 
--- of one name there is one member at most
+-- the members of one name are in ascending order, since there is at most one
 pub lone : (n : List ℕ) (es : List (Entry Tree)) → members_named (members_of es) ≡ true
     → Ascends (only (λ (e : Entry Tree). same_text n e.name) es)
 lone n [] h = tt
@@ -237,7 +237,7 @@ lone n (e ∷ es) h =
     by true is l r = subst (λ xs. Ascends (e ∷ xs)) (sym (none_named n e.name es is l)) (tt, tt)
     by false is l r = r
 
--- ---- what stands by name
+-- ---- what is sorted by name
 pub ascends_only : (q : List ℕ → Bool) (es : List (Entry Tree)) → Ascends es → Ascends (only (λ (e : Entry Tree). q e.name) es)
 ascends_only q [] o = tt
 ascends_only q (e ∷ es) o = by (q e.name) (ascends_only q es o.1)
@@ -254,7 +254,7 @@ ascends_inserted (e ∷ es) done o = ascends_inserted es (ins f done) (ascends_i
     f : Entry Tree
     f = on_entry tree_by_name e
 
--- the values of members stand by name
+-- the values of members are sorted by name
 abbrev pub AreSorted : List (Entry Tree) → Type 0
 AreSorted es = Each (λ (e : Entry Tree). tree_by_name e.value ≡ e.value) es
 
@@ -271,7 +271,7 @@ unfolding head_or tail
 each_sorted [] h = tt
 each_sorted (e ∷ es) h = (ap (λ l. (head_or e l).value) h, each_sorted es (ap tail h))
 
--- the members of an object that stands by name stand so, and so do their values
+-- if an object is sorted by name, its members are in ascending order, and their values are sorted by name
 pub object_sorted : (ms : Members) → tree_by_name (object ms) ≡ object ms → Ascends (members_list ms) × AreSorted (members_list ms)
 object_sorted ms h =
     let es = members_list ms in
@@ -296,7 +296,7 @@ items_in_list : Tree → tree.Items
 items_in_list (tree.list ts) = ts
 items_in_list t = tree.no_items
 
--- the items of a list that stands by name stand so
+-- if a list is sorted by name, so are its items
 pub list_sorted : (ts : tree.Items) → tree_by_name (tree.list ts) ≡ tree.list ts → Each (λ t. tree_by_name t ≡ t) (items_list ts)
 unfolding items_in_list
 list_sorted ts h = items_sorted ts (ap items_in_list h)

@@ -1,4 +1,4 @@
--- What reading JSON text gives, in the words of the programs.
+-- What reading JSON text returns, stated in the terms of `openapi_text`.
 use Rattle.std.proofs.Common.{◌≡◌, ℕ, List, inl, inr, subst, sym, refl}
 use Rattle.openapi_json.specs.Ordered.{IsTreeInOrder}
 use Rattle.openapi_json.specs.Reading as texts

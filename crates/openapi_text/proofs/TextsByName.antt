@@ -1,4 +1,4 @@
--- The tree of a text by name stands by name, and so does any tree once it is put by name.
+-- The node that a text is read as by name is sorted by name, and so is any node after sorting.
 use Rattle.std.proofs.Common.{◌≡◌, ℕ, List, [], ◌∷◌, true, not, ◌&&◌, Option, Some, None, IfSome, option_map, option_and_then}
 use Rattle.std.proofs.Common.{Ordering, Less, Equal, Greater, nat_cmp, is_eq, bytes_eq, refl, sym, ap, subst, ◌∙◌}
 use Rattle.std.proofs.lemmas.Bool.{and_from}
@@ -23,7 +23,7 @@ use Rattle.openapi_tables.specs.Prelude.{each, on_entry, members_list, members_o
 use Rattle.openapi_tables.proofs.TreeLaws.{members_of-list}
 use Rattle.openapi_text.proofs.Sorting.{Ascends, Below, in_turn, sorted_object}
 
--- the members of each object stand by name
+-- the members of each object are sorted by name
 abbrev mutual
   IsOrdered : Data → Type 0
   IsOrdered json.null = Unit {0}
@@ -110,7 +110,7 @@ mutual
       members_data_ordered ms (put k (data_of t) done)
       (InOrder-put k (data_of t) done g.0, put_ordered k (data_of t) done (data_ordered t) g.1)
 
--- ---- the trees of such data
+-- ---- the nodes of such data
 below_tree : (k : List ℕ) (ms : json.Members) → data_order.Below k ms → Below k (members_list (members_of_data ms))
 below_tree k json.no_members b = tt
 below_tree k (json.member l d ms) b = (b.0, below_tree k ms b.1)
@@ -177,16 +177,16 @@ mutual
       and_from (lacks k (members_of_data ms)) (well_named (tree_of_data d) && members_named (members_of_data ms)) (lacks_below k ms o.0)
       (and_from (well_named (tree_of_data d)) (members_named (members_of_data ms)) (named d h.0) (members_are_named ms o.1 h.1))
 
--- a tree that stands by name, whose objects hold no name twice
+-- a node that is sorted by name, with no name twice in one object
 pub record IsByName (t : Tree) : Type 0 where
   pub stands : tree_by_name t ≡ t
   pub named : well_named t ≡ true
 
--- any tree does, once it is put by name
+-- any node is one after sorting by name
 pub put_by_name : (t : Tree) → IsByName (tree_by_name t)
 put_by_name t = record { stands = stands (data_of t) (data_ordered t); named = named (data_of t) (data_ordered t) }
 
--- and the tree of a text by name
+-- and so is the node that a text is read as by name
 pub text_by_name : (text : List ℕ) (t : Tree) → IsTreeOfText text t → IsByName t
 text_by_name text t it =
     let all : IfSome (read text) IsOrdered =

@@ -1,4 +1,4 @@
--- The laws that the functions of `laws` carry.
+-- The laws that the functions of `laws` state.
 use Rattle.std.specs.Prelude.{◌≡◌, ◌≤◌, ℕ, List, true}
 use Rattle.std.specs.Str.{IsUtf8}
 use Rattle.openapi_json.specs.Reading.{IsTreeOfText}
@@ -14,7 +14,8 @@ use Rattle.openapi_text.specs.declared.layout.Layout.{Layout}
 use Rattle.openapi_text.specs.declared.layout.Layout.TheVariants.{ByName}
 use Rattle.openapi_text.specs.declared.rewriting.Rewriting.TheVariants.{Settle}
 
--- what a tree is cleaned to nests no deeper than the tree, and neither does what it settles to, by whichever kind
+-- the normalized value of a node nests its lists and objects no deeper than the node does, and neither does its stable form,
+-- for every kind
 abbrev pub NestsNoDeeper : Type 0
 NestsNoDeeper =
     (k : Kind) (t : Tree) → (nesting (clean final_tables k t) ≤ nesting t) × (nesting (settled k t) ≤ nesting t)
@@ -29,7 +30,7 @@ abbrev pub SettledTextStays : Type 0
 SettledTextStays = (l : Layout) (bytes text : List ℕ) → IsUtf8 text → IsSettledTo l bytes text
     → IsSettledTo l text text × ((other : List ℕ) → IsSettledTo l text other → other ≡ text)
 
--- what `settle` writes by name is read by name as the settled tree, with its members by name
+-- what `settle` writes by name is read by name as the node in stable form, with its members by name
 abbrev pub SettledTextReads : Type 0
 SettledTextReads = (bytes text : List ℕ) → IsUtf8 text → IsSettledTo ByName bytes text
     → IsTextOf ByName bytes (λ t. IsTreeOfText text (tree_by_name (rewritten Settle t)))

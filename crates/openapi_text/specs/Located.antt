@@ -1,4 +1,4 @@
--- Where the value is for which a text is refused.
+-- The position of the value for which a text is rejected.
 use Rattle.std.specs.Prelude.{ℕ, List, None, IfSome}
 use Rattle.openapi_json.specs.Positions.{StandsAt}
 use Rattle.openapi_json.specs.declared.position.Position.{Position}
@@ -18,11 +18,12 @@ IsPositionOf bytes fault.Memory p = ⊥
 IsPositionOf bytes fault.Read p = ⊥
 IsPositionOf bytes fault.Write p = ⊥
 
--- why a text is refused that is to be an object of a kind: the fault holds of it, at that position
+-- why a text that has to be an object of a kind is rejected: the fault explains it, and the position, if there is one, is
+-- that of the fault
 pub record IsRefusal (k : Kind) (bytes : List ℕ) (refusal : Refusal) : Type 0 where
   pub explains : Explains layout.InOrder k bytes refusal.fault
   pub located : IfSome refusal.position (IsPositionOf bytes refusal.fault)
 
--- that an allocation failed
+-- the `Refusal` for a failed allocation, which has no position
 abbrev pub no_memory : Refusal
 no_memory = record { fault = fault.Memory; position = None }

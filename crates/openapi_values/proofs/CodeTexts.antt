@@ -1,4 +1,4 @@
--- The text of a status code is what `{}` writes of its number, and of the letters of a range.
+-- The text of a status code is its number as `{}` writes it, followed by `XX` for a range.
 use Rattle.std.proofs.Common.{◌≡◌, ℕ, ◌+◌, ◌/◌, ◌%◌, ◌<◌, ◌≤◌, ◌^◌, Bool, true, false, cond, ◌&&◌, nat_le, List, []}
 use Rattle.std.proofs.Common.{◌∷◌, ◌++◌, refl, sym, ap, arith, leb-true}
 use Rattle.std.proofs.lemmas.Bool.{and_parts}
@@ -7,7 +7,7 @@ use Rattle.std.specs.Fmt.{decimal}
 use Rattle.std.specs.Prelude.{codes}
 use Rattle.openapi_tables.specs.Kind.{code, range, text_of}
 
--- the digits of a number below a thousand, with those that lead as zeros
+-- the digits of a number below 1000, with leading zeros
 abbrev three_digits : ℕ → List ℕ
 three_digits n = (48 + n / 100) ∷ (48 + n / 10 % 10) ∷ (48 + n % 10) ∷ []
 

@@ -1,4 +1,4 @@
--- Looking for a word along the values of a set.
+-- Searching for a word among the values of a set.
 use Rattle.std.proofs.Common.{◌≡◌, ℕ, suc, ◌+◌, ◌<◌, Bool, true, false, ◌&&◌, ◌||◌, ◌==◌, List, [], ◌∷◌, length, get_or}
 use Rattle.std.proofs.Common.{drop, map, refl, sym, ap, ◌∙◌, add-one}
 use Rattle.std.proofs.Math.Seq.{drop-cons}
@@ -11,7 +11,7 @@ same_text-bytes_eq (a ∷ s) (b ∷ t) = ap (λ r. a == b && r) (same_text-bytes
 same_text-bytes_eq s [] = refl
 same_text-bytes_eq s t = refl
 
--- the values from an index on have the word where the first does, or those after it
+-- the values from an index on have the word exactly if the first of them has it, or one after it
 step : {X : Type 0} → (word : X → List ℕ) (xs : List X) (i : ℕ) (x : X) (t : List ℕ)
     → i < length xs → x ≡ get_or xs i x
     → has (map word (drop i xs)) t ≡ (bytes_eq (word x) t || has (map word (drop (i + 1) xs)) t)
@@ -21,13 +21,13 @@ step word xs i x t low is =
     ∙ ap (λ b. b || has (map word (drop (suc i) xs)) t) (same_text-bytes_eq (word x) t)
     ∙ ap (λ k. bytes_eq (word x) t || has (map word (drop k xs)) t) (sym (add-one i))
 
--- the set has the word, by a value whose word it is
+-- the set has the word if a value has it
 pub found : {X : Type 0} → (word : X → List ℕ) (xs : List X) (i : ℕ) (x : X) (t : List ℕ) (b : Bool)
     → b ≡ has (map word (drop i xs)) t → i < length xs → x ≡ get_or xs i x → bytes_eq (word x) t ≡ true → true ≡ b
 found word xs i x t b left low is same =
     sym (left ∙ step word xs i x t low is ∙ ap (λ c. c || has (map word (drop (i + 1) xs)) t) same)
 
--- the set has the word where a later value has, by a value whose word it is not
+-- if a value does not have the word, the set has the word exactly if a later value has it
 pub passed : {X : Type 0} → (word : X → List ℕ) (xs : List X) (i : ℕ) (x : X) (t : List ℕ) (b : Bool)
     → b ≡ has (map word (drop i xs)) t → i < length xs → x ≡ get_or xs i x → bytes_eq (word x) t ≡ false
     → b ≡ has (map word (drop (i + 1) xs)) t

@@ -8,14 +8,14 @@ use Rattle.openapi_values.specs.declared.variant_or.VariantOrUnknown.TheVariants
 use Rattle.openapi_values.specs.declared.variant_or.VariantOrUnknownOrEmpty.{VariantOrUnknownOrEmpty}
 use Rattle.openapi_values.specs.declared.variant_or.VariantOrUnknownOrEmpty.TheVariants as o
 
--- a value that may come of a text: an item that the reader of items may give for the text, or the text itself where
--- the reader may refuse it
+-- a value that a text may be read as: an item that parsing the text may return, or the text itself if parsing it may return
+-- an error
 abbrev pub IsVariantOf : {X E : Type 0} → (List ℕ → Result X E → Type 0)
     → List ℕ → VariantOrUnknown X → Type 0
 IsVariantOf gives text (v.Item x) = gives text (Ok x)
 IsVariantOf {X} {E} gives text (v.Unknown s) = (string_bytes s ≡ text) × ((e : E) × gives text (Err e))
 
--- a value that may come of a text or of none: as above for a text, and empty for none
+-- a value that an optional text may be read as: as above for a text, and `Empty` if there is none
 abbrev pub IsVariantOrEmptyOf : {X E A : Type 0} → (List ℕ → Result X E → Type 0)
     → Option (String A) → VariantOrUnknownOrEmpty X → Type 0
 IsVariantOrEmptyOf gives text (o.Item x) = IsSomeAnd text (λ s. gives (string_bytes s) (Ok x))
@@ -23,7 +23,7 @@ IsVariantOrEmptyOf {X} {E} gives text (o.Unknown u) =
     IsSomeAnd text (λ s. (string_bytes u ≡ string_bytes s) × ((e : E) × gives (string_bytes s) (Err e)))
 IsVariantOrEmptyOf gives text o.Empty = IsNone text
 
--- the value as one that might be empty
+-- the value as one of the type that also has `Empty`
 abbrev pub or_empty : {X : Type 0} → VariantOrUnknown X → VariantOrUnknownOrEmpty X
 or_empty (v.Item x) = o.Item x
 or_empty (v.Unknown s) = o.Unknown s

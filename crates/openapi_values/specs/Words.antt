@@ -20,7 +20,7 @@ use Rattle.openapi_values.specs.declared.schema.StringFormat.TheVariants as stri
 use Rattle.openapi_values.specs.declared.security_scheme.APIKeyLocation.{APIKeyLocation}
 use Rattle.openapi_values.specs.declared.security_scheme.APIKeyLocation.TheVariants as location
 
--- a text is read as the value whose word it is, and refused where it is no word of the set
+-- a text that is a word of the set is read as a value with that word, and any other text is an error
 pub record IsWordRead {X E : Type 0} (word : X → List ℕ) (words : List (List ℕ))
     (text : List ℕ) (r : Result X E) : Type 0 where
   pub found : is_ok r ≡ has words text
@@ -30,17 +30,17 @@ pub record IsWordRead {X E : Type 0} (word : X → List ℕ) (words : List (List
 abbrev pub word_form : {X : Type 0} → (X → List ℕ) → X → Form
 word_form word x = leaf (text (word x))
 
--- the word of a format of numbers
+-- the word of a number format
 abbrev pub number_format_word : NumberFormat → List ℕ
 number_format_word number.Float = codes "float"
 number_format_word number.Double = codes "double"
 
--- the word of a format of whole numbers
+-- the word of an integer format
 abbrev pub integer_format_word : IntegerFormat → List ℕ
 integer_format_word integer.Int32 = codes "int32"
 integer_format_word integer.Int64 = codes "int64"
 
--- the word of a format of texts
+-- the word of a string format
 abbrev pub string_format_word : StringFormat → List ℕ
 string_format_word string.Date = codes "date"
 string_format_word string.DateTime = codes "date-time"
@@ -69,11 +69,11 @@ cookie_style_word cookie.Form = codes "form"
 abbrev pub header_style_word : HeaderStyle → List ℕ
 header_style_word header.Simple = codes "simple"
 
--- the words for the parts of a request that may hold the key of an API
+-- the words for the parts of a request that may hold an API key
 abbrev pub api_key_locations : List (List ℕ)
 api_key_locations = codes "query" ∷ codes "header" ∷ codes "cookie" ∷ []
 
--- the word of such a part
+-- the word for a part of a request that may hold an API key
 abbrev pub api_key_location_word : APIKeyLocation → List ℕ
 api_key_location_word location.Query = codes "query"
 api_key_location_word location.Header = codes "header"

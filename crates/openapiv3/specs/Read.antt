@@ -1,4 +1,4 @@
--- What an object is read of as JSON text, and why it is not.
+-- What it means that an object is read from JSON text, what the errors of reading it mean, and where they are.
 use Rattle.std.specs.Prelude.{◌≡◌, ℕ, ◌+◌, ◌*◌, ◌≤◌, List, Option, Some, None, MatchOption}
 use Rattle.openapi_json.specs.Positions.{IsPositionAt}
 use Rattle.openapi_json.specs.Reading as texts
@@ -15,22 +15,22 @@ use Rattle.openapi_fields.specs.Returned.{Fails, Reads, RefusesBy}
 use Rattle.openapiv3.specs.declared.read.ReadError.{ReadError}
 use Rattle.openapiv3.specs.declared.read.ReadError.TheVariants.{Json, Refused}
 
--- The bytes are JSON text whose value is a tree, by R, and P holds of the tree.
+-- The bytes are JSON text that is read as a node, by the relation `R`, and `P` holds for the node.
 pub record IsTextOf (R : List ℕ → Tree → Type 0) (bytes : List ℕ) (P : Tree → Type 0) : Type 0 where
   pub tree : Tree
   pub text : R bytes tree
   pub holds : P tree
 
--- at most three looks for each value of the tree
+-- the access count rises by at most three for each value in the node
 abbrev pub IsWithin : Tree → (old new : ℕ) → Type 0
 IsWithin t old new = new ≤ old + 3 * size_of t
 
--- the tree of the bytes is read as the value
+-- the node of the bytes is read as the value, with at most three node accesses for each value in the node
 abbrev pub IsReadOf : (List ℕ → Tree → Type 0) → {X : Type 0} → (X → Form) → X → Kind → List ℕ → (old new : ℕ) → Type 0
 IsReadOf R view x k bytes old new = IsTextOf R bytes (λ t. Reads view x k t × IsWithin t old new)
 
--- the bytes hold no tree; or their tree does not conform, and the fault names a place of it and a rule that is asked and
--- broken there; or memory ran out
+-- what an error means: the bytes are read as no node; or their node does not conform, and the fault has a location in it
+-- and a rule that is required and broken there; or an allocation failed
 abbrev pub Explains : (List ℕ → Tree → Type 0) → Kind → List ℕ → (old new : ℕ) → ReadError → Type 0
 Explains R k bytes old new (Json f) = texts.Explains bytes f
 Explains R k bytes old new (Refused f) =
@@ -38,7 +38,7 @@ Explains R k bytes old new (Refused f) =
 
 -- ---- where an error is
 
--- the location of a fault, but for an allocation failure, which is about no value
+-- the location of a fault; none for an allocation failure, which is about no value
 abbrev pub unless_memory : Cause → Place → Option Place
 unless_memory Memory p = None
 unless_memory c p = Some p

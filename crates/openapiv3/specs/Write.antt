@@ -14,23 +14,23 @@ use Rattle.openapi_tables.specs.Print.{print}
 use Rattle.openapi_tables.specs.Tables.{final_tables}
 use Rattle.openapi_tables.specs.Unwritable.{unwritable}
 
--- The compact text of a tree, with the members of each object in the order of their names. It is read as the tree with its
--- members in that order, if the tree nests no deeper than JSON text may.
+-- The compact text of a node, with the members of each object sorted by name. It is read as the node with its members
+-- sorted so, if the node nests no deeper than JSON text may.
 pub record IsByName (t : Tree) (text : List ℕ) : Type 0 where
   pub is : text ≡ compact_text (data_of t)
   pub reads_back : nesting t ≤ max_depth → IsTreeOfText text (tree_by_name t)
 
--- The same with the members in the order of the tree.
+-- The same with the members in the order of the node.
 pub record IsInOrder (t : Tree) (text : List ℕ) : Type 0 where
   pub is : text ≡ compact_text (data_in_order t)
   pub reads_back : nesting t ≤ max_depth → IsTreeInOrder text t
 
--- The same with a line for each item and each member.
+-- The text with the members in the order of the node, and a line for each item and each member.
 pub record IsPretty (t : Tree) (text : List ℕ) : Type 0 where
   pub is : text ≡ pretty (data_tokens (data_in_order t))
   pub reads_back : nesting t ≤ max_depth → IsTreeInOrder text t
 
--- The text is that of the tree that a form is written as, by P, and nothing of the form is lost.
+-- The text is that of the node that a form is written as, by the relation `P`, and nothing in the form is unwritable.
 pub record IsWrittenOf (P : Tree → List ℕ → Type 0) (k : Kind) (f : Form) (text : List ℕ) : Type 0 where
   pub whole : unwritable final_tables k f ≡ []
   pub written : P (print final_tables k f) text

@@ -1,4 +1,4 @@
--- `OrderedMap` as a type that may hold the type that holds it, by its values.
+-- `OrderedMap` as a `Former` of its values, so that a type may contain a map whose values are of that same type.
 use Rattle.std.specs.Prelude.{◌≡◌, List, [], Option, Some, None, String}
 use mathlib.Core.Path.{refl, sym, ap, subst, ◌∙◌}
 use lib.ListN.{length-map}
@@ -61,7 +61,7 @@ pub the_items_listed : (X : Type 0) (es : Entries X)
     → listed _ (children (the_former this) X es) ≡ the_items X es
 the_items_listed X es = values_listed X es
 
--- what the code keeps for a map
+-- the contents that the code stores for a map
 abbrev helds : Former {0}
 helds =
     via (pair (const (Vec (String Global) Global)) (pair (vec.the_former this Global) (const Finder))) Held
@@ -119,13 +119,13 @@ module _ {X Y : Type 0} (h : X → Y) where
   over_option None = refl
   over_option (Some b) = refl
 
-  -- the view goes along the map
+  -- the view commutes with mapping the values
   natural : (o : Option (Box (Held X) Global))
       → kept (options.map X Y h o) ≡ (the_former this).map X Y h (kept o)
   natural None = refl
   natural (Some b) = zip-map h (names_of b.value.names.items) b.value.values.items
 
-  -- and so does what holds of the fields
+  -- mapping the values also preserves what holds of the fields
   names : (o : Option (Box (Held X) Global)) → keys_of (kept (options.map X Y h o)) ≡ keys_of (kept o)
   names o = ap keys_of (natural o) ∙ keys_of-map h (kept o)
 
@@ -143,7 +143,7 @@ module _ {X Y : Type 0} (h : X → Y) where
   IsKept-from : (o : Option (Box (Held X) Global)) → IsKept (options.map X Y h o) → IsKept o
   IsKept-from o s = (subst (IsDistinct bytes_eq) (names o) s.0, consistent-from o s.1)
 
--- the view shows what the fields hold
+-- the view holds the same values as the fields
 keeps : (X : Type 0) (o : Option (Box (Held X) Global)) (z : Global) → IsHeldConsistent o
     → held (the_former this) X (kept o) ≡ held fields X (record { held = o; alloc = z })
 keeps X None z s = refl
@@ -208,7 +208,7 @@ module _ (R R' : RattleType) (h : R.Denot → R'.Denot) where
       → Recodes (C.the_row R) (C.the_row R') ((the_former this).map R.Denot R'.Denot h)
   the_codes_placed e m = entries_recoded R R' h e m
 
--- maps of mapped values are equal where the maps are by the mapped values
+-- two maps of mapped values are equal exactly if the maps are equal by their mapped values
 pub the_eq_natural : (X Y : Type 0) (h : X → Y) (V : eq.Ghosts Y) (a b : Entries X)
     → entries_eq V.eq ((the_former this).map X Y h a) ((the_former this).map X Y h b)
     ≡ entries_eq (λ x y. V.eq (h x) (h y)) a b

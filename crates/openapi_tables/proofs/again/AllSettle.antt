@@ -1,4 +1,4 @@
--- What is read of what a proper form is written as stays: objects, and the whole.
+-- A proper form that is written and read again stays: for objects, and for all kinds.
 use Rattle.std.proofs.Common.{ℕ, true, ◌&&◌, List, Option, Some, None, ◌≡◌, refl, sym, ap, ◌∙◌}
 use Rattle.std.proofs.lemmas.Bool.{and_parts, and_from}
 use Rattle.openapi_tables.specs.Prelude.{Kind, Tables, Case, Code, TableName, a_schema, a_schema_kind, any_text}
@@ -160,6 +160,6 @@ calm_step T W (fields c fs) g k s h = fields_calm T W c fs g k s h
 calm_step T W f g (null_or any_text) s h = cc
 calm_step T W f g k s h = cc
 
--- what is read of what a proper form is written as stays
+-- a proper form that is written and read again stays
 pub calm_all : (T : Tables) (W : tables_sound T ≡ true) (f : Form) → Calm T f
 calm_all T W f = by_deep (Calm T) (calm_step T W) f

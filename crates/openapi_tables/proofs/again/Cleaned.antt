@@ -1,4 +1,4 @@
--- A form that is written and read again is settled, once what is read stays.
+-- A form that is written and read again is in stable form, if the form that is read stays.
 use Rattle.std.proofs.Common.{true, ◌≡◌, sym, ap, ◌∙◌}
 use Rattle.openapi_node.specs.Tree.{Tree}
 use Rattle.openapi_tables.specs.Prelude.{Kind, Tables, Form, form, print, clean, again, sound, tables_sound, stays}
@@ -13,24 +13,25 @@ pub settles_once : (T : Tables) (W : tables_sound T ≡ true) (k : Kind) (f : Fo
     → stays T k (again T k f) ≡ true → again T k (again T k f) ≡ again T k f
 settles_once T W k f s st = read_again T W (print T k f) k s st
 
--- cleaning a third time changes nothing
+-- if the form of the normalized node stays, normalizing a third time changes nothing
 pub cleans_once : (T : Tables) (W : tables_sound T ≡ true) (k : Kind) (t : Tree) → sound T k ≡ true
     → stays T k (again T k (form T k t)) ≡ true → clean T k (clean T k (clean T k t)) ≡ clean T k (clean T k t)
 cleans_once T W k t s st = ap (print T k) (settles_once T W k (form T k t) s st)
 
--- two trees that are cleaned twice to the same are read the same once they are cleaned
+-- two nodes that are the same after normalizing twice are read as the same form after normalizing once, if these forms
+-- stay
 pub same_cleaned : (T : Tables) (W : tables_sound T ≡ true) (k : Kind) (t u : Tree) → sound T k ≡ true
     → stays T k (again T k (form T k t)) ≡ true → stays T k (again T k (form T k u)) ≡ true
     → clean T k (clean T k t) ≡ clean T k (clean T k u) → form T k (clean T k t) ≡ form T k (clean T k u)
 same_cleaned T W k t u s st su h = sym (settles_once T W k (form T k t) s st) ∙ ap (form T k) h
     ∙ settles_once T W k (form T k u) s su
 
--- the same, for what is proper
+-- a proper form that is written and read once is in stable form
 pub settled : (T : Tables) (W : tables_sound T ≡ true) (k : Kind) (f : Form) → sound T k ≡ true → proper T k f ≡ true
     → again T k (again T k f) ≡ again T k f
 settled T W k f s h = settles_once T W k f s (calm_all T W f k s h)
 
--- what is read again of a proper form is proper
+-- a proper form that is written and read again is proper
 pub proper_again : (T : Tables) (W : tables_sound T ≡ true) (k : Kind) (f : Form) → sound T k ≡ true
     → proper T k f ≡ true → proper T k (again T k f) ≡ true
 proper_again T W k f s h = read_proper T W (print T k f) k s (writes_all T W f k s h)
@@ -39,12 +40,13 @@ stays_again : (T : Tables) (W : tables_sound T ≡ true) (k : Kind) (t : Tree) �
     → conforms T k t ≡ true → stays T k (again T k (form T k t)) ≡ true
 stays_again T W k t s h = calm_all T W (form T k t) k s (read_proper T W t k s h)
 
--- cleaning a tree that conforms a third time changes nothing
+-- normalizing a node that conforms a third time changes nothing
 pub cleaned_thrice : (T : Tables) (W : tables_sound T ≡ true) (k : Kind) (t : Tree) → sound T k ≡ true
     → conforms T k t ≡ true → clean T k (clean T k (clean T k t)) ≡ clean T k (clean T k t)
 cleaned_thrice T W k t s h = cleans_once T W k t s (stays_again T W k t s h)
 
--- two trees that conform are the same cleaned twice exactly where they are read alike cleaned once
+-- two nodes that conform are the same after normalizing twice if and only if the same form is read from both after
+-- normalizing once
 pub cleaned_same : (T : Tables) (W : tables_sound T ≡ true) (k : Kind) (t u : Tree) → sound T k ≡ true
     → conforms T k t ≡ true → conforms T k u ≡ true
     → (clean T k (clean T k t) ≡ clean T k (clean T k u)) ↔ (form T k (clean T k t) ≡ form T k (clean T k u))

@@ -1,4 +1,4 @@
--- What is read of a tree and is read again from what it is written as stays: for all kinds and trees.
+-- A form that is read from a node, and is unchanged when it is written and read again, stays: for all kinds and nodes.
 use Rattle.std.proofs.Common.{ℕ, true, List, [], ◌∷◌, Option, Some, None, ◌≡◌, refl, sym, ap, ◌∙◌, subst}
 use Rattle.std.proofs.lemmas.Bool.{and_parts, and_from}
 use Rattle.openapi_tables.specs.Prelude.{each, every, items_list, members_list, of_members, Entry, Kind, null_or}
@@ -26,12 +26,12 @@ use Rattle.openapi_tables.proofs.again.KindsBack.{not_flag, stays-null_or, stays
 use Rattle.openapi_tables.proofs.again.ReadAgain.{tag_again}
 use Rattle.openapi_tables.proofs.again.RowsStay.{Firm, firm_row, writes_own, values_back, stays_values}
 
--- lists
+-- two functions with the same results for a list agree on each element
 each_equal : {A B : Type 0} → (f g : A → B) (xs : List A) → each f xs ≡ each g xs → Each (λ x. f x ≡ g x) xs
 each_equal f g [] h = tt
 each_equal f g (x ∷ xs) h = (cc, each_equal f g xs cc)
 
--- where each form of a list stays, all are found to stay
+-- if each form of a list stays, the check of all of them passes
 pub every_stays : (T : Tables) (k : Kind) (fs : List Form) → Each (λ f. stays T k f ≡ true) fs
     → every (λ (p : Checks). p.answer k) (each (show (face_stays T)) fs) ≡ true
 every_stays T k [] h = refl
@@ -89,7 +89,7 @@ firm_map T k es s g h =
     sym (named_list-of (each (pair_of T name k) (each (entry_of T k) m))) ∙ ap pairs_in p ∙ named_list-of m in
     stays_values T k m (firm_pairs T k es s g (values_back T k name m q))
 
--- objects
+-- if an object has a choice of rows, the members that it is written as have one too
 some_choice : (T : Tables) (W : tables_sound T ≡ true) (k : Kind) (c : Choice) (es : List (Entry Tree))
     → sound T k ≡ true → choice k es ≡ Some c → (d : Choice)
     × (choice k (members_for T (rows_of T k c) (each (slot_in T es) (rows_of T k c))) ≡ Some d)
@@ -228,6 +228,6 @@ firm_taken T W k t f (as_inner j u h x) g s q =
     (sym (ap (form T (null_or j)) (print-null_or T j h) ∙ form-null_or T j (print T j h)) ∙ q)
 firm_taken T W k t f x g s q = refl
 
--- what is read of a tree and is read again stays
+-- a form that is read from a node, and is unchanged when it is written and read again, stays
 pub first_stays : (T : Tables) (W : tables_sound T ≡ true) (t : Tree) → Firm T t
 first_stays T W t = by_trees (Firm T) (λ u g k s q. firm_taken T W k u (form T k u) (taken T k u) g s q) t

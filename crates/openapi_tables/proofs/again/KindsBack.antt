@@ -1,4 +1,4 @@
--- What is read of a tree and stays is read again from what it is written as.
+-- A form that is read from a node and stays is unchanged when it is written and read again: for all kinds.
 use Rattle.std.proofs.Common.{true, false, cond, List, [], ◌∷◌, Some, None, ◌≡◌, refl, sym, ap, ◌∙◌, subst}
 use Rattle.std.proofs.lemmas.Bool.{and_parts}
 use Rattle.openapi_tables.specs.Prelude.{each, every, items_list, members_list, of_members, Entry, Kind, map_of}
@@ -26,12 +26,12 @@ use Rattle.openapi_tables.proofs.again.RowsBack.{Back, around_same, stays-map}
 use Rattle.openapi_tables.proofs.again.RowsStay.{writes_own}
 use Rattle.openapi_tables.proofs.again.ObjectsBack.{stays-fields, slots_of-found, slots_back, rows_of_sound}
 
--- a form stays under `null_or` a kind exactly where it does under that kind
+-- a form stays under `null_or k` if and only if it does under `k`
 pub stays-null_or : (T : Tables) (k : Kind) (f : Form) → stays T (null_or k) f ≡ stays T k f
 stays-null_or T k (deciding n f) = stays-null_or T k f
 stays-null_or T k f = refl
 
--- a form stays under `flag_or_schema` exactly where it does under `ref_to a_schema`
+-- a form stays under `flag_or_schema` if and only if it does under `ref_to a_schema`
 pub stays-flag_or_schema : (T : Tables) (f : Form) → stays T flag_or_schema f ≡ stays T (ref_to a_schema) f
 stays-flag_or_schema T (deciding n f) = stays-flag_or_schema T f
 stays-flag_or_schema T f = refl
@@ -92,7 +92,7 @@ map_again T k es s g st =
     ∙ ap (λ l. named (named_of l))
     (around_same T name k m (plain_keys T k es) (same_values T k es (values_good T k es s g) (stays-map T k m st)))
 
--- the rows of an object kind, written for what they read, are chosen again
+-- for what the rows of an object kind write for what they read, the same rows are chosen again, if the choice stays
 abbrev pub ChosenAgain : (T : Tables) → Type 0
 ChosenAgain T = (k : Kind) (c : Choice) (es : List (Entry Tree)) → sound T k ≡ true → choice k es ≡ Some c
     → Each (λ (e : Entry Tree). Good T e.value) es
@@ -133,12 +133,12 @@ fields_back T W chosen k c es s h g st =
     writes : OwnWrites T (rows_of T k c) (each (slot_in T es) (rows_of T k c))
     writes = writes_own T (rows_of T k c) es
 
--- a tree that is no reference, read and written under what may stand under a reference, is none either
+-- a node that is not a reference is not written as a reference, under a kind that may be used in `ref_to` (`under_ref`)
 abbrev pub NoReference : (T : Tables) → Type 0
 NoReference T = (k : Kind) (t : Tree) (f : Form) → Taken T k t f → Inside (Good T) t → sound T k ≡ true
     → stays T k f ≡ true → under_ref T k ≡ true → ref_text t ≡ None → ref_text (print T k f) ≡ None
 
--- what is read of a tree that is no flag is not printed as a flag
+-- a form that is read from a node other than a boolean is not written as a boolean
 pub not_flag : (T : Tables) (k : Kind) (t : Tree) (f : Form) → Taken T k t f → is_flag t ≡ false
     → is_flag (print T k f) ≡ false
 not_flag T k t f (as_leaf j u e) h = h
@@ -149,7 +149,8 @@ not_flag T k t f (as_schema u g e x) h = ap is_flag (print-flag_or_schema T g) �
 not_flag T k t f (as_inner j u g x) h = ap is_flag (print-null_or T j g) ∙ not_flag T j u g x h
 not_flag T k t f x h = refl
 
--- what is read of a tree and stays is read again, where choices come back and no item turns into a reference
+-- a form that was read and stays is read again from what it is written as, if the same rows are chosen again and no
+-- item becomes a reference
 pub taken_back : (T : Tables) (W : tables_sound T ≡ true) → ChosenAgain T → NoReference T
     → (k : Kind) (t : Tree) (f : Form) → Taken T k t f → Inside (Good T) t → sound T k ≡ true → stays T k f ≡ true
     → again T k f ≡ f

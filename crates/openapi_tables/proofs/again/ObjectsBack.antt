@@ -1,4 +1,4 @@
--- An object's rows, all together, written and read again.
+-- All rows of an object, written and read again.
 use Rattle.openapi_tables.proofs.ListLaws.{every_behind}
 use Rattle.std.proofs.Common.{ℕ, Bool, true, false, cond, ◌&&◌, ◌||◌, List, [], ◌∷◌, Some, None, ◌≡◌, refl, sym, ap}
 use Rattle.std.proofs.Common.{◌∙◌, subst}
@@ -23,7 +23,7 @@ use Rattle.openapi_tables.proofs.RowLaws.{Found}
 use Rattle.openapi_tables.proofs.SlotLaws.{Good, Settled}
 use Rattle.openapi_tables.proofs.again.RowsBack.{settled_row}
 
--- an object's form stays exactly where its choice does and the slots of its rows do
+-- the form of an object stays if and only if its choice and the slots of its rows do
 pub stays-fields : (T : Tables) (k : Kind) (c : Choice) (es : List (Entry Tree)) (fs : List Form) → choice k es ≡ Some c
     → stays T k (fields c (forms_of fs))
     ≡ (choice_stays T k c fs && rows_stay (rows_of T k c) (each (show (face_stays T)) fs))
@@ -49,14 +49,14 @@ stays-fields T a_schema_kind c es fs h =
     (each (show (face_stays T)) fs)) (each-each (λ (p : Checks). p.form) (show (face_stays T)) fs ∙ each_id fs)
 stays-fields T k c es fs h = cc
 
--- each row reads again the slot that it wrote
+-- each row reads its slot again from what it writes for it
 abbrev pub SlotsBack : (T : Tables) → List Row → List Form → Type 0
 SlotsBack T [] [] = Unit {0}
 SlotsBack T [] (f ∷ fs) = ⊥
 SlotsBack T (w ∷ ws) [] = ⊥
 SlotsBack T (w ∷ ws) (f ∷ fs) = (slot_of_own w (reads T (row_print w (printed T f))) ≡ f) × SlotsBack T ws fs
 
--- rows that find what they write for forms, and read each form again, read those forms
+-- rows that find what they write for forms, and read each form again from that, read these forms
 pub slots_of-found : (T : Tables) (es : List (Entry Tree)) (ws : List Row) (fs : List Form) → Found T es ws fs
     → SlotsBack T ws fs → each (slot_in T es) ws ≡ fs
 slots_of-found T es [] [] h g = refl
@@ -81,7 +81,7 @@ slots_back T [] es s g st = tt
 slots_back T (w ∷ ws) es s g st = let p = and_parts _ _ st in
     ((settled_one T w es s.0 g p.0).1, slots_back T ws es s.1 g p.1)
 
--- what holds of all tables holds of each
+-- a test that all names of tables pass is passed by each name
 pub every_table : (p : TableName → Bool) → every p table_names ≡ true → (n : TableName) → p n ≡ true
 unfolding table_names
 every_table p h open_api = assumption (every_each p table_names h)
@@ -104,11 +104,11 @@ pub checked : (T : Tables) (W : tables_sound T ≡ true) → (every (λ n. rows_
     × (every (names_fit (T schema_data)) sorts ≡ true)
 checked T W = and_seven _ _ _ _ _ _ _ W
 
--- the rows of each of sound tables are sound
+-- the rows of each table of sound tables are sound
 pub table_sound : (T : Tables) (W : tables_sound T ≡ true) (i : TableName) → rows_sound T (T i) ≡ true
 table_sound T W i = every_table (λ n. rows_sound T (T n)) (checked T W).0 i
 
--- what holds of each sort in the list of all sorts holds of every sort
+-- what holds for each sort in the list of all sorts holds for every sort
 pub each_sort : (p : Sort → Bool) → Each (λ s. p s ≡ true) sorts → (s : Sort) → p s ≡ true
 each_sort p h any_sort = assumption h
 each_sort p h s = assumption h
@@ -137,7 +137,7 @@ sort_sound T W s =
     and_from (rows_apart (sort_rows s)) (every (row_sound T) (sort_rows s))
     (apart_later (T schema_data) (sort_rows s) p.0) (every_behind (row_sound T) (T schema_data) (sort_rows s) p.1)
 
--- the rows of a tag
+-- the rows of a tag are sound, for the first text of the tag or for one of the others
 pick_case : (T : Tables) (W : tables_sound T ≡ true) (n s : List ℕ) (c : Case) (cs : List Case)
     → rows_apart (constant n c.word ∷ T c.table) ≡ true → (b : Bool) → same_text c.word s ≡ b
     → (same_text c.word s ≡ false → rows_sound T (constant n s ∷ case_rows T cs s) ≡ true)
@@ -147,7 +147,7 @@ pick_case T W n s c cs h true q g =
     and_from (rows_apart (constant n s ∷ T c.table)) (every (row_sound T) (T c.table)) h p.1
 pick_case T W n s c cs h false q g = g q
 
--- the rows of an object with a tag are sound, by each text that the tag may have
+-- the rows of an object with a tag are sound, for each text that the tag may have
 pub case_sound : (T : Tables) (W : tables_sound T ≡ true) (n s : List ℕ) (cs : List Case)
     → Each (λ (c : Case). rows_apart (constant n c.word ∷ T c.table) ≡ true) cs → is_case cs s ≡ true
     → rows_sound T (constant n s ∷ case_rows T cs s) ≡ true
@@ -156,7 +156,7 @@ case_sound T W n s (c ∷ cs) h e =
     pick_case T W n s c cs h.0 (same_text c.word s) refl
     (λ q. case_sound T W n s cs h.1 (ap (λ b. b || is_case cs s) (sym q) ∙ e))
 
--- where a tree gives a choice by a tag, it is a text of the tag's set, and the choice is by that text
+-- if a node gives a choice of rows by a tag, it is a text that the tag may have, and the choice is by that text
 pub tag_case : (cs : List Case) (t : Tree) (c : Choice) → tag_choice cs t ≡ Some c
     → (s : List ℕ) × (c ≡ tag s) × (is_case cs s ≡ true) × (t ≡ text s)
 tag_case cs (text s) c h = pick (is_case cs s) refl h

@@ -1,4 +1,4 @@
--- What is read of a tree and stays is read again from what it is written as: for all kinds and trees.
+-- A form that is read from a node and stays is unchanged when it is written and read again: for all kinds and nodes.
 use Rattle.std.proofs.Common.{ℕ, Bool, true, false, not, cond, List, [], ◌∷◌, Some, None, ◌≡◌, refl, sym, ap, ◌∙◌}
 use Rattle.std.proofs.Common.{subst, codes}
 use Rattle.std.proofs.lemmas.Bool.{and_parts, and_from, both_ways, not-true}
@@ -33,11 +33,11 @@ is_any_eq : (s : Sort) → is_any s ≡ true → s ≡ any_sort
 is_any_eq any_sort h = refl
 is_any_eq s h = cc
 
--- a test that all sorts are found to pass is passed by every sort
+-- a test that all sorts in the list of sorts pass is passed by every sort
 pub sort_in : (p : Sort → Bool) → every p sorts ≡ true → (s : Sort) → p s ≡ true
 sort_in p h s = each_sort p (every_each p sorts h) s
 
--- a tag is found again
+-- for what the rows of a tag write, the same rows are chosen again
 pub tag_again : (T : Tables) (n : List ℕ) (cs : List Case) (u : List ℕ) (fs : List Form) → is_case cs u ≡ true
     → rows_apart (rows_of T (tagged n cs) (tag u)) ≡ true → OwnWrites T (rows_of T (tagged n cs) (tag u)) fs
     → choice (tagged n cs) (members_for T (rows_of T (tagged n cs) (tag u)) fs) ≡ Some (tag u)
@@ -47,7 +47,7 @@ tag_again T n cs u (f ∷ fs) h a g =
     let p = found T (constant n u ∷ case_rows T cs u) (f ∷ fs) a g in
     ap (λ l. tag_choice cs (first_tree l)) p.0 ∙ ap (λ b. cond b (Some (tag u)) None) h
 
--- the sort of a schema is found again
+-- what a schema is written as has the sort of the schema. For `any_sort`, this is assumed
 sort_kept : (T : Tables) (pre : List Row) (s : Sort) (es : List (Entry Tree)) → names_fit pre s ≡ true
     → rows_apart (join pre (sort_rows s)) ≡ true
     → OwnWrites T (join pre (sort_rows s)) (each (slot_in T es) (join pre (sort_rows s)))
@@ -65,7 +65,7 @@ sort_kept T pre s es n a g false e h st =
     (Each_behind (λ w. own w l ≡ row_print w (printed T (slot_in T es w))) pre (sort_rows s)
     (rewrites T es l ws (found T ws fs a g))) e h
 
--- a schema that stays and is of the sort that holds anything is written as one of that sort
+-- a schema of `any_sort` that stays is written as a schema of `any_sort`
 any_kept : (T : Tables) (k : Kind) (s : Sort) (es : List (Entry Tree)) (fs : List Form) → choice k es ≡ Some (sort s)
     → choice_stays T k (sort s) fs ≡ true → is_any s ≡ true
     → is_any (sort_of (members_for T (rows_of T k (sort s)) fs)) ≡ true
@@ -140,7 +140,7 @@ chosen_again T W a_schema_kind c es s h g w st =
     (subst (λ d. choice_stays T a_schema_kind d (each (slot_in T es) (rows_of T a_schema_kind d)) ≡ true) (sym p) st))
 chosen_again T W x c es s h g w st = cc
 
--- no row of an object that may stand under a reference takes `$ref`
+-- no row that the text of a tag selects takes `$ref`, if no row of the tables of the tag does
 spare_cases : (T : Tables) (cs : List Case) (u : List ℕ) → every (λ c. spares_ref (T c.table)) cs ≡ true
     → spares_ref (case_rows T cs u) ≡ true
 spare_cases T [] u h = refl
@@ -177,7 +177,7 @@ rows_keep T W a_schema c es u h = let p : sort (sort_of es) ≡ c = cc in
     (spares_keeps (rows_of T a_schema (sort (sort_of es))) (schema_spares_ref T W (sort_of es)))
 rows_keep T W k c es u h = cc
 
--- an object of a table is written as no text
+-- under the kind of a table, a node that is not a string is not written as a string
 text_of_object : (T : Tables) (i : TableName) (t : Tree) (f : Form) → Taken T (by i) t f → text_in t ≡ None
     → text_in (print T (by i) f) ≡ None
 text_of_object T i t f (as_leaf j u e) h = h
@@ -215,7 +215,7 @@ first_none : (xs ys : List (Entry Tree)) → text_in (first_tree xs) ≡ None �
 first_none [] ys h g = g
 first_none (x ∷ xs) ys h g = h
 
--- a row writes no text under `$ref` where there was none
+-- members that a row takes have no string at `$ref`, if the row does not take that name
 untaken_none : (w : Row) (xs : List (Entry Tree)) → not (takes w (codes "$ref")) ≡ true → TakesAll w xs
     → text_in (held (codes "$ref") xs) ≡ None
 untaken_none w xs h g = ap (λ l. text_in (first_tree l))
@@ -277,7 +277,7 @@ object_no_reference T W k c es s h u g st r =
     ∙ ap (λ l. text_in (held (codes "$ref") l)) (members_list-of (members_for T (rows_of T k c) fs))
     ∙ rows_none T (rows_of T k c) es (every_each keeps_ref (rows_of T k c) (rows_keep T W k c es u h)) w r
 
--- a map that may stand under a reference is one of objects of a table
+-- a map that may be used in `ref_to` and has no string at `$ref` is also written without one
 map_under_ref : (T : Tables) (k : Kind) (es : List (Entry Tree)) → under_ref T (map_of k) ≡ true
     → text_in (held (codes "$ref") es) ≡ None → text_in (held (codes "$ref") (each (cleaned T k) es)) ≡ None
 map_under_ref T (by i) es u h = map_no_reference T i es h
@@ -304,7 +304,7 @@ no_reference T W k t f (as_fields j c ms e) g s st r h =
     (object_no_reference T W j c es s e r g (subst (λ x. stays T j x ≡ true) p st) h)
 no_reference T W k t f x g s st r h = cc
 
--- a tree that a sound kind reads to what stays is read again from what that is written as
+-- if the form of a node under a sound kind stays, it is unchanged when it is written and read again
 pub read_again : (T : Tables) (W : tables_sound T ≡ true) (t : Tree) → Good T t
 read_again T W t =
     by_trees (Good T)

@@ -1,4 +1,4 @@
--- What rows read of members, written and read again.
+-- What rows read from members, written and read again.
 use Rattle.std.proofs.Common.{ℕ, Bool, true, false, not, cond, ◌&&◌, List, [], ◌∷◌, Option, Some, None, ◌≡◌, refl, sym}
 use Rattle.std.proofs.Common.{ap, ◌∙◌, subst}
 use Rattle.std.proofs.lemmas.Bool.{and_parts}
@@ -20,18 +20,18 @@ use Rattle.openapi_tables.proofs.RowLaws.{TakesAll}
 use Rattle.openapi_tables.proofs.SlotLaws.{Good, Settled, settled_default, settled_value}
 use Rattle.openapi_tables.proofs.SoundLaws.{sound_pick}
 
--- a form that stays is read again from what it is written as
+-- a form that stays is unchanged when it is written and read again
 abbrev pub Back : (T : Tables) → Kind → Form → Type 0
 Back T k f = stays T k f ≡ true → again T k f ≡ f
 
--- what is checked of the entries of a map that stays
+-- if the check of the entries of a map passes, each of its values stays
 stays_pairs : (T : Tables) (k : Kind) (es : List (Pair Form))
     → every (λ (e : Pair Checks). e.value.answer k) (each (on_pair (show (face_stays T))) es) ≡ true
     → Each (λ (e : Pair Form). stays T k e.value ≡ true) es
 stays_pairs T k [] h = tt
 stays_pairs T k (e ∷ es) h = let p = and_parts _ _ h in (p.0, stays_pairs T k es p.1)
 
--- where a map stays, each of its values does
+-- if a map stays, each of its values does
 pub stays-map : (T : Tables) (k : Kind) (es : List (Pair Form)) → stays T (map_of k) (named (named_of es)) ≡ true
     → Each (λ (e : Pair Form). stays T k e.value ≡ true) es
 stays-map T k es h =
@@ -45,7 +45,8 @@ pair a x = record { key = a; value = x }
 same_pair : (a b : Key) (x y : Form) → a ≡ b → x ≡ y → pair a x ≡ pair b y
 same_pair a b x y p q = ap (λ c. pair c x) p ∙ ap (λ z. pair b z) q
 
--- entries are printed and read as the same, where each key is read again from its name and each value from its print
+-- entries are unchanged when they are written and read again, if each key is read again from its name and each value
+-- from its node
 pub around_same : (T : Tables) (g : List ℕ → Key) (k : Kind) (m : List (Pair Form))
     → Each (λ (e : Pair Form). g (text_of_key e.key) ≡ e.key) m
     → Each (λ (e : Pair Form). again T k e.value ≡ e.value) m
@@ -55,7 +56,7 @@ around_same T g k (e ∷ m) h v =
     ap (λ x. x ∷ each (pair_of T g k) (each (entry_of T k) m)) (same_pair _ _ _ _ h.0 v.0)
     ∙ ap (λ l. e ∷ l) (around_same T g k m h.1 v.1)
 
--- what holds of keys and values of entries holds of the keys
+-- what holds for the keys and values of entries holds for the keys
 pub both_keys : (K : Key → Type 0) (V : Form → Type 0) (m : List (Pair Form)) → Each (Both K V) m
     → Each (λ (e : Pair Form). K e.key) m
 both_keys K V m h = each_under (λ (e : Pair Form) (x : Both K V e). x.0) m h
@@ -65,7 +66,7 @@ pub back_values : (T : Tables) (k : Kind) (K : Key → Type 0) (m : List (Pair F
 back_values T k K [] h s = tt
 back_values T k K (e ∷ m) h s = (h.0.1 s.0, back_values T k K m h.1 s.1)
 
--- the entries that a class reads of a list of members
+-- the entries that a class reads from a list of members
 abbrev pub class_read : (T : Tables) → Class → Kind → List (Entry Tree) → List (Pair Form)
 class_read T c k es = gather c (each (pair_of T (key_in c) k) es)
 
@@ -89,7 +90,7 @@ class_back T c k es h v s =
     (back_values T k K (class_read T c k es) both s))
     ∙ gather-gathered c (class_read T c k es) (Gathered-gather c (each (pair_of T (key_in c) k) es))
 
--- the keys of a class: each is written as a name of the class, and read again from it
+-- a key is written as a name of the class, and read again from it
 abbrev pub Keyed : Class → Key → Type 0
 Keyed c n = (key_in c (text_of_key n) ≡ n) × (in_class c (text_of_key n) ≡ true)
 
@@ -99,7 +100,7 @@ keyed_status n (Some c) e h =
     let p = code_of-text_of c (writable-code_of n c e) in
     (ap (code_key (text_of c)) p, ap is_code p)
 
--- the key that a name of a class is, is written as a name of the class and read again from it
+-- the key of a name in a class is written as a name of the class and read again from it
 pub keyed : (c : Class) (n : List ℕ) → in_class c n ≡ true → Keyed c (key_in c n)
 keyed status_names n h = keyed_status n (code_of n) refl h
 keyed c n h = (refl, h)
@@ -108,7 +109,8 @@ good_values : (T : Tables) (k : Kind) → sound T k ≡ true → (es : List (Ent
     → Each (λ (e : Entry Tree). Good T e.value) es → Each (λ (e : Entry Tree). Back T k (form T k e.value)) es
 good_values T k s es h = each_under (λ (e : Entry Tree) (x : Good T e.value). x k s) es h
 
--- a row of a class takes the members that entries are printed as whose keys are of the class
+-- a row of a class takes the members that entries are written as, if their keys are written as names of the class and
+-- read again
 pub takes_keyed : (T : Tables) (c : Class) (m : List (Pair Form)) (k : Kind)
     → Each (λ (e : Pair Form). Keyed c e.key) m → TakesAll (class c k) (each (entry_of T k) m)
 takes_keyed T c [] k h = tt
@@ -148,7 +150,7 @@ settled_first : (T : Tables) (n : List ℕ) (m : Mode) (k : Kind) (t : Tree) →
 settled_first T n m k t g true e h s = settled_default T n m k g
 settled_first T n m k t g false e h s = settled_value T n m k t g e (h s) _ refl
 
--- the slot that a row reads of the members that it takes
+-- a sound row takes what it writes for the slot that it reads, and reads that slot again, if the slot stays
 pub settled_row : (T : Tables) (w : Row) (es : List (Entry Tree)) → row_sound T w ≡ true → TakesAll w es
     → Each (λ (e : Entry Tree). Good T e.value) es
     → row_stays w (show (face_stays T) (slot_of_own w (reads T es))) ≡ true → Settled T w (slot_of_own w (reads T es))

@@ -1,4 +1,4 @@
--- What is read of what a proper form is written as stays: for all kinds and forms.
+-- A proper form that is written and read again stays: for rows.
 use Rattle.openapi_tables.proofs.PlainLaws.{plain_no_object}
 use Rattle.std.proofs.Common.{ℕ, Bool, true, false, not, cond, ◌&&◌, ◌||◌, List, [], ◌∷◌, ◌≡◌, refl, ap, ◌∙◌, subst}
 use Rattle.std.proofs.Common.{⊎_elim}
@@ -28,15 +28,15 @@ use Rattle.openapi_tables.proofs.TreeLaws.{Inside, by_trees}
 use Rattle.openapi_node.specs.Tree.{Tree, text}
 use Rattle.openapi_tables.proofs.SoundLaws.{sound_pick}
 
--- a proper form is written as a tree of which what is read stays
+-- if a form is proper for a sound kind, it stays when it is written and read again
 abbrev pub Calm : (T : Tables) → Form → Type 0
 Calm T f = (k : Kind) → sound T k ≡ true → proper T k f ≡ true → stays T k (again T k f) ≡ true
 
--- kinds with no schema inside
+-- the form that is read from a node under a plain kind stays
 abbrev pub PlainStays : (T : Tables) → Tree → Type 0
 PlainStays T t = (k : Kind) → is_plain k ≡ true → stays T k (form T k t) ≡ true
 
--- a sequence stays where each of its forms does
+-- a sequence stays if each of its forms does
 pub list_stays : (T : Tables) (k : Kind) (fs : List Form) → Each (λ (f : Form). stays T k f ≡ true) fs
     → stays T (list_of k) (sequence (forms_of fs)) ≡ true
 list_stays T k fs h = ap (λ (l : List Checks). every (λ (x : Checks). x.answer k) l) (of_forms-of (face_stays T) fs)
@@ -55,7 +55,7 @@ plain_step T k t f (as_fields j c ms e) g h = absurd (plain_no_object j c (membe
 plain_step T k t f (as_inner j u x y) g h = stays-null_or T j x ∙ plain_step T j u x y g h
 plain_step T k t f x g h = cc
 
--- what is read of a tree under a plain kind stays
+-- the form that is read from a node under any plain kind stays
 pub plain_stays : (T : Tables) (t : Tree) → PlainStays T t
 plain_stays T t = by_trees (PlainStays T) (λ u g k h. plain_step T k u (form T k u) (taken T k u) g h) t
 
@@ -63,7 +63,7 @@ pub is_calm : Kind → Bool
 is_calm (format ws b) = true
 is_calm k = is_plain k
 
--- what is read of a tree as the name of a format stays
+-- the form that is read from a node as the name of a format stays
 pub format_stays : (T : Tables) (ws : List (List ℕ)) (b : Bool) (t : Tree)
     → stays T (format ws b) (form T (format ws b) t) ≡ true
 format_stays T ws b (text s) = at (has ws s)
@@ -78,7 +78,7 @@ unfolding is_calm
 calm_stays T (format ws b) t h = format_stays T ws b t
 calm_stays T k t h = plain_stays T t k h
 
--- one row, that reads what a row of that name and kind writes
+-- the slot that a row of one name reads from its member stays, if the form of a member other than null does
 value_stays : (T : Tables) (m : Mode) (k : Kind) (t : Tree) → mode_fits m k ≡ true
     → (is_null t ≡ false → stays T k (form T k t) ≡ true) → (b : Bool) → is_null t ≡ b
     → stays T k (cond b (default_of m k) (form T k t)) ≡ true
@@ -144,18 +144,19 @@ row_calm T (class c k) (named es) s g h =
     ∙ class_stays T c k es s g.1 (of_class_entries T c k es h)
 row_calm T w f s g h = cc
 
--- what each row reads of a list of members stays
+-- the slot that each row reads from a list of members stays
 abbrev pub StayAll : (T : Tables) → List (Entry Tree) → List Row → Type 0
 StayAll T l ws = Each (λ w. row_stays w (show (face_stays T) (slot_in T l w)) ≡ true) ws
 
--- where what each row reads stays, all slots of the rows are found to stay
+-- if the slot that each row reads stays, the check of all slots of the rows passes
 pub from_stay_all : (T : Tables) (l : List (Entry Tree)) (ws : List Row) → StayAll T l ws
     → rows_stay ws (each (show (face_stays T)) (each (slot_in T l) ws)) ≡ true
 from_stay_all T l [] h = refl
 from_stay_all T l (w ∷ ws) h = and_from (row_stays w (show (face_stays T) (slot_in T l w))) _ h.0
     (from_stay_all T l ws h.1)
 
--- what sound rows read of what they write stays, if the slots are proper and the forms and those inside are calm
+-- the slots that sound rows read from what they write stay, if they write proper slots, and these and the forms
+-- directly inside are calm (`Calm`)
 pub rows_calm : (T : Tables) (l : List (Entry Tree)) (ws : List Row) (fs : List Form)
     → Each (λ w. row_sound T w ≡ true) ws → Each (Deep (Calm T)) fs → SlotsProper T ws fs → Found T l ws fs
     → StayAll T l ws
@@ -167,8 +168,8 @@ rows_calm T l (w ∷ ws) (f ∷ fs) s g h o = (
   rows_calm T l ws fs s.1 g.1 h.1 o.1,
 )
 
--- rows of a sort that read what the rows of the sort that holds anything write: of the same kind, or with no schema
--- inside
+-- whether two kinds are the same, and are schemas, or references, lists or maps of schemas. A row of a sort that reads
+-- what a row of `any_sort` writes has the same such kind, or a kind with no schema inside
 same_kind : Kind → Kind → Bool
 same_kind a_schema a_schema = true
 same_kind flag_or_schema flag_or_schema = true
@@ -193,7 +194,8 @@ some_gives : List Row → List ℕ → Kind → Bool
 some_gives [] n k = false
 some_gives (w ∷ ws) n k = row_gives w n k || some_gives ws n k
 
--- whether a row is a tag, has no schema inside, or reads what one of `any_rows` of its name and kind writes
+-- whether a row is that of a constant text, has a kind with no schema inside (`is_calm`), or has the name and the kind
+-- of one of `any_rows`
 pub deep_ok : Row → Bool
 deep_ok (row n m k) = is_calm k || some_gives any_rows n k
 deep_ok (constant n v) = true
@@ -249,7 +251,7 @@ deep_row T l fs (row n m k) d s g h o =
     (or_cases (is_calm k) (some_gives any_rows n k) d)
 deep_row T l fs v d s g h o = cc
 
--- what sound rows that pass it read of what `any_rows` write for proper and calm forms stays
+-- what sound rows that pass the test read from what `any_rows` write for proper and calm forms stays
 pub deep_rows : (T : Tables) (l : List (Entry Tree)) (fs : List Form) (vs : List Row) → every deep_ok vs ≡ true
     → Each (λ w. row_sound T w ≡ true) vs → Each (Deep (Calm T)) fs → SlotsProper T any_rows fs
     → Found T l any_rows fs → StayAll T l vs

@@ -1,4 +1,4 @@
--- What is read of a tree and is read again from what it is written as stays: rows.
+-- A form that is read from a node, and is unchanged when it is written and read again, stays: for rows.
 use Rattle.openapi_tables.proofs.RowLaws.{takes_cond}
 use Rattle.std.proofs.Common.{ℕ, Bool, true, false, not, cond, ◌&&◌, List, [], ◌∷◌, ◌≡◌, refl, sym, ap, ◌∙◌, subst}
 use Rattle.std.proofs.lemmas.Bool.{and_parts, and_from}
@@ -21,11 +21,11 @@ use Rattle.openapi_tables.proofs.SlotLaws.{not_null, silent_default}
 use Rattle.openapi_tables.proofs.again.RowsBack.{Keyed, keyed, takes_keyed, both_keys, class_read}
 use Rattle.openapi_tables.proofs.SoundLaws.{sound_pick}
 
--- a tree that a sound kind reads to what is read again, is read to what stays
+-- if the form of a node under a sound kind is unchanged when it is written and read again, it stays
 abbrev pub Firm : (T : Tables) → Tree → Type 0
 Firm T t = (k : Kind) → sound T k ≡ true → again T k (form T k t) ≡ form T k t → stays T k (form T k t) ≡ true
 
--- a form that is read again stays
+-- a form that is unchanged when it is written and read again stays
 abbrev pub Forth : (T : Tables) → Kind → Form → Type 0
 Forth T k f = again T k f ≡ f → stays T k f ≡ true
 
@@ -44,7 +44,7 @@ class_written : (T : Tables) (c : Class) (k : Kind) (m : List (Pair Form))
     → row_print (class c k) (printed T (named (named_of m))) ≡ each (entry_of T k) m
 class_written T c k m = ap members_in (print-map T k m) ∙ members_list-of (each (entry_of T k) m)
 
--- a row takes all that it writes for what it reads of members that it takes
+-- a row takes all that it writes for what it reads from members that it takes
 pub takes_written : (T : Tables) (w : Row) (es : List (Entry Tree)) → TakesAll w es
     → TakesAll w (row_print w (printed T (slot_of_own w (reads T es))))
 takes_written T (row n m k) es h = takes_cond n m k _ _
@@ -57,12 +57,12 @@ takes_written T (class c k) es h =
     (takes_keyed T c (class_read T c k es) k (keys_of T c k es h))
 takes_written T (constant n v) es h = (same_text-refl n, tt)
 
--- each row takes all that it writes for what it reads of a list of members, whatever they are
+-- each row takes all that it writes for what it reads from a list of members, whatever they are
 pub writes_own : (T : Tables) (ws : List Row) (es : List (Entry Tree)) → OwnWrites T ws (each (slot_in T es) ws)
 writes_own T [] es = tt
 writes_own T (w ∷ ws) es = (takes_written T w (own w es) (Each-only _ es), writes_own T ws es)
 
--- the slot that a row reads where nothing stands is one that stays
+-- the default of a row stays
 pub stays-default : (T : Tables) (m : Mode) (k : Kind) → mode_fits m k ≡ true → stays T k (default_of m k) ≡ true
 stays-default T required k h = cc
 stays-default T m (list_of k) h = cc
@@ -89,7 +89,8 @@ firm_first : (T : Tables) (n : List ℕ) (m : Mode) (k : Kind) (t : Tree) → mo
 firm_first T n m k t g s f true e q = stays-default T m k g
 firm_first T n m k t g s f false e q = firm_value T n m k t g s f e _ refl q
 
--- the keys of a map alone say whether they are distinct
+-- if a key differs from the keys of entries, it still does after these are written and read again, where each key is
+-- read again
 same_apart : (T : Tables) (n : Key) (k : Kind) (g : List ℕ → Key) (m : List (Pair Form))
     → Each (λ (e : Pair Form). g (text_of_key e.key) ≡ e.key) m → Each (λ (d : Pair Form). same_key n d.key ≡ false) m
     → Each (λ (d : Pair Form). same_key n d.key ≡ false) (each (pair_of T g k) (each (entry_of T k) m))
@@ -112,13 +113,13 @@ same_gathered : (T : Tables) (c : Class) (k : Kind) (m : List (Pair Form))
 same_gathered T status_names k m h d = same_distinct T k (key_in status_names) m h d
 same_gathered T c k m h d = tt
 
--- where entries are printed and read as the same, each value is read again from its print
+-- if entries are unchanged when they are written and read again, each value is
 pub values_back : (T : Tables) (k : Kind) (g : List ℕ → Key) (m : List (Pair Form))
     → each (pair_of T g k) (each (entry_of T k) m) ≡ m → Each (λ (e : Pair Form). again T k e.value ≡ e.value) m
 values_back T k g [] h = tt
 values_back T k g (e ∷ m) h = (cc, values_back T k g m cc)
 
--- a map stays where each of its values does
+-- a map stays if each of its values does
 pub stays_values : (T : Tables) (k : Kind) (m : List (Pair Form))
     → Each (λ (e : Pair Form). stays T k e.value ≡ true) m → stays T (map_of k) (named (named_of m)) ≡ true
 stays_values T k m h = ap (λ (l : List (Pair Checks)). every (λ (e : Pair Checks). e.value.answer k) l)
@@ -180,7 +181,7 @@ firm_class T c k es s h g q =
 deciding_same : (n : List ℕ) (f g : Form) → deciding n f ≡ deciding n g → f ≡ g
 deciding_same n f g h = cc
 
--- a row that reads its slot again has a slot that stays
+-- the slot of a sound row stays, if the row reads it again from what it writes for it
 pub firm_row : (T : Tables) (w : Row) (es : List (Entry Tree)) → row_sound T w ≡ true → TakesAll w es
     → Each (λ (e : Entry Tree). Firm T e.value) es
     → slot_of_own w (reads T (row_print w (printed T (slot_of_own w (reads T es))))) ≡ slot_of_own w (reads T es)

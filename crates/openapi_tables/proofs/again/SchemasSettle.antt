@@ -1,4 +1,4 @@
--- What is read of what a proper form is written as stays: schemas.
+-- A proper form that is written and read again stays: for schemas.
 use Rattle.std.proofs.Common.{true, false, List, [], ◌∷◌, Some, ◌≡◌, refl, sym, ap, ◌∙◌, subst}
 use Rattle.std.proofs.lemmas.Bool.{and_parts, and_from, both_ways}
 use Rattle.openapi_tables.specs.Prelude.{Kind, Tables, Row, a_schema, a_schema_kind, choice, schema_data, row_holds, Form, Pair}
@@ -35,7 +35,7 @@ all_deep P h fs = each_all (λ f. by_forms (Deep P) (λ g w. (h g, deep_within P
     deep_within P h (fields c fs) = each_all h (forms_list fs)
     deep_within P h g = tt
 
--- the slots of the rows behind others
+-- the forms for which rows after other rows write. They are calm (`Calm`) and proper, and the rows find what they write
 pub record Behind (T : Tables) (l : List (Entry Tree)) (ws : List Row) : Type 0 where
   pub forms : List Form
   pub calm : Each (Deep (Calm T)) forms
@@ -48,12 +48,13 @@ rows_behind T l [] ws fs g h o = record { forms = fs; calm = g; slots = h; finds
 rows_behind T l (w ∷ pre) ws [] g h o = absurd h
 rows_behind T l (w ∷ pre) ws (f ∷ fs) g h o = rows_behind T l pre ws fs g.1 h.1 o.1
 
--- what holds of each element of two lists in a row holds of each of the first
+-- what holds for each element of a concatenation holds for each element of the first list
 pub front : {A : Type 0} → (P : A → Type 0) (xs ys : List A) → Each P (join xs ys) → Each P xs
 front P [] ys h = tt
 front P (x ∷ xs) ys h = (h.0, front P xs ys h.1)
 
--- what is read of what a schema writes
+-- the slots that are read by the sort of the members `l` stay. If that sort is `any_sort`, they are written as members
+-- of `any_sort`
 abbrev pub Kept : (T : Tables) → List Row → List (Entry Tree) → Type 0
 Kept T pre l = StayAll T l (join pre (sort_rows (sort_of l)))
     × (is_any (sort_of l) ≡ true
@@ -61,7 +62,7 @@ Kept T pre l = StayAll T l (join pre (sort_rows (sort_of l)))
     (sort_of
     (members_for T (join pre (sort_rows any_sort)) (each (slot_in T l) (join pre (sort_rows any_sort))))) ≡ true)
 
--- what is known of the rows of a schema, and of the forms that it writes
+-- what is known about the rows of a schema, and about the forms that they write
 abbrev pub Fits : (T : Tables) → List Row → Sort → List Form → Type 0
 Fits T pre s fs = (names_fit pre s ≡ true) × (rows_apart (join pre (sort_rows s)) ≡ true)
     × Each (λ w. row_sound T w ≡ true) (join pre (sort_rows s))
@@ -119,8 +120,8 @@ pub kept : (T : Tables) (W : tables_sound T ≡ true) (pre : List Row) (s : Sort
 kept T W pre any_sort fs g f = any_kept_too T W pre fs g f
 kept T W pre s fs g f = typed_kept T W pre s fs refl g f
 
--- what is read by the sort of members stays where its slots do, if members of the sort that holds anything are written as
--- members of that sort
+-- the form that is read by the sort of members stays if its slots do, and members of `any_sort` are written as members
+-- of `any_sort`
 sort_calm : (T : Tables) (k : Kind) (l : List (Entry Tree)) → choice k l ≡ Some (sort (sort_of l))
     → StayAll T l (rows_of T k (sort (sort_of l)))
     → (is_any (sort_of l) ≡ true
@@ -150,7 +151,8 @@ pub schema_calm : (T : Tables) (l : List (Entry Tree)) → Kept T (T schema_data
 unfolding rows_of
 schema_calm T l h = sort_calm T a_schema l refl h.0 h.1
 
--- what is read of what a proper form of `a_schema` is written as stays, if the forms in its slots are calm
+-- the form that is read from what a proper form of `a_schema` is written as stays, if the forms in its slots are calm
+-- (`Calm`)
 pub schema_form_calm : (T : Tables) (W : tables_sound T ≡ true) (s : Sort) (fs : List Form)
     → Written T a_schema (sort s) fs → Each (Deep (Calm T)) fs
     → stays T a_schema (form T a_schema (object (members_of (members_for T (rows_of T a_schema (sort s)) fs)))) ≡ true
@@ -163,7 +165,8 @@ pub kind_calm : (T : Tables) (l : List (Entry Tree)) → Kept T [] l
 unfolding rows_of
 kind_calm T l h = sort_calm T a_schema_kind l refl h.0 h.1
 
--- what is read of what a proper form of `a_schema_kind` is written as stays, if the forms in its slots are calm
+-- the form that is read from what a proper form of `a_schema_kind` is written as stays, if the forms in its slots are
+-- calm
 pub kind_form_calm : (T : Tables) (W : tables_sound T ≡ true) (s : Sort) (fs : List Form)
     → Written T a_schema_kind (sort s) fs → Each (Deep (Calm T)) fs
     → stays T a_schema_kind

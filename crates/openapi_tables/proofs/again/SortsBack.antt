@@ -1,4 +1,4 @@
--- The sort of what a schema of a sort is written as.
+-- The sort of the members that a schema of a sort is written as.
 use Rattle.openapi_tables.proofs.TreeLaws.{null_tree}
 use Rattle.std.proofs.Common.{ℕ, Bool, true, false, not, cond, ◌||◌, List, [], ◌∷◌, ◌≡◌, refl, sym, ap, ◌∙◌, subst}
 use Rattle.std.proofs.Common.{codes}
@@ -20,12 +20,12 @@ use Rattle.openapi_tables.proofs.SlotLaws.{not_null}
 use Rattle.openapi_tables.proofs.SortLaws.{Rewrites, further_again, names_held, each_name}
 use Rattle.openapi_tables.proofs.SortShown.{Others, Shows, chain, possible_shown, sort_from, type_word}
 
--- a sort but the one that holds anything is the possible one, and meets its conditions
+-- if the result of the test is a sort other than `any_sort`, it is the possible sort, and the test passed
 sort_parts : (b : Bool) (c s : Sort) → cond b c any_sort ≡ s → is_any s ≡ false → (c ≡ s) × (b ≡ true)
 sort_parts true c s h g = (h, refl)
 sort_parts false c s h g = absurd (both_ways (is_any s) g (ap is_any (sym h)))
 
--- of members of a sort but the one that holds anything, that sort is the possible one, and is met
+-- if members have a sort other than `any_sort`, it is their possible sort, and they meet it
 pub sort_meets : (es : List (Entry Tree)) (s : Sort) → sort_of es ≡ s → is_any s ≡ false
     → (possible_sort (held (codes "type") es) es ≡ s) × (meets s es ≡ true)
 sort_meets es s h g =
@@ -53,7 +53,7 @@ named_is s =
     (either_named (same_text s (codes "object")) _ _ refl
     (either_named (same_text s (codes "array")) _ _ refl refl)))))
 
--- which of the four names is present, by the sort
+-- which of `oneOf`, `allOf`, `anyOf` and `not` is present, by the sort
 abbrev pub picked : Sort → Bool → Bool → Bool → Bool → Type 0
 picked one_of_sort a b c d = a ≡ true
 picked all_of_sort a b c d = b ≡ true
@@ -76,7 +76,7 @@ named_picks any_of_sort a b c d h = cc
 named_picks not_sort a b c d h = cc
 named_picks s a b c d h = tt
 
--- where the possible sort is that of one of the four names, a member of that name is present
+-- if the possible sort is that of one of the four names, a member of that name is present
 possible_picks : (t : Tree) (es : List (Entry Tree))
     → picked (possible_sort t es) (is_present es (codes "oneOf")) (is_present es (codes "allOf"))
     (is_present es (codes "anyOf")) (is_present es (codes "not"))
@@ -85,12 +85,12 @@ possible_picks null es = chain_picks (is_present es (codes "oneOf")) (is_present
 possible_picks (text s) es = named_picks (named_sort s) _ _ _ _ (named_is s)
 possible_picks t es = tt
 
--- which of the four names is present among members, by their sort
+-- which of the four names is present among members, given a sort
 abbrev pub Picks : Sort → List (Entry Tree) → Type 0
 Picks s es = picked s (is_present es (codes "oneOf")) (is_present es (codes "allOf")) (is_present es (codes "anyOf"))
     (is_present es (codes "not"))
 
--- where members have the sort of one of the four names, a member of that name is present
+-- if members have the sort of one of the four names, a member of that name is present
 pub picks_of : (es : List (Entry Tree)) (s : Sort) → is_any s ≡ false → sort_of es ≡ s → Picks s es
 picks_of es s a e = subst (λ x. Picks x es) (sort_meets es s e a).0 (possible_picks (held (codes "type") es) es)
 
@@ -118,7 +118,7 @@ type_again : (T : Tables) (w : List ℕ) (es l : List (Entry Tree))
     (printed T (slot_in T es (constant (codes "type") w))) → held (codes "type") l ≡ text w
 type_again T w es l e = ap first_tree e
 
--- what a schema of a sort is written as shows the sort
+-- what a schema of a sort is written as shows the sort (`Shows`)
 shown_again : (T : Tables) (s : Sort) (es l : List (Entry Tree)) → Rewrites T es l (sort_rows s) → is_any s ≡ false
     → Picks s es → Shows s l
 unfolding sort_rows any_rows string_rows object_rows array_rows boolean_rows
@@ -129,7 +129,7 @@ shown_again T not_sort es l h a p = present_again T (codes "not") schema_ref es 
 shown_again T any_sort es l h a p = cc
 shown_again T s es l h a p = type_again T (type_word s) es l h.0
 
--- what a schema of a sort with rows of its own is written as has that sort
+-- what a schema of a sort other than `any_sort` is written as has that sort
 pub sort_again : (T : Tables) (pre : List Row) (s : Sort) (es : List (Entry Tree)) (fs : List Form)
     → names_fit pre s ≡ true → OwnWrites T (join pre (sort_rows s)) fs
     → Rewrites T es (members_for T (join pre (sort_rows s)) fs) (sort_rows s) → is_any s ≡ false → sort_of es ≡ s

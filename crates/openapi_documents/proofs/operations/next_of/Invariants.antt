@@ -3,7 +3,7 @@ use Rattle.openapi_tables.specs.Lists.{join}
 use Rattle.openapi_documents.specs.AllOperations.{left_under, operations_under}
 use Rattle.openapi_documents.proofs.operations.next_of.Given as goal
 
--- what is left is what was left at first
+-- the operations that are left are those that were left before the loop
 abbrev pub invariant-loop-found : goal.invariant-loop-found
 invariant-loop-found l =
     join (left_under l.path.now l.under) (operations_under l.paths)

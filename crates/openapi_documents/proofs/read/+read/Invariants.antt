@@ -8,7 +8,7 @@ use Rattle.openapi_fields.proofs.Taking.{TakenSoFar}
 use Rattle.openapi_fields.proofs.Measures.{members_left, view_left}
 use Rattle.openapi_documents.proofs.read.+read.Given as goal
 
--- the size of the tree that is left to read; and for the same tree, the caller above what it calls
+-- the size of the node that is left to read; for the same node, a caller has a greater measure than what it calls
 abbrev pub decreases-read_path_item : goal.decreases-read_path_item
 decreases-read_path_item l = view_left l.view.now 0
 

@@ -10,7 +10,7 @@ use Rattle.openapi_documents.specs.declared.callback.Callback.{out-Callback}
 use Rattle.openapi_fields.proofs.Measures.{form_left, rows_left}
 use Rattle.openapi_documents.proofs.write.+write.Given as goal
 
--- the size of the form that is left to write; and for the same form, the caller above what it calls
+-- the size of the form that is left to write; for the same form, a caller has a greater measure than what it calls
 abbrev pub decreases-write_path_item : goal.decreases-write_path_item
 decreases-write_path_item l = form_left (path_item_form l.path_item.now) 0
 

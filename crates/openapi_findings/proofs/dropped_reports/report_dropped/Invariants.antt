@@ -6,7 +6,7 @@ use Rattle.openapi_findings.specs.Stated.{statement_of}
 use Rattle.openapi_findings.proofs.Adding.{loss_of}
 use Rattle.openapi_findings.proofs.dropped_reports.report_dropped.Given as goal
 
--- what those so far state was appended
+-- the statements of those so far were appended
 abbrev pub invariant-loop-dropped : goal.invariant-loop-dropped
 invariant-loop-dropped l =
     record {

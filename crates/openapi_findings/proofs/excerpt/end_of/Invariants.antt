@@ -2,7 +2,7 @@ use Rattle.std.proofs.Common.{◌≡◌, ◌+◌, ◌-◌, ◌≤◌, drop}
 use Rattle.openapi_findings.specs.Excerpts.{front_len}
 use Rattle.openapi_findings.proofs.excerpt.end_of.Given as goal
 
--- how far the line goes on behind the bytes so far
+-- the end of the part of the line is the same, counted from the offset and from after the bytes so far
 abbrev pub invariant-loop-i : goal.invariant-loop-i
 invariant-loop-i l =
     record {

@@ -2,7 +2,7 @@ use Rattle.std.proofs.Common.{◌≡◌, ◌+◌, ◌-◌, ◌≤◌, drop, reve
 use Rattle.openapi_findings.specs.Excerpts.{back_len}
 use Rattle.openapi_findings.proofs.excerpt.start_of.Given as goal
 
--- how far the line goes back before the bytes so far
+-- the start of the part of the line is the same, counted from the offset and from before the bytes so far
 abbrev pub invariant-loop-i : goal.invariant-loop-i
 invariant-loop-i l =
     record {

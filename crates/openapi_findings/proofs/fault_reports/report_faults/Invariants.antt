@@ -6,7 +6,7 @@ use Rattle.openapi_findings.specs.Stated.{statement_of}
 use Rattle.openapi_findings.proofs.Adding.{stated_of}
 use Rattle.openapi_findings.proofs.fault_reports.report_faults.Given as goal
 
--- what those so far state was appended
+-- the statements of those so far were appended
 abbrev pub invariant-loop-fault : goal.invariant-loop-fault
 invariant-loop-fault l =
     record {

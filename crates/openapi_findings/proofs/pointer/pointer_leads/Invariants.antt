@@ -5,7 +5,7 @@ use Rattle.openapi_pointer.specs.Tokens.{tokens_in}
 use Rattle.openapi_findings.specs.Pointers.{value_at}
 use Rattle.openapi_findings.proofs.pointer.pointer_leads.Given as goal
 
--- the rest of the pointer leads from where the tokens so far lead
+-- the pointer leads where the rest of it leads from the value so far
 abbrev pub invariant-loop-token : goal.invariant-loop-token
 invariant-loop-token l =
     record {

@@ -7,7 +7,7 @@ use Rattle.openapi_findings.specs.Stated.{statement_of}
 use Rattle.openapi_findings.proofs.Adding.{stated_at}
 use Rattle.openapi_findings.proofs.reference_reports.report_references.Given as goal
 
--- what is to be reported of the references so far was appended
+-- what is to be reported about the references so far was appended
 abbrev pub invariant-loop-reference : goal.invariant-loop-reference
 invariant-loop-reference l =
     record {

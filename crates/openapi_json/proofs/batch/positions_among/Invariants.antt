@@ -6,7 +6,7 @@ use Rattle.openapi_json.specs.Points.{IsPositionAmong}
 use Rattle.openapi_json.specs.declared.position.Position.{Position}
 use Rattle.openapi_json.proofs.batch.positions_among.Given as goal
 
--- the positions so far, with those at the rest of the places, are those at all
+-- the positions so far, followed by those of the rest of the locations, are those of all locations
 abbrev pub invariant-loop-place : goal.invariant-loop-place
 invariant-loop-place l =
     (os : List (Option Position))

@@ -5,7 +5,7 @@ use Rattle.openapi_json.specs.FirstTokens.{ItemsAreFirst, MembersAreFirst}
 use Rattle.openapi_json.specs.declared.first_tokens.FirstToken.{FirstToken}
 use Rattle.openapi_json.proofs.first_tokens.+tokens.Given as goal
 
--- the first tokens so far, with those of the rest, are those of all
+-- the first tokens so far, followed by those of the rest, are those of all
 abbrev pub invariant-of_items-loop-value : goal.invariant-of_items-loop-value
 invariant-of_items-loop-value l =
     let rest = items_view (drop l.value-index l.value-items) in

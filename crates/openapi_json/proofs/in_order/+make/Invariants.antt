@@ -3,7 +3,7 @@ use Rattle.json.specs.Value.{items_view, members_view}
 use Rattle.openapi_json.specs.Ordered.{entries_of, items_whole, members_whole, trees_of}
 use Rattle.openapi_json.proofs.in_order.+make.Given as goal
 
--- what is made so far, with what is made of the rest, is what is made of all
+-- the nodes made so far, with those made of the rest, are those made of all
 abbrev pub invariant-nodes_of-loop-value : goal.invariant-nodes_of-loop-value
 invariant-nodes_of-loop-value l =
     let rest = items_view (drop l.value-index l.value-items) in

@@ -13,7 +13,7 @@ decreases-count_items l = 2 * length (flat item_tokens l.values.now) + 1
 abbrev pub decreases-count_members : goal.decreases-count_members
 decreases-count_members l = 2 * length (flat member_tokens l.members.now) + 1
 
--- what is counted, with what is left, is all
+-- the tokens counted so far, with those of the rest, are all
 abbrev pub invariant-count_items-loop-value : goal.invariant-count_items-loop-value
 invariant-count_items-loop-value l =
     l.sum + length (flat item_tokens (drop l.value-index l.values)) ≡ length (flat item_tokens l.values)

@@ -3,7 +3,7 @@ use Rattle.openapi_json.specs.Points.{points, points_from}
 use Rattle.openapi_json.specs.Scanned.{mode_of}
 use Rattle.openapi_json.proofs.points.token_points.Given as goal
 
--- the points so far, with those from the byte on, are all
+-- the points so far, followed by those from the byte on, are all
 abbrev pub invariant-loop-byte : goal.invariant-loop-byte
 invariant-loop-byte l =
     record {

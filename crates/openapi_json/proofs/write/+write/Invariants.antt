@@ -16,7 +16,7 @@ decreases-write_members l = 3 * members_size (members_of l.members.now) + 2
 abbrev pub decreases-write_standing : goal.decreases-write_standing
 decreases-write_standing l = 3 * members_size (members_of l.members.now) + 1
 
--- what is written so far, with what is left to write, is what is written of the whole
+-- the tokens written so far, followed by those of the rest, are the tokens of the whole
 abbrev pub invariant-write_items-loop-item : goal.invariant-write_items-loop-item
 invariant-write_items-loop-item l =
     record {

@@ -6,7 +6,7 @@ use Rattle.openapi_documents.specs.Documents.{document_form}
 use Rattle.openapi_listing.specs.Listed.{listed_of, stated_of}
 use Rattle.openapi_listing.proofs.operations.operations_of.Given as goal
 
--- the operations so far, and what is still to come
+-- the operations so far, and those that are left
 abbrev pub invariant-loop-path : goal.invariant-loop-path
 invariant-loop-path l =
     map listed_of l.listed.items ++ each stated_of (placed_forms l.path-iterator) ≡ each stated_of (ops (document_form l.document))

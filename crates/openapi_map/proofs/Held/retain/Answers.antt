@@ -5,7 +5,7 @@ use Rattle.openapi_map.specs.declared.lookup.Finder.{Finder}
 use Rattle.openapi_map.specs.declared.lookup.Finder.TheVariants.{Few, Many}
 use Rattle.openapi_map.proofs.Held.retain.Goals as goal
 
--- there is room for as many links as there were names
+-- there is capacity for as many links as there are names
 room : (names : List (List ℕ)) (found : Finder) (n : ℕ) → n ≤ length names → IsIndexAt names found → HasRoomFor n found
 room names (Few marks) n le is = tt
 room names (Many b) n le is = (is.some_bucket, omega (arith, le, is.len, b.value.next.ok.0))

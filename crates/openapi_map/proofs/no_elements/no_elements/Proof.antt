@@ -1,4 +1,4 @@
--- No elements are lent, and the lender stays. Assumes `Logic`.
+-- A slice of no elements is borrowed, and the value that it is borrowed from stays the same. Assumes `Logic`.
 use mathlib.Core.Path.{◌≡◌, refl}
 use Prim.Native.Nat.{ℕ}
 use lib.Dec.{lit<}
@@ -47,7 +47,7 @@ use Rattle.openapi_map.specs.contracts.no_elements.no_elements.Key.{name as #sel
 use Rattle.openapi_map.proofs.no_elements.no_elements.Statement as stated
 use Rattle.openapi_map.proofs.no_elements.no_elements.Code as code
 
--- a `&mut S` is lent on as a `&mut [R]` of no elements
+-- a `&mut S` is reborrowed as a `&mut [R]` of no elements
 module _ {M : Type 1} {𝓤 : Ura M} (𝓛 : Logic 𝓤) (ℓ : Lifetime) (κ : Lft) (q : Share) (b o : ℕ) (γ : GName) (S R : RattleType) (x : S.Denot) where
   open 𝓛 use {H, A}
 

@@ -5,7 +5,7 @@ use Rattle.openapi_media_types.specs.ContentForms.{encoding_form, header_form, m
 use Rattle.openapi_fields.proofs.Measures.{members_left, view_left}
 use Rattle.openapi_media_types.proofs.read.+read.Given as goal
 
--- the size of the tree that is left to read; and for the same tree, the caller above what it calls
+-- the size of the node that is left to read; for the same node, a caller has a greater measure than what it calls
 abbrev pub decreases-read_header_ref : goal.decreases-read_header_ref
 decreases-read_header_ref l = view_left l.view.now 1
 

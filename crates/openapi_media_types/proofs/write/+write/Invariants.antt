@@ -7,7 +7,7 @@ use Rattle.openapi_media_types.specs.Fields.{encoding_fields, header_fields, med
 use Rattle.openapi_fields.proofs.Measures.{form_left, rows_left}
 use Rattle.openapi_media_types.proofs.write.+write.Given as goal
 
--- the size of the form that is left to write; and for the same form, the caller above what it calls
+-- the size of the form that is left to write; for the same form, a caller has a greater measure than what it calls
 abbrev pub decreases-write_header_ref : goal.decreases-write_header_ref
 decreases-write_header_ref l = form_left (reference_form header_form l.value.now) 0
 

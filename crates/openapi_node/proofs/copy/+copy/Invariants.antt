@@ -3,8 +3,8 @@ use Rattle.openapi_node.specs.Tree.{size_of, items_size, members_size, items_of,
 use Rattle.openapi_node.specs.View.{shown}
 use Rattle.openapi_node.proofs.copy.+copy.Given as goal
 
--- a view is below the node that it is of, a list below the view that holds it, and a node below the list that
--- it stands in
+-- the measure of a view is less than that of its node. That of a list is less than that of the view that holds it. That of a
+-- node is less than that of the list that contains it
 abbrev pub decreases-copy_node : goal.decreases-copy_node
 decreases-copy_node l = 3 * size_of l.node.now + 1
 

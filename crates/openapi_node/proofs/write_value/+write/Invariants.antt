@@ -5,7 +5,7 @@ use Rattle.openapi_node.specs.Pairs.{pair_view, pair_data}
 use Rattle.openapi_node.specs.Tree.{size_of, items_size, members_size, items_of, members_of}
 use Rattle.openapi_node.proofs.write_value.+write.Given as goal
 
--- a list is below the node that holds it, and a node is no more than the list that it stands in
+-- the measure of a list is less than that of the node that holds it, and that of a node less than that of its list
 abbrev pub decreases-write_node : goal.decreases-write_node
 decreases-write_node l = 3 * size_of l.node.now
 

@@ -4,7 +4,7 @@ use denote.Shadow.{shadow}
 use Rattle.openapi_pointer.specs.Tokens.{before_name, name_after}
 use Rattle.openapi_pointer.proofs.token.name_of.Given as goal
 
--- the name so far is before that of the rest
+-- the name of the token is the name so far, followed by that of the rest
 abbrev pub invariant-loop-before : goal.invariant-loop-before
 invariant-loop-before l =
     record {

@@ -4,7 +4,7 @@ use Rattle.openapi_removal.specs.Below.{places_of}
 use Rattle.openapi_removal.specs.Without.{items_without, members_without}
 use Rattle.openapi_removal.proofs.compare.+compare.Given as goal
 
--- the last items are without the members
+-- the items from `left` on are those of the other value, without the members
 abbrev pub invariant-items_are_without-loop-left : goal.invariant-items_are_without-loop-left
 invariant-items_are_without-loop-left l =
     record {
@@ -15,7 +15,7 @@ invariant-items_are_without-loop-left l =
 abbrev pub decreases-items_are_without-loop-left : goal.decreases-items_are_without-loop-left
 decreases-items_are_without-loop-left l = l.left
 
--- the last members are those of the object without the members
+-- the members from `rest` on are those of the other object from `left` on, without the members
 abbrev pub invariant-members_are_without-loop-left : goal.invariant-members_are_without-loop-left
 invariant-members_are_without-loop-left l =
     record {

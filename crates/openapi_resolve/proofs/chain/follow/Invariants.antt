@@ -4,7 +4,7 @@ use denote.Shadow.{shadow}
 use Rattle.openapi_resolve.specs.Resolved.{followed, resolved}
 use Rattle.openapi_resolve.proofs.chain.follow.Given as goal
 
--- the component is that to which the present reference leads in the steps that are left
+-- the component is the one to which the current reference leads in the steps that are left
 abbrev pub invariant-steps : goal.invariant-steps
 invariant-steps g l =
     record {

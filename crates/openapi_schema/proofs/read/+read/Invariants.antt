@@ -6,7 +6,7 @@ use Rattle.openapi_schema.specs.Reading.{ref_form, inner_box_form}
 use Rattle.openapi_fields.proofs.Measures.{members_left, view_left}
 use Rattle.openapi_schema.proofs.read.+read.Given as goal
 
--- the size of the tree that is left to read; and for the same tree, the caller above what it calls
+-- the size of the node that is left to read; for the same node, a caller has a greater measure than what it calls
 abbrev pub decreases-schema_ref_from_node : goal.decreases-schema_ref_from_node
 decreases-schema_ref_from_node l = 8 * size_of l.node.now + 1
 

@@ -9,7 +9,7 @@ use Rattle.openapi_schema.specs.SchemaForms.{additional_form, schema_form, schem
 use Rattle.openapi_fields.proofs.Measures.{form_left, rows_left}
 use Rattle.openapi_schema.proofs.write.+write.Given as goal
 
--- the size of the form that is left to write; and for the same form, the caller above what it calls
+-- the size of the form that is left to write; for the same form, a caller has a greater measure than what it calls
 abbrev pub decreases-schema_ref_to_node : goal.decreases-schema_ref_to_node
 decreases-schema_ref_to_node l = form_left (ref_form l.value.now) 0
 

@@ -7,7 +7,7 @@ use Rattle.openapi_faults.specs.Walk.{step_of}
 use Rattle.openapi_faults.proofs.Dropping.{dropped_before}
 use Rattle.openapi_faults.proofs.dropped.DroppedFinder.report_all.Given as goal
 
--- what is dropped of the members so far
+-- the members so far that are dropped were appended
 abbrev pub invariant-loop-i : goal.invariant-loop-i
 invariant-loop-i l =
     Adds dropped_of l.initial.self.found.items l.self.found.items

@@ -9,7 +9,7 @@ use Rattle.openapi_faults.specs.Told.{at, fault_in}
 use Rattle.openapi_faults.specs.Walk.{step_of}
 use Rattle.openapi_faults.proofs.fault.Finder.report_rows.Given as goal
 
--- what the rows so far miss
+-- the causes of the rows so far were appended
 abbrev pub invariant-loop-row : goal.invariant-loop-row
 invariant-loop-row l =
     Adds fault_in l.initial.self.found.items l.self.found.items

@@ -7,7 +7,7 @@ use Rattle.openapi_faults.specs.Walk.{asked_entries, asked_items, asked_rows, en
 use Rattle.openapi_faults.proofs.Walking.{kind_rank, SoFar}
 use Rattle.openapi_faults.proofs.walk.Walk.+walk.Given as goal
 
--- the size of the tree that is left to visit; and for the same tree, the caller above what it calls
+-- the size of the node that is left to visit; for the same node, a caller has a greater measure than what it calls
 abbrev pub decreases-items : goal.decreases-items
 decreases-items g l = 20 * items_size (items_of l.items.now) + 12
 

@@ -8,7 +8,7 @@ use Rattle.indexmap.proofs.MapLemmas.{insert_all_push}
 use Rattle.openapi_map.specs.Entries.{Entries, insert_all, insert_entry, owned_entry}
 use Rattle.openapi_map.proofs.collect.OrderedMapExtendTuple2String.extend.Goals as goal
 
--- one more entry is put
+-- one more entry is inserted
 put-next : {V : Type 0} (old now new : Entries V) (seen : List (String Global × V)) (x : String Global × V)
     → now ≡ insert_all old (map owned_entry seen) → new ≡ insert_entry now (owned_entry x).0 (owned_entry x).1
     → new ≡ insert_all old (map owned_entry (seen ++ x ∷ []))

@@ -1,4 +1,4 @@
--- The entries that came so far are put.
+-- The entries that were iterated over so far are inserted.
 use Rattle.std.proofs.Common.{◌≡◌, map}
 use Rattle.std.proofs.iter.Next as it
 use Rattle.std.specs.Iterator.{EndsFrom, items_left}

@@ -4,7 +4,7 @@ use Rattle.openapi_map.specs.Entry.{still_found, with_entry_value}
 use Rattle.openapi_map.proofs.PlaceLemmas.{occupied_value, occupied_written}
 use Rattle.openapi_map.proofs.entry.OccupiedEntry.get_mut.Goals as goal
 
--- there is one proof at most that a place was found
+-- there is at most one proof that a place was found
 found-prop : (r : Option ℕ) (i : ℕ) → IsProp (r ≡ Some i)
 found-prop r i = hlevel props
 

@@ -1,4 +1,4 @@
--- `next` picks the number. Assumes `Logic`.
+-- `next` chooses the number. Assumes `Logic`.
 use Rattle.std.proofs.Common.{◌+◌, List, [], ◌∷◌, ◌++◌, refl}
 use seplogic.Ra.Ura.{Ura}
 use mir.Syntax.{Fn}

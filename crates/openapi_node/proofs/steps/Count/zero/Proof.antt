@@ -1,4 +1,4 @@
--- `zero` picks the number. Assumes `Logic`.
+-- `zero` chooses the number. Assumes `Logic`.
 use Rattle.std.proofs.Common.{[], ◌∷◌, refl}
 use seplogic.Ra.Ura.{Ura}
 use mir.Syntax.{Fn}

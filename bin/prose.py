@@ -6,7 +6,7 @@ usage: bin/prose.py [REPOSITORY]      (this one by default)
 It refuses:
 - a public function of a library or a program without a doc comment, or without `# Errors` if it returns a `Result`. A trait may
   have `# Errors` for all its methods. Functions in impls of traits are left out.
-- a word of WORDS in a page, in a comment of a source, or in a comment or docstring of a script.
+- a word of WORDS in a page, in a comment of a source, a definition or a proof, or in a comment or docstring of a script.
 - a sentence of more than 40 words in a page or in a doc comment. Each cell of a table is by itself.
 - a commit whose subject has more than 70 characters, since the last tag, or since FIRST if there is no tag. Merges are left
   out. A clone without these commits skips this check, and prints that it does.
@@ -29,6 +29,7 @@ FIRST = "bc32d45c6526bddbd3373e5e73f0490b78950d27"
 # The files that are checked.
 FILES = {
     "source": ("crates/*/src/**/*.rt",),
+    "definition": ("crates/*/specs/**/*.antt", "crates/*/proofs/**/*.antt"),
     "page": ("README.md", "CHANGELOG.md", "docs/*.md", "docs/api/*.md"),
     "script": ("check", *(f"{folder}/*.{kind}" for folder in ("bin", "tests", "bench") for kind in ("py", "sh", "c"))),
 }

@@ -13,7 +13,8 @@ LINK = re.compile(r"\[([^\]]*)\]\([^)]*\)")
 FENCE = re.compile(r"\s*(```|~~~)")
 # What begins a paragraph without an empty line above it, what is a whole one, and where a link leads.
 BEGINS, WHOLE, TARGET = re.compile(r"\s*([-*+]|\d+\.) "), re.compile(r"#+ |\s*\|"), re.compile(r"\s*\[[^\]]*\]: ")
-COMMENT = {".rt": re.compile(r"\s*(//[/!]?) ?(.*)"), ".sh": re.compile(r"(?:.*?\s)??(#) ?(.*)")}
+COMMENT = {".rt": re.compile(r"\s*(//[/!]?) ?(.*)"), ".sh": re.compile(r"(?:.*?\s)??(#) ?(.*)"),
+           ".antt": re.compile(r"\s*(--) ?(.*)")}
 
 
 def without_code(text):
@@ -60,5 +61,5 @@ def comments(path, text):
     if kind not in COMMENT:
         return [], [*comments_of_script(text)]
     found = [(number, it[1], it[2]) for number, line in numbered(text) if (it := COMMENT[kind].match(line))]
-    groups = [[(number, line) for number, mark, line in found if mark == one] for one in ("///", "//!", "//", "#")]
+    groups = [[(number, line) for number, mark, line in found if mark == one] for one in ("///", "//!", "//", "#", "--")]
     return groups[:2], groups[2:]

@@ -14,6 +14,7 @@ WELL = {
     "README.md": "# Well\n\nA page.\n",
     "bin/well.py": '"""Does nothing."""\n',
     "crates/well/src/lib.rt": "/// Returns one.\npub fn one() -> u8 {\n    1\n}\n",
+    "crates/well/specs/Lib.antt": "pub mod Well\n",
 }
 FORTY = " ".join(["word"] * 40)
 FUNCTIONS = """//! Functions.
@@ -109,6 +110,10 @@ TEXTS = {
         'const TREE: &str = "a tree";\n',
         [(1, SAYS), (4, TREE), (8, TREE), (11, TREE)],
     ),
+    "crates/comments/specs/Trees.antt": (
+        f"-- A `tree`.\n-- A node.\npub tree : Tree\n  -- a tree\n  tree = 1\n-- {FORTY} word\n",
+        [(4, TREE)],
+    ),
     f"crates/sentences/src/lib.rt": (f"/// One.\n/// {FORTY}\n/// word. Two.\nstruct A;\n\n// {FORTY} word.\nstruct B;\n", [(2, LONG)]),
     "docs/sentences.md": (
         f"# {FORTY}\n{FORTY}. {FORTY}!\n\nOne.\n{FORTY} word\n\n- {FORTY}\n- {FORTY}\n\n| {FORTY} | {FORTY} |\n|---|---|\n| one | {FORTY} word |\n\n"
@@ -179,7 +184,7 @@ def check_texts(room, checks):
     """Checks each text, beside two files without an offence."""
     write(room, WELL)
     status, lines = prose(room)
-    checks.add(f"a repository without an offence passes: {lines}", status == 0 and lines[-1] == "4 passed, 0 failed")
+    checks.add(f"a repository without an offence passes: {lines}", status == 0 and lines[-1] == "5 passed, 0 failed")
     write(room, {name: text for name, (text, _) in TEXTS.items()})
     status, lines = prose(room)
     found = {name: [] for name in [*TEXTS, *WELL]}
@@ -198,11 +203,11 @@ def check_texts(room, checks):
 def check_nothing(room, checks):
     """Checks that a repository in which there is nothing to check fails."""
     status, lines = prose(room)
-    missing = ("source", "page", "script", "public function")
-    checks.add(f"an empty folder fails: {lines}", status == 1 and lines[-1] == "0 passed, 4 failed" and all(f"has no {it} to" in str(lines) for it in missing))
+    missing = ("source", "definition", "page", "script", "public function")
+    checks.add(f"an empty folder fails: {lines}", status == 1 and lines[-1] == "0 passed, 5 failed" and all(f"has no {it} to" in str(lines) for it in missing))
     write(room, WELL | {"crates/well/src/lib.rt": "fn one() {}\n"})
     status, lines = prose(room)
-    checks.add(f"no public function fails: {lines}", status == 1 and lines[-1] == "3 passed, 1 failed")
+    checks.add(f"no public function fails: {lines}", status == 1 and lines[-1] == "4 passed, 1 failed")
 
 
 def check_commits(room, checks):
@@ -220,11 +225,11 @@ def check_commits(room, checks):
     git(room, "checkout", "main")
     git(room, "merge", "--no-ff", "-m", "m" * 71, "other")
     status, lines = prose(room)
-    checks.add(f"those before the tag and merges are left out: {lines}", status == 0 and lines[-1] == "5 passed, 0 failed")
+    checks.add(f"those before the tag and merges are left out: {lines}", status == 0 and lines[-1] == "6 passed, 0 failed")
     commit(room, "c" * 71)
     commit(room, "d")
     status, lines = prose(room)
-    checks.add(f"a long subject fails: {lines}", status == 1 and lines[-1] == "6 passed, 1 failed" and "a subject of 71 characters" in lines[0])
+    checks.add(f"a long subject fails: {lines}", status == 1 and lines[-1] == "7 passed, 1 failed" and "a subject of 71 characters" in lines[0])
     git(room, "clone", "--depth", "1", f"file://{room}", f"{room}/shallow")
     checks.add("in a shallow clone, they are skipped", is_skipped(f"{room}/shallow"))
 

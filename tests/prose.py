@@ -125,8 +125,8 @@ TEXTS = {
         [(1, SAYS), (2, WORD.format("tells")), (2, TREE), (11, TREE)],
     ),
     "docs/harmless.md": (
-        "I understand a lookup that was edited, an outstanding essay, a streetcar, a standard and a task. See edits/all.txt,\n"
-        "tests/edits.py and tree.rt. It looked, gives it, and uploads. Two of a hundreds.\n",
+        "I understand a lookup that was edited, an outstanding essay, a streetcar, a standard and a task. See mutations/all.txt,\n"
+        "tests/mutations.py and tree.rt. It looked, gives it, and uploads. Two of a hundreds.\n",
         [],
     ),
     "docs/phrases.md": (

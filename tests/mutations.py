@@ -1,23 +1,23 @@
 #!/usr/bin/env python3
 """Tries the mutations that must be refused, and keeps the verdicts.
 
-usage: tests/edits.py [--jobs N] [--together N] [CRATE ..]
+usage: tests/mutations.py [--jobs N] [--together N] [CRATE ..]
            tries those mutations of these crates, or of all, that have no verdict on the text as it is; as many side by side as
            there are jobs, and at most so many together in one check (12 if left out; of a large crate fewer are quicker, and
            take less memory)
-       tests/edits.py --draw N [CRATE ..]
+       tests/mutations.py --draw N [CRATE ..]
            tries N mutations that were refused, and keeps no verdict. They are drawn by the hash of the commit, from two of these
            crates, or of the five lowest, whose proofs take minutes if none are kept
-       tests/edits.py --compare
+       tests/mutations.py --compare
            tries nothing: prints for each crate which of its mutations have no verdict of a refusal on the text as it is
 
-The mutations of a crate are in edits/CRATE.txt. A line `file:` between two empty lines names a file of the crate, and the
+The mutations of a crate are in mutations/CRATE.txt. A line `file:` between two empty lines names a file of the crate, and the
 mutations below change it, up to the next such line. A mutation is a line with its name, and below it pairs of lines `old:` and
 `new:`. Each pair replaces a text that occurs in the file once. (A line `file:` within a mutation names another file.) A line
 `twin:` behind a `new:` is the harmless twin: a text that means the same as `old:`, in the shape of `new:`. A line that begins
 with `#` is a comment.
 
-The prover must refuse the crate with the mutation, at a clause. `edits/verdicts` has a line for each mutation that was tried:
+The prover must refuse the crate with the mutation, at a clause. `mutations/verdicts` has a line for each mutation that was tried:
 its name, a hash of what the verdict rests on, and the reason, in one of these words:
 - `goal NAME`: the prover names a goal that is not proved: an `ensures`, a `requires`, a ghost field, the invariant of a loop or
   of a type, or a safety fact. A goal that a proof file answers counts if its answer has another type or proves another thing,
@@ -31,7 +31,7 @@ its name, a hash of what the verdict rests on, and the reason, in one of these w
 The last three are no refusals: the mutation is rewritten, or gets a twin. `--compare` fails for them, and for a mutation that has
 no verdict on the text as it is.
 
-Mutations are expensive, so each is tried when what its verdict rests on has changed. The second line of `edits/verdicts` is that
+Mutations are expensive, so each is tried when what its verdict rests on has changed. The second line of `mutations/verdicts` is that
 of `rt version`. The verdicts hold for each release of the kit that has the same logic, which that line names too.
 
 No body is seen by the proof of another function. So the verdict on a mutation in the body of one function rests on:
@@ -70,7 +70,7 @@ import threading
 import time
 
 TOP = os.path.dirname(os.path.dirname(os.path.realpath(__file__)))
-VERDICTS = f"{TOP}/edits/verdicts"
+VERDICTS = f"{TOP}/mutations/verdicts"
 HEAD = "# The kit, and for each mutation the hash of what its verdict rests on, and the reason.\n"
 # The first words of the reasons that make a mutation refused.
 REFUSED = ("goal", "lemma", "twin")
@@ -95,7 +95,7 @@ def version():
     return subprocess.run(["rt", "version"], capture_output=True, text=True, check=True).stdout.strip()
 
 
-class Edit:
+class Mutation:
     """A mutation: its name with that of its crate, and the lines `file:`, `old:`, `new:` and `twin:` that it has."""
 
     def __init__(self, name, lines):
@@ -122,7 +122,7 @@ class Edit:
                 lines[-1] = "new" + line.removeprefix("twin")
             else:
                 lines.append(line)
-        return Edit(self.name, lines) if lines != self.lines else None
+        return Mutation(self.name, lines) if lines != self.lines else None
 
     def adds_shape(self):
         """Returns whether it adds a function or a loop."""
@@ -140,21 +140,21 @@ class Edit:
         return changed or None
 
 
-def edits_of(crate):
+def mutations_of(crate):
     """Returns the mutations of a crate."""
-    with open(f"{TOP}/edits/{crate}.txt", encoding="utf-8") as it:
+    with open(f"{TOP}/mutations/{crate}.txt", encoding="utf-8") as it:
         lines = [line for line in it.read().split("\n") if not line.startswith("#")]
     found, file = [], ""
     for name, *text in ([*part] for is_part, part in itertools.groupby(lines, bool) if is_part):
         if text:
-            found.append(Edit(f"{crate}/{name}", [file, *text]))
+            found.append(Mutation(f"{crate}/{name}", [file, *text]))
         else:
             file = name
     return found
 
 
-def crates_with_edits():
-    return [it.removesuffix(".txt") for it in sorted(os.listdir(f"{TOP}/edits")) if it.endswith(".txt")]
+def crates_with_mutations():
+    return [it.removesuffix(".txt") for it in sorted(os.listdir(f"{TOP}/mutations")) if it.endswith(".txt")]
 
 
 def words(text):
@@ -333,13 +333,13 @@ class Sources:
         found = re.findall(rf"\b(?:Rattle\.{self.crate}\.|crate::)(specs|proofs)(?:\.|::)(\w+)", text)
         return {it for it in (f"{part}/{name}.antt" for part, name in found) if it in self.files}
 
-    def hash_of(self, edit):
-        function = function_of(edit, self)
+    def hash_of(self, mutation):
+        function = function_of(mutation, self)
         key = function and function.item
         if key not in self.rests:
             texts = self.of_function(function) if function else self.seen.items()
             self.rests[key] = hash_of_texts(texts)
-        return hash_of_texts([(edit.name, "\n".join([*edit.lines, ""])), ("", self.rests[key])])
+        return hash_of_texts([(mutation.name, "\n".join([*mutation.lines, ""])), ("", self.rests[key])])
 
 
 def logic_of(kit):
@@ -361,7 +361,7 @@ def verdicts(kit):
 
 def record(kit, name, whole, reason):
     """Keeps the hash of what the verdict on a mutation rests on, and the reason. The other verdicts stay."""
-    known = {it.name for crate in crates_with_edits() for it in edits_of(crate)}
+    known = {it.name for crate in crates_with_mutations() for it in mutations_of(crate)}
     folder = os.open(os.path.dirname(VERDICTS), os.O_RDONLY)
     try:
         # (runs for other crates write the same file)
@@ -384,24 +384,24 @@ def due_of(crate, found):
     """Returns the names of the crate's mutations. For each that has no verdict of a refusal on the text as it is, it returns why:
     another text, or a reason that is none."""
     sources, due = Sources(crate), {}
-    edits = edits_of(crate)
-    for it in edits:
+    mutations = mutations_of(crate)
+    for it in mutations:
         whole, reason = found.get(it.name, ("", ""))
         if whole != sources.hash_of(it) or it.applied(sources.files) is None:
             due[it.name] = "no verdict on this text"
         elif not is_refusal(reason):
             due[it.name] = reason
-    return [it.name for it in edits], due
+    return [it.name for it in mutations], due
 
 
 def compare():
     """Prints for each crate with mutations which of them were not refused on its text as it is."""
     found, many, failed = verdicts(version())[1], 0, 0
-    for crate in crates_with_edits():
+    for crate in crates_with_mutations():
         own, due = due_of(crate, found)
         many, failed = many + len(own), failed + len(due)
         if due:
-            print(f"mutations of {crate}: FAILED: {len(due)} of {len(own)} are due; run tests/edits.py {crate}")
+            print(f"mutations of {crate}: FAILED: {len(due)} of {len(own)} are due; run tests/mutations.py {crate}")
             for why, names in itertools.groupby(sorted(due, key=due.get), due.get):
                 print(f"    {why}: {' '.join(it.partition('/')[2] for it in names)}")
         else:
@@ -486,10 +486,10 @@ def best_of(remarks, files):
     return next((it for word in ("goal", "lemma", "limit", "proof") for it in told if it[0].startswith(word)), None)
 
 
-def function_of(edit, sources):
+def function_of(mutation, sources):
     """Returns the one function in whose body the mutation changes something; or None."""
     found, texts = set(), {}
-    for file, old, new in edit.pairs():
+    for file, old, new in mutation.pairs():
         text = texts.get(file, sources.files.get(file, ""))
         if text.count(old) != 1:
             return None
@@ -526,7 +526,7 @@ class Copy:
     its own, beside the other crates as they are, with what was kept of them as libraries."""
 
     def __init__(self, crate, files, with_kept):
-        self.files, self.room = files, tempfile.TemporaryDirectory(prefix="edits-")
+        self.files, self.room = files, tempfile.TemporaryDirectory(prefix="mutations-")
         shutil.copy(f"{TOP}/crates.txt", self.room.name)
         for it in os.listdir(f"{TOP}/crates"):
             if it != crate:
@@ -537,11 +537,11 @@ class Copy:
         if with_kept and os.path.isdir(self.kept):
             shutil.copytree(self.kept, f"{self.folder}/out/incremental")
 
-    def said(self, edits):
+    def said(self, mutations):
         """Returns the status and the output of a check of the crate with these mutations; or None, if one does not fit the text."""
         texts = dict(self.files)
-        for edit in edits:
-            changed = edit.applied(texts)
+        for mutation in mutations:
+            changed = mutation.applied(texts)
             if changed is None:
                 return None
             texts |= changed
@@ -557,7 +557,7 @@ class Copy:
         """Returns for each of these mutations that the check refuses the reason, and its remark. They are of different functions,
         or there is only one. A remark may report of a function that it calls one that is not proved, but at no location of its
         own."""
-        ran = self.said([edit for _, edit in group])
+        ran = self.said([mutation for _, mutation in group])
         if ran is None:
             return {}
         status, said = ran
@@ -566,23 +566,23 @@ class Copy:
         if status != 1 or is_bad(said):
             return {}
         remarks, found = [*REMARK.finditer(said)], {}
-        for function, edit in group:
+        for function, mutation in group:
             told = best_of((it for it in remarks if (function.is_told_of(it) if function else is_place(it))), self.files)
             if told:
-                found[edit] = told[0], told[1][0].partition("\n")[0][:160]
+                found[mutation] = told[0], told[1][0].partition("\n")[0][:160]
         return found
 
-    def proves(self, edits):
+    def proves(self, mutations):
         """Returns whether the crate with these mutations is proved."""
-        return (self.said(edits) or (1, ""))[0] == 0
+        return (self.said(mutations) or (1, ""))[0] == 0
 
-    def judged(self, edit, told, is_twin_proved):
+    def judged(self, mutation, told, is_twin_proved):
         """Returns the verdict on a mutation by this result of a check: its reason if it needs no twin, or its twin is proved."""
-        twin, (reason, line) = edit.twin(), told or (None, "")
+        twin, (reason, line) = mutation.twin(), told or (None, "")
         if reason and twin:
             is_proved = is_twin_proved or self.proves([twin])
             return (f"twin {reason}", line) if is_proved else (None, "its twin is refused too")
-        return ("shape" if reason and edit.adds_shape() else reason), line
+        return ("shape" if reason and mutation.adds_shape() else reason), line
 
 
 class Trial:
@@ -590,26 +590,26 @@ class Trial:
 
     def __init__(self, crate, together, line, drawn=None):
         self.crate, self.at_most, self.line, self.lock = crate, together, line, threading.Lock()
-        self.sources, self.edits, self.is_drawn = Sources(crate), drawn or edits_of(crate), drawn is not None
-        self.hashes = {it: self.sources.hash_of(it) for it in self.edits}
+        self.sources, self.mutations, self.is_drawn = Sources(crate), drawn or mutations_of(crate), drawn is not None
+        self.hashes = {it: self.sources.hash_of(it) for it in self.mutations}
         found = {} if self.is_drawn else {(name, whole): reason for name, (whole, reason) in verdicts(line)[1].items()}
         self.came = {it: found[it.name, whole] for it, whole in self.hashes.items() if (it.name, whole) in found}
 
     def left(self):
         """Returns the mutations that are to be tried."""
-        return [it for it in self.edits if it not in self.came]
+        return [it for it in self.mutations if it not in self.came]
 
     def failed(self):
-        return [it for it in self.edits if not is_refusal(self.came.get(it, ""))]
+        return [it for it in self.mutations if not is_refusal(self.came.get(it, ""))]
 
-    def keep(self, edit, reason, line, how):
+    def keep(self, mutation, reason, line, how):
         """Prints the result of a mutation, and keeps it if it has a reason."""
         if reason:
             with self.lock:
-                self.came[edit] = reason
+                self.came[mutation] = reason
                 if not self.is_drawn:
-                    record(self.line, edit.name, self.hashes[edit], reason)
-        print(f"{edit.name}: {reason or 'NOT REFUSED for itself'} ({how}): {line}", flush=True)
+                    record(self.line, mutation.name, self.hashes[mutation], reason)
+        print(f"{mutation.name}: {reason or 'NOT REFUSED for itself'} ({how}): {line}", flush=True)
 
     def ready(self):
         """Checks the crate as it is, and so brings what is kept of it up to date; returns whether it is proved."""
@@ -619,18 +619,18 @@ class Trial:
             print(f"{self.crate} is not proved as it is: {ran.stdout.strip()[-300:]}", flush=True)
         return not ran.returncode
 
-    def groups(self, edits):
+    def groups(self, mutations):
         """Returns the mutations in groups, each beside its function, in each of which no two change the same function."""
         found = []
-        for edit in edits:
-            function = function_of(edit, self.sources)
+        for mutation in mutations:
+            function = function_of(mutation, self.sources)
             keys = {function.key} if function else set()
             room = next((it for it in found if keys and it[0] and not keys & it[0] and len(it[1]) < self.at_most), None)
             if room is None:
                 room = set(), []
                 found.append(room)
             room[0].update(keys)
-            room[1].append((function, edit))
+            room[1].append((function, mutation))
         return [it for _, it in found]
 
     def try_group(self, group):
@@ -639,18 +639,18 @@ class Trial:
         refused are tried together too, and by themselves if that fails."""
         copy, came = Copy(self.crate, self.sources.files, True), {}
         told = copy.tried(group) if len(group) > 1 else {}
-        for function, edit in group:
-            how = f"with {len(group) - 1} others" if edit in told else "by itself"
-            came[edit] = told.get(edit) or copy.tried([(function, edit)]).get(edit), how
-        twins = [edit.twin() for _, edit in group if came[edit][0] and edit.twin()]
+        for function, mutation in group:
+            how = f"with {len(group) - 1} others" if mutation in told else "by itself"
+            came[mutation] = told.get(mutation) or copy.tried([(function, mutation)]).get(mutation), how
+        twins = [mutation.twin() for _, mutation in group if came[mutation][0] and mutation.twin()]
         are_proved = copy.proves(twins)
         is_sound = are_proved or copy.proves([])
-        for function, edit in group:
-            said, how = came[edit]
+        for function, mutation in group:
+            said, how = came[mutation]
             if not said or not is_sound:
                 whole = Copy(self.crate, self.sources.files, False)
-                said, how = whole.tried([(function, edit)]).get(edit), "from nothing"
-            self.keep(edit, *copy.judged(edit, said, are_proved and bool(came[edit][0])), how)
+                said, how = whole.tried([(function, mutation)]).get(mutation), "from nothing"
+            self.keep(mutation, *copy.judged(mutation, said, are_proved and bool(came[mutation][0])), how)
 
 
 def try_all(trials, jobs):
@@ -659,7 +659,7 @@ def try_all(trials, jobs):
     todo = queue.SimpleQueue()
     for trial in trials:
         left = trial.left()
-        print(f"{trial.crate}: {len(trial.edits)} mutations, {len(left)} to be tried", flush=True)
+        print(f"{trial.crate}: {len(trial.mutations)} mutations, {len(left)} to be tried", flush=True)
         if left and trial.ready():
             for group in trial.groups(left):
                 todo.put((trial, group))
@@ -677,10 +677,10 @@ def try_all(trials, jobs):
         it.start()
     for it in lanes:
         it.join()
-    failed = [(edit.name, trial.came.get(edit, "no verdict")) for trial in trials for edit in trial.failed()]
+    failed = [(mutation.name, trial.came.get(mutation, "no verdict")) for trial in trials for mutation in trial.failed()]
     for name, reason in failed:
         print(f"FAILED: {name}: {reason}")
-    print(f"{sum(len(it.edits) for it in trials) - len(failed)} passed, {len(failed)} failed")
+    print(f"{sum(len(it.mutations) for it in trials) - len(failed)} passed, {len(failed)} failed")
     return 1 if failed else 0
 
 
@@ -689,7 +689,7 @@ def drawn(many, names, found):
     were refused."""
     ran = subprocess.run(["git", "rev-parse", "HEAD"], cwd=TOP, capture_output=True, text=True, check=True)
     lot = lambda name: hash_of_texts([ran.stdout.strip(), name])
-    refused = {crate: [it for it in edits_of(crate) if it.name not in due_of(crate, found)[1]] for crate in names}
+    refused = {crate: [it for it in mutations_of(crate) if it.name not in due_of(crate, found)[1]] for crate in names}
     two = sorted(filter(refused.get, names), key=lot)[:2]
     chosen = sorted((it for crate in two for it in refused[crate]), key=lambda it: lot(it.name))[:many]
     for it in chosen:
@@ -711,7 +711,7 @@ def main():
         lots = drawn(given.draw, given.crates or LOWEST, verdicts(now)[1])
         return try_all([Trial(it, given.together, now, lot) for it, lot in lots.items() if lot], given.jobs)
     found = verdicts(now)[1]
-    trials = [Trial(it, given.together, now) for it in given.crates or crates_with_edits() if given.crates or due_of(it, found)[1]]
+    trials = [Trial(it, given.together, now) for it in given.crates or crates_with_mutations() if given.crates or due_of(it, found)[1]]
     return try_all(trials, given.jobs)
 
 

@@ -8,9 +8,8 @@ use Rattle.openapi_tables.specs.Prelude.{Form, is_absent, AreRows}
 use Rattle.openapi_fields.specs.Forms.{optional_form}
 use Rattle.openapi_schema_types.specs.Masks.{mask_of, presence, sort_by_names, IsType}
 use Rattle.openapi_schema.specs.RawSlots.{optional_rows}
-use Rattle.openapi_schema.specs.KindNames.{flags_in, kind_name_rows}
-use Rattle.openapi_schema.specs.declared.kind_names.FirstNames.{FirstNames}
-use Rattle.openapi_schema.specs.declared.kind_names.LastNames.{LastNames}
+use Rattle.openapi_schema.specs.KindNames.{flags_in, kind_forms}
+use Rattle.openapi_schema.specs.declared.kind_names.KindNames.{KindNames}
 use Rattle.openapi_schema.proofs.RawSort.{presence-read, type_read, sort_of-names}
 
 -- an optional value is `Some` if and only if its form is not absent
@@ -20,18 +19,17 @@ flag_there view h None = refl
 flag_there view h (Some x) = sym (ap not (h x))
 
 -- the mask of what was read under the kind names is that of the names that are present
-pub mask_read : (a : FirstNames) (b : LastNames) (ms : Members) (m : ℕ)
-    → AreRows final_tables optional_rows (kind_name_rows a b) ms
-    → m ≡ mask_of (flags_in a b) → m ≡ mask_of (presence (members_list ms))
-mask_read a b ms m rows h =
-    h ∙ ap mask_of (sym (presence-read final_tables ms (kind_name_rows a b) rows))
+pub mask_read : (a : KindNames) (ms : Members) (m : ℕ)
+    → AreRows final_tables optional_rows (kind_forms a) ms
+    → m ≡ mask_of (flags_in a) → m ≡ mask_of (presence (members_list ms))
+mask_read a ms m rows h =
+    h ∙ ap mask_of (sym (presence-read final_tables ms (kind_forms a) rows))
 
 -- the type that was read is the value of `type`
-pub type_in : (a : FirstNames) (b : LastNames) (ms : Members) → AreRows final_tables optional_rows
-    (kind_name_rows a b) ms
+pub type_in : (a : KindNames) (ms : Members) → AreRows final_tables optional_rows (kind_forms a) ms
     → IsType (option_map string_bytes a.plain.typ) (members_list ms)
 unfolding optional_rows any_rows
-type_in a b ms rows = type_read final_tables ms a.plain.typ rows.0
+type_in a ms rows = type_read final_tables ms a.plain.typ rows.0
 
 -- the sort that the names allow is the sort where its further condition holds, else there is none in particular
 pub sort_passes : (es : List (Entry Tree)) (s : Sort) → s ≡ sort_by_names es → further s es ≡ true → sort_of es ≡ s

@@ -7,9 +7,9 @@ pub mod KindGives
 pub mod KindSorts
 pub mod KindTests
 pub mod LentEntries
+pub mod NameRows
 pub mod OpenedForms
 pub mod OwnRows
-pub mod PartRows
 pub mod RawSort
 pub mod Refusals
 pub mod SchemaReads

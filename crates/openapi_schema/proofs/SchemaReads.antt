@@ -1,27 +1,26 @@
 -- A schema by its parts: what is read of them, and the access count of reading them.
-use Rattle.std.proofs.Common.{◌≡◌, ◌+◌, ◌*◌, ◌≤◌, ℕ, List, Option, Some, None, option_map, Result, Ok, Err, IfOk, IfErr}
-use Rattle.std.proofs.Common.{refl, sym, ap, ◌∙◌, subst, arith, rules}
+use Rattle.std.proofs.Common.{◌≡◌, ℕ, List, Option, Some, None, option_map, Result, Ok, Err, IfOk, IfErr}
+use Rattle.std.proofs.Common.{refl, sym, ap, ◌∙◌, rules}
 use Rattle.std.specs.Global.{Box}
 use Rattle.openapi_node.specs.Fault.{IsMemory}
 use Rattle.openapi_node.specs.Tree.{flag, object, Members}
 use Rattle.openapi_node.specs.declared.fault.Fault.{Fault}
-use Rattle.openapi_tables.specs.Prelude.{join, a_schema, a_schema_kind, schema_data, final_tables, any_rows, sort, Form}
-use Rattle.openapi_tables.specs.Prelude.{leaf, fields, forms_of, AreRows, rows_weight}
+use Rattle.openapi_tables.specs.Prelude.{join, a_schema, a_schema_kind, schema_data, final_tables, sort, Form}
+use Rattle.openapi_tables.specs.Prelude.{leaf, fields, forms_of, AreRows}
 use Rattle.openapi_fields.specs.Returned.{ReadAs, Reads}
 use Rattle.openapi_fields.proofs.Below.{memory_fails}
 use Rattle.openapi_values.specs.Reference.{reference_form}
 use Rattle.openapi_values.specs.declared.reference.ReferenceOr.{ReferenceOr}
 use Rattle.openapi_values.specs.declared.reference.ReferenceOr.TheVariants as r
-use Rattle.openapi_schema.specs.KindNames.{first_rows, last_rows, kind_name_rows}
-use Rattle.openapi_schema.specs.Kinds.{IsKind, entries_left, entries_weight, trees_in}
+use Rattle.openapi_schema.specs.KindNames.{kind_forms}
+use Rattle.openapi_schema.specs.Kinds.{IsKind}
 use Rattle.openapi_schema.specs.Present.{additional_level}
 use Rattle.openapi_schema.specs.RawSlots.{optional_rows}
-use Rattle.openapi_schema.specs.Reading.{KindReadAs, first_optional, last_optional, outer_box_form, schema_kind_form}
+use Rattle.openapi_schema.specs.Reading.{KindReadAs, outer_box_form, schema_kind_form}
 use Rattle.openapi_schema.specs.SchemaForms.{Sorted, additional_step, schema_kind_step, schema_type_step}
 use Rattle.openapi_schema.specs.SchemaForms.{any_schema_step, array_type_step, object_type_step, schema_step}
 use Rattle.openapi_schema.specs.SchemaForms.{schema_form, additional_form, schema_kind_rows, schema_data_rows}
-use Rattle.openapi_schema.specs.declared.kind_names.FirstNames.{FirstNames}
-use Rattle.openapi_schema.specs.declared.kind_names.LastNames.{LastNames}
+use Rattle.openapi_schema.specs.declared.kind_names.KindNames.{KindNames}
 use Rattle.openapi_schema.specs.declared.schema.AdditionalProperties.{the_lemmas}
 use Rattle.openapi_schema.specs.declared.schema.AdditionalProperties.TheVariants as additional
 use Rattle.openapi_schema.specs.declared.schema.AdditionalProperties.TheViews.{roll-AdditionalProperties}
@@ -33,47 +32,21 @@ use Rattle.openapi_schema.specs.declared.schema.AdditionalProperties.TheFolds.{f
 use Rattle.openapi_schema.specs.declared.schema.AdditionalProperties.TheOpen.{AdditionalProperties-F, Schema-F}
 use Rattle.openapi_schema.specs.declared.schema.Schema.{Schema, roll-Schema}
 use Rattle.openapi_schema.specs.declared.schema.SchemaKind.{SchemaKind}
-use Rattle.openapi_fields.proofs.JoinedRows.{rows_join, rows_weight-join}
 use Rattle.openapi_schema.proofs.KindGives.{kind_gives, schema_gives}
 use denote.Hole.Carrier.{roll}
 
--- the rows of all kind names are those of the first twelve, and of the last twelve
-halves : join first_optional last_optional ≡ optional_rows
-unfolding first_optional last_optional optional_rows any_rows
-halves = refl
-
--- what is read for the fields of both halves is what is read for all kind names
-pub names_rows : (a : FirstNames) (b : LastNames) (ms : Members) → AreRows final_tables first_optional (first_rows a) ms
-    → AreRows final_tables last_optional (last_rows b) ms
-    → AreRows final_tables optional_rows (kind_name_rows a b) ms
-names_rows a b ms h k =
-    subst (λ ws. AreRows final_tables ws (kind_name_rows a b) ms) halves
-    (rows_join final_tables first_optional last_optional (first_rows a) (last_rows b) ms h k)
-
--- the fields of all kind names contain as many values as those of both halves
-pub names_weight : (ms : Members) → rows_weight optional_rows ms
-    ≡ rows_weight first_optional ms + rows_weight last_optional ms
-names_weight ms =
-    sym (ap (λ ws. rows_weight ws ms) halves) ∙ rows_weight-join first_optional last_optional ms
-
 -- what is made from the values under the kind names is the kind of the schema
-pub kind_read : (r : Result SchemaKind Fault) (a : FirstNames) (b : LastNames) (ms : Members)
-    → AreRows final_tables optional_rows (kind_name_rows a b) ms → IfOk r (λ k. IsKind k a b) → IfErr r IsMemory
+pub kind_read : (r : Result SchemaKind Fault) (a : KindNames) (ms : Members)
+    → AreRows final_tables optional_rows (kind_forms a) ms → IfOk r (λ k. IsKind k a) → IfErr r IsMemory
     → KindReadAs r ms
-kind_read (Ok k) a b ms rows h g = (kind_name_rows a b, rows, h ms rows)
-kind_read (Err f) a b ms rows h g = memory_fails f a_schema_kind (object ms) g
+kind_read (Ok k) a ms rows h g = (kind_forms a, rows, h ms rows)
+kind_read (Err f) a ms rows h g = memory_fails f a_schema_kind (object ms) g
 
 -- if no reference was read, there is none
 pub none_referred : {X : Type 0} (f : X → List ℕ) (o : Option X) (r : Option (List ℕ)) → ((x : X) → o ≡ Some x → ⊥)
     → option_map f o ≡ r → r ≡ None
 none_referred f None r h e = sym e
 none_referred f (Some x) r h e = absurd (h x refl)
-
--- the entries of an enumeration that are not accessed yet
-pub entries_left-le : (r : Result LastNames Fault) (n m : ℕ) → n ≤ m
-    → IfOk r (λ b. n + 2 * entries_weight (trees_in b.enumeration) ≤ m) → n + 2 * entries_left r ≤ m
-entries_left-le (Ok b) n m h k = k
-entries_left-le (Err f) n m h k = omega (arith, h)
 
 -- a kind by itself
 pub kind_reads : (k : SchemaKind) (ms : Members) → KindReadAs (Ok k) ms → Reads schema_kind_form k a_schema_kind

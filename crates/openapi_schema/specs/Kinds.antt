@@ -15,9 +15,8 @@ use Rattle.openapi_fields.specs.Forms.{optional_form}
 use Rattle.openapi_schema_types.specs.Masks.{sort_by_names}
 use Rattle.openapi_schema.specs.RawSlots.{or_else, optional_rows, sort_slots}
 use Rattle.openapi_schema.specs.SchemaForms.{list_form, entry_form, schema_kind_rows}
-use Rattle.openapi_schema.specs.KindNames.{trees_form, kind_name_rows}
-use Rattle.openapi_schema.specs.declared.kind_names.FirstNames.{FirstNames}
-use Rattle.openapi_schema.specs.declared.kind_names.LastNames.{LastNames}
+use Rattle.openapi_schema.specs.KindNames.{trees_form, kind_forms}
+use Rattle.openapi_schema.specs.declared.kind_names.KindNames.{KindNames}
 use Rattle.openapi_schema.specs.declared.schema.SchemaKind.{SchemaKind}
 use Rattle.openapi_schema.specs.declared.kinds.Limits.{Limits}
 
@@ -45,22 +44,22 @@ EnumerationReadAs test tree_in (Ok (Some v)) o = (entries_test test o ≡ true) 
 EnumerationReadAs test tree_in (Err f) o = Unit {0}
 
 -- the values are the entries of `enum`; none if `enum` is missing
-abbrev pub IsEnumeration : {X : Type 0} → (X → Tree) → Vec (Option X) → LastNames → Type 0
-IsEnumeration tree_in v b = list_form (entry_form tree_in) v ≡ or_else (sequence no_forms) (optional_form
-    (λ nodes. trees_form nodes.now) b.enumeration)
+abbrev pub IsEnumeration : {X : Type 0} → (X → Tree) → Vec (Option X) → KindNames → Type 0
+IsEnumeration tree_in v a = list_form (entry_form tree_in) v ≡ or_else (sequence no_forms) (optional_form
+    (λ nodes. trees_form nodes.now) a.enumeration)
 
 -- the kind `k` is of the sort `s`, and has the forms of that sort for the values under the kind names
-abbrev pub IsKindOf : Sort → SchemaKind → FirstNames → LastNames → Type 0
-IsKindOf s k a b = schema_kind_rows k ≡ (s, sort_slots s (kind_name_rows a b))
+abbrev pub IsKindOf : Sort → SchemaKind → KindNames → Type 0
+IsKindOf s k a = schema_kind_rows k ≡ (s, sort_slots s (kind_forms a))
 
 -- the number of values in the nodes, including nested ones; 0 for `None`
 abbrev pub entries_weight : Option (List Tree) → ℕ
 entries_weight None = 0
 entries_weight (Some ts) = items_size (items_of ts)
 
--- the number of values in the entries of an enumeration that was read with the last twelve kind names; 0 for an error
-abbrev pub entries_left : Result LastNames Fault → ℕ
-entries_left (Ok b) = entries_weight (trees_in b.enumeration)
+-- the number of values in the entries of an enumeration that was read with the kind names; 0 for an error
+abbrev pub entries_left : Result KindNames Fault → ℕ
+entries_left (Ok a) = entries_weight (trees_in a.enumeration)
 entries_left (Err f) = 0
 
 -- whether a limit is in the range of `i64`; true for `None`
@@ -74,11 +73,11 @@ LimitReadAs None o = limit_test o ≡ false
 LimitReadAs (Some p) o = (limit_test o ≡ true) × (p ≡ o)
 
 -- whether `multipleOf`, `minimum` and `maximum` are in the range of `i64`, if they are present
-abbrev pub limits_test : FirstNames → Bool
+abbrev pub limits_test : KindNames → Bool
 limits_test a = limit_test a.plain.multiple_of && limit_test a.plain.minimum && limit_test a.plain.maximum
 
 -- `Some` holds these limits, which are all in the range; `None` means that one of them is not in the range
-abbrev pub LimitsReadAs : Option Limits → FirstNames → Type 0
+abbrev pub LimitsReadAs : Option Limits → KindNames → Type 0
 LimitsReadAs None a = limits_test a ≡ false
 LimitsReadAs (Some x) a =
     (limits_test a ≡ true) × (x.multiple_of ≡ a.plain.multiple_of) × (x.minimum ≡ a.plain.minimum) × (x.maximum ≡ a.plain.maximum)
@@ -88,15 +87,15 @@ abbrev pub trees_or_none : Option (List Tree) → List Tree
 trees_or_none None = []
 trees_or_none (Some ts) = ts
 
--- `k` is the kind of any members from which the kind names are read as `a` and `b`, if `sort_by_names` of these members
+-- `k` is the kind of any members from which the kind names are read as `a`, if `sort_by_names` of these members
 -- is the sort `s`
-abbrev pub IsKindBy : Sort → SchemaKind → FirstNames → LastNames → Type 0
-IsKindBy s k a b =
-    (ms : Members) → AreRows final_tables optional_rows (kind_name_rows a b) ms → s ≡ sort_by_names (members_list ms)
-    → IsKindOf (sort_of (members_list ms)) k a b
+abbrev pub IsKindBy : Sort → SchemaKind → KindNames → Type 0
+IsKindBy s k a =
+    (ms : Members) → AreRows final_tables optional_rows (kind_forms a) ms → s ≡ sort_by_names (members_list ms)
+    → IsKindOf (sort_of (members_list ms)) k a
 
--- `k` is the kind of any members from which the kind names are read as `a` and `b`
-abbrev pub IsKind : SchemaKind → FirstNames → LastNames → Type 0
-IsKind k a b =
-    (ms : Members) → AreRows final_tables optional_rows (kind_name_rows a b) ms
-    → IsKindOf (sort_of (members_list ms)) k a b
+-- `k` is the kind of any members from which the kind names are read as `a`
+abbrev pub IsKind : SchemaKind → KindNames → Type 0
+IsKind k a =
+    (ms : Members) → AreRows final_tables optional_rows (kind_forms a) ms
+    → IsKindOf (sort_of (members_list ms)) k a

@@ -1,9 +1,9 @@
 -- What the readers of schemas return, compared with what the field tables require.
-use Rattle.std.specs.Prelude.{◌≡◌, List, Result, Ok, Err, take, drop}
+use Rattle.std.specs.Prelude.{◌≡◌, List, Result, Ok, Err}
 use Rattle.std.specs.Global.{Box}
 use Rattle.openapi_node.specs.Tree.{object, Members}
 use Rattle.openapi_node.specs.declared.fault.Fault.{Fault}
-use Rattle.openapi_tables.specs.Kind.{a_schema_kind, Row}
+use Rattle.openapi_tables.specs.Kind.{a_schema_kind}
 use Rattle.openapi_tables.specs.Tables.{final_tables}
 use Rattle.openapi_tables.specs.Tree.{members_list}
 use Rattle.openapi_tables.specs.Members.{sort, sort_of}
@@ -30,13 +30,6 @@ outer_box_form b = reference_form schema_form b.value
 -- the form of the kind of a schema alone
 abbrev pub schema_kind_form : SchemaKind → Form
 schema_kind_form k = let s = schema_kind_rows k in fields (sort s.0) (forms_of s.1)
-
--- the rows of the first twelve kind names, and of the last twelve, each optional
-unfoldable pub first_optional : List Row
-first_optional = take 12 optional_rows
-
-unfoldable pub last_optional : List Row
-last_optional = drop 12 optional_rows
 
 -- what a reader of kinds returns: a kind that has the sort of the members and the forms of that sort; or an error of
 -- reading the members as the kind of a schema

@@ -3,10 +3,9 @@ ghost use Rattle.std.specs.Prelude.{◌≡◌, ◌*◌, [], None};
 ghost use Rattle.openapi_tables.specs.Kind.{any_schema};
 ghost use Rattle.openapi_schema.specs.Fields.{any_fields};
 
-use crate::any_names::{any_of_names, read_any_first, read_any_rest};
 use crate::schema::{AdditionalProperties, Schema};
 use crate::write::any_rows;
-use openapi_fields::{Object, Record, or_implied};
+use openapi_fields::{Object, Record, from_joined, optional, or_implied};
 use openapi_node::{Members, Node, OrderedMap, Result, Steps, Whole};
 use openapi_values::ReferenceOr;
 use std::alloc::Global;
@@ -133,10 +132,37 @@ impl Object for AnySchema {
 #[tactic(auto, unfolding(openapi_tables::specs::Tables::final_tables, openapi_tables::specs::Tables::tables_with, openapi_tables::specs::Tables::any_rows))]
 impl Record for AnySchema {
     fn from_members(alloc: Global, members: &Members, steps: &mut Steps) -> Result<Self> {
-        let first = read_any_first(alloc, members, steps)?;
-        let enumeration = or_implied::<Self, _>(alloc, members, "enum", steps)?;
-        let last = read_any_rest(alloc, members, steps)?;
-        Ok(any_of_names(alloc, first, last, enumeration))
+        from_joined!(AnySchema {
+            typ: optional::<Self, _>(alloc, members, "type", steps),
+            pattern: optional::<Self, _>(alloc, members, "pattern", steps),
+            format: optional::<Self, _>(alloc, members, "format", steps),
+            multiple_of: optional::<Self, _>(alloc, members, "multipleOf", steps),
+            exclusive_minimum: optional::<Self, _>(alloc, members, "exclusiveMinimum", steps),
+            exclusive_maximum: optional::<Self, _>(alloc, members, "exclusiveMaximum", steps),
+            minimum: optional::<Self, _>(alloc, members, "minimum", steps),
+            maximum: optional::<Self, _>(alloc, members, "maximum", steps),
+            min_properties: optional::<Self, _>(alloc, members, "minProperties", steps),
+            max_properties: optional::<Self, _>(alloc, members, "maxProperties", steps),
+            min_items: optional::<Self, _>(alloc, members, "minItems", steps),
+            max_items: optional::<Self, _>(alloc, members, "maxItems", steps),
+            unique_items: optional::<Self, _>(alloc, members, "uniqueItems", steps),
+            min_length: optional::<Self, _>(alloc, members, "minLength", steps),
+            max_length: optional::<Self, _>(alloc, members, "maxLength", steps),
+            required: or_implied::<Self, _>(alloc, members, "required", steps),
+            enumeration: or_implied::<Self, _>(alloc, members, "enum", steps),
+            additional_properties: optional::<Self, _>(
+                alloc,
+                members,
+                "additionalProperties",
+                steps
+            ),
+            not: optional::<Self, _>(alloc, members, "not", steps),
+            items: optional::<Self, _>(alloc, members, "items", steps),
+            one_of: or_implied::<Self, _>(alloc, members, "oneOf", steps),
+            all_of: or_implied::<Self, _>(alloc, members, "allOf", steps),
+            any_of: or_implied::<Self, _>(alloc, members, "anyOf", steps),
+            properties: or_implied::<Self, _>(alloc, members, "properties", steps),
+        })
     }
 
     fn put_rows(&self, alloc: Global, out: &mut Members) -> Result<()> {

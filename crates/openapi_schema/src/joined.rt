@@ -3,7 +3,7 @@
 //! Functions with a stack frame for a whole schema are here and not among the mutually recursive readers. The readers
 //! call them after all values below were read, so no level of a nested schema keeps that frame while it waits for the
 //! next one.
-ghost use Rattle.std.specs.Prelude.{◌≡◌, ◌+◌, ◌*◌, ◌≤◌, None, Ok};
+ghost use Rattle.std.specs.Prelude.{◌≡◌, ◌+◌, ◌*◌, ◌≤◌, None};
 ghost use Rattle.openapi_node.specs.Tree.{Members, members_of, object};
 ghost use Rattle.openapi_tables.specs.ByRow.{rows_asked, rows_weight};
 ghost use Rattle.openapi_tables.specs.Kind as kinds;
@@ -11,12 +11,13 @@ ghost use Rattle.openapi_tables.specs.Tables.{final_tables};
 ghost use Rattle.openapi_fields.specs.Returned.{ReadAs, RisesBy};
 ghost use Rattle.openapi_fields.specs.References.{reference_in};
 ghost use Rattle.openapi_fields.specs.Reading.{PartReadAs};
-ghost use Rattle.openapi_schema.specs.KindNames.{first_rows, last_rows};
+ghost use Rattle.openapi_schema.specs.KindNames.{kind_forms};
 ghost use Rattle.openapi_schema.specs.Kinds.{entries_left};
-ghost use Rattle.openapi_schema.specs.Reading.{KindReadAs, first_optional, last_optional, ref_form};
+ghost use Rattle.openapi_schema.specs.RawSlots.{optional_rows};
+ghost use Rattle.openapi_schema.specs.Reading.{KindReadAs, ref_form};
 ghost use Rattle.openapi_schema.specs.SchemaForms.{schema_form};
 
-use crate::kind_names::{FirstNames, LastNames};
+use crate::kind_names::KindNames;
 use crate::schema::{Schema, SchemaKind};
 use crate::schema_kind::schema_kind;
 use openapi_fields::{Record, as_item};
@@ -25,20 +26,19 @@ use openapi_schema_types::SchemaData;
 use openapi_values::ReferenceOr;
 use std::alloc::Global;
 
-/// Returns the kind of a schema, by what was read under the first twelve names and under the last twelve.
+/// Returns the kind of a schema, by what was read under the kind names.
 #[inline(never)]
 pub(crate) fn kind_with(
     alloc: Global,
-    first: FirstNames,
-    last: Result<LastNames<'_>>,
+    names: Result<KindNames<'_>>,
     steps: &mut Steps,
 ) -> Result<SchemaKind>
-    ensures reads { (ms : Members) → PartReadAs first_rows (Ok first) kinds.a_schema_kind first_optional ms
-        → PartReadAs last_rows last.entry kinds.a_schema_kind last_optional ms → KindReadAs result ms }
-    ensures count { RisesBy steps.old steps.new (2 * entries_left last.entry) }
+    ensures reads { (ms : Members) → PartReadAs kind_forms names.entry kinds.a_schema_kind optional_rows ms
+        → KindReadAs result ms }
+    ensures count { RisesBy steps.old steps.new (2 * entries_left names.entry) }
 {
-    match last {
-        Ok(last) => schema_kind(alloc, first, last, steps),
+    match names {
+        Ok(names) => schema_kind(alloc, names, steps),
         Err(fault) => Err(fault),
     }
 }

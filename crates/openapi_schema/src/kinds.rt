@@ -10,7 +10,7 @@ ghost use Rattle.openapi_schema.specs.Kinds.{entries_weight, trees_in, trees_or_
 
 use crate::any_names::any_of_names;
 use crate::composite_types::{ArrayType, ObjectType};
-use crate::kind_names::{FirstNames, LastNames};
+use crate::kind_names::KindNames;
 use crate::schema::{SchemaKind, SchemaType};
 use openapi_node::{Node, OrderedMap, Result, Steps, Whole};
 use openapi_schema_types::{
@@ -60,9 +60,9 @@ pub(crate) trait TypedEntry: Entry + Drop {
     ghost sort: { Sort };
 
     /// Returns a schema of this type.
-    fn kind(first: FirstNames, last: LastNames<'_>, enumeration: Vec<Option<Self>>) -> SchemaKind
-        requires { IsEnumeration Self.tree_in enumeration last }
-        ensures { IsKindOf sort result first last.entry };
+    fn kind(names: KindNames<'_>, enumeration: Vec<Option<Self>>) -> SchemaKind
+        requires { IsEnumeration Self.tree_in enumeration names }
+        ensures { IsKindOf sort result names.entry };
 
     // What the sort requires further is that the entries are such values.
     ghost asks: { (ms : Members) → further sort (members_list ms) ≡ entries_pass Self.test
@@ -73,18 +73,17 @@ pub(crate) trait TypedEntry: Entry + Drop {
 impl TypedEntry for String {
     ghost sort = { sorts.string_sort };
 
-    fn kind(first: FirstNames, last: LastNames<'_>, enumeration: Vec<Option<String>>) -> SchemaKind
-        requires { IsEnumeration text_tree enumeration last }
-        ensures { IsKindOf sorts.string_sort result first last.entry }
+    fn kind(names: KindNames<'_>, enumeration: Vec<Option<String>>) -> SchemaKind
+        requires { IsEnumeration text_tree enumeration names }
+        ensures { IsKindOf sorts.string_sort result names.entry }
     {
-        let plain_first = first.plain;
-        let plain_last = last.plain;
+        let plain = names.plain;
         SchemaKind::Typed(SchemaType::String(StringType {
-            format: plain_last.format.into(),
-            pattern: plain_first.pattern,
+            format: plain.format.into(),
+            pattern: plain.pattern,
             enumeration,
-            min_length: plain_last.min_length,
-            max_length: plain_last.max_length,
+            min_length: plain.min_length,
+            max_length: plain.max_length,
         }))
     }
 
@@ -95,19 +94,18 @@ impl TypedEntry for String {
 impl TypedEntry for Whole {
     ghost sort = { sorts.number_sort };
 
-    fn kind(first: FirstNames, last: LastNames<'_>, enumeration: Vec<Option<Whole>>) -> SchemaKind
-        requires { IsEnumeration number_tree enumeration last }
-        ensures { IsKindOf sorts.number_sort result first last.entry }
+    fn kind(names: KindNames<'_>, enumeration: Vec<Option<Whole>>) -> SchemaKind
+        requires { IsEnumeration number_tree enumeration names }
+        ensures { IsKindOf sorts.number_sort result names.entry }
     {
-        let plain_first = first.plain;
-        let plain_last = last.plain;
+        let plain = names.plain;
         SchemaKind::Typed(SchemaType::Number(NumberType {
-            format: plain_last.format.into(),
-            multiple_of: plain_first.multiple_of,
-            exclusive_minimum: plain_first.exclusive_minimum.unwrap_or(false),
-            exclusive_maximum: plain_first.exclusive_maximum.unwrap_or(false),
-            minimum: plain_first.minimum,
-            maximum: plain_first.maximum,
+            format: plain.format.into(),
+            multiple_of: plain.multiple_of,
+            exclusive_minimum: plain.exclusive_minimum.unwrap_or(false),
+            exclusive_maximum: plain.exclusive_maximum.unwrap_or(false),
+            minimum: plain.minimum,
+            maximum: plain.maximum,
             enumeration,
         }))
     }
@@ -119,9 +117,9 @@ impl TypedEntry for Whole {
 impl TypedEntry for bool {
     ghost sort = { sorts.boolean_sort };
 
-    fn kind(first: FirstNames, last: LastNames<'_>, enumeration: Vec<Option<bool>>) -> SchemaKind
-        requires { IsEnumeration flag_tree enumeration last }
-        ensures { IsKindOf sorts.boolean_sort result first last.entry }
+    fn kind(names: KindNames<'_>, enumeration: Vec<Option<bool>>) -> SchemaKind
+        requires { IsEnumeration flag_tree enumeration names }
+        ensures { IsKindOf sorts.boolean_sort result names.entry }
     {
         SchemaKind::Typed(SchemaType::Boolean(BooleanType { enumeration }))
     }
@@ -133,17 +131,16 @@ impl TypedEntry for bool {
 /// else. The only error is an allocation failure.
 pub(crate) fn typed_or_any<T: TypedEntry>(
     alloc: Global,
-    first: FirstNames,
-    last: LastNames<'_>,
+    names: KindNames<'_>,
     steps: &mut Steps,
 ) -> Result<SchemaKind>
-    ensures reads { IfOk result (λ k. IsKindBy T.sort k first last.entry) }
+    ensures reads { IfOk result (λ k. IsKindBy T.sort k names.entry) }
     ensures err { IfErr result IsMemory }
-    ensures count { RisesBy steps.old steps.new (2 * entries_weight (trees_in last.entry.enumeration)) }
+    ensures count { RisesBy steps.old steps.new (2 * entries_weight (trees_in names.entry.enumeration)) }
 {
-    match enumeration::<T>(alloc, last.enumeration, steps)? {
-        Some(enumeration) => Ok(T::kind(first, last, enumeration)),
-        None => any_kind(alloc, first, last, steps),
+    match enumeration::<T>(alloc, names.enumeration, steps)? {
+        Some(enumeration) => Ok(T::kind(names, enumeration)),
+        None => any_kind(alloc, names, steps),
     }
 }
 
@@ -169,16 +166,16 @@ struct Limits {
 }
 
 /// Returns the limits, or `None` if one of them does not fit.
-fn limits_in(first: &FirstNames) -> Option<Limits>
-    ensures { LimitsReadAs result first.now }
+fn limits_in(names: &KindNames<'_>) -> Option<Limits>
+    ensures { LimitsReadAs result names.now }
 {
-    let Some(multiple_of) = limit(&first.plain.multiple_of) else {
+    let Some(multiple_of) = limit(&names.plain.multiple_of) else {
         return None;
     };
-    let Some(minimum) = limit(&first.plain.minimum) else {
+    let Some(minimum) = limit(&names.plain.minimum) else {
         return None;
     };
-    let Some(maximum) = limit(&first.plain.maximum) else {
+    let Some(maximum) = limit(&names.plain.maximum) else {
         return None;
     };
     Some(Limits {
@@ -189,25 +186,19 @@ fn limits_in(first: &FirstNames) -> Option<Limits>
 }
 
 /// Returns a schema of whole numbers with these limits.
-fn integer_kind(
-    first: FirstNames,
-    last: LastNames<'_>,
-    limits: Limits,
-    enumeration: Vec<Option<i64>>,
-) -> SchemaKind
-    requires multiple_of { limits.multiple_of ≡ first.plain.multiple_of }
-    requires minimum { limits.minimum ≡ first.plain.minimum }
-    requires maximum { limits.maximum ≡ first.plain.maximum }
-    requires enumeration { IsEnumeration signed_tree enumeration last }
-    ensures { IsKindOf sorts.integer_sort result first last.entry }
+fn integer_kind(names: KindNames<'_>, limits: Limits, enumeration: Vec<Option<i64>>) -> SchemaKind
+    requires multiple_of { limits.multiple_of ≡ names.plain.multiple_of }
+    requires minimum { limits.minimum ≡ names.plain.minimum }
+    requires maximum { limits.maximum ≡ names.plain.maximum }
+    requires enumeration { IsEnumeration signed_tree enumeration names }
+    ensures { IsKindOf sorts.integer_sort result names.entry }
 {
-    let plain_first = first.plain;
-    let plain_last = last.plain;
+    let plain = names.plain;
     SchemaKind::Typed(SchemaType::Integer(IntegerType {
-        format: plain_last.format.into(),
+        format: plain.format.into(),
         multiple_of: limits.multiple_of,
-        exclusive_minimum: plain_first.exclusive_minimum.unwrap_or(false),
-        exclusive_maximum: plain_first.exclusive_maximum.unwrap_or(false),
+        exclusive_minimum: plain.exclusive_minimum.unwrap_or(false),
+        exclusive_maximum: plain.exclusive_maximum.unwrap_or(false),
         minimum: limits.minimum,
         maximum: limits.maximum,
         enumeration,
@@ -218,61 +209,55 @@ fn integer_kind(
 /// does not fit 64 bits with sign. The only error is an allocation failure.
 pub(crate) fn integer_or_any(
     alloc: Global,
-    first: FirstNames,
-    last: LastNames<'_>,
+    names: KindNames<'_>,
     steps: &mut Steps,
 ) -> Result<SchemaKind>
-    ensures reads { IfOk result (λ k. IsKindBy sorts.integer_sort k first last.entry) }
+    ensures reads { IfOk result (λ k. IsKindBy sorts.integer_sort k names.entry) }
     ensures err { IfErr result IsMemory }
-    ensures count { RisesBy steps.old steps.new (2 * entries_weight (trees_in last.entry.enumeration)) }
+    ensures count { RisesBy steps.old steps.new (2 * entries_weight (trees_in names.entry.enumeration)) }
 {
-    let Some(limits) = limits_in(&first) else {
-        return any_kind(alloc, first, last, steps);
+    let Some(limits) = limits_in(&names) else {
+        return any_kind(alloc, names, steps);
     };
-    match enumeration(alloc, last.enumeration, steps)? {
-        Some(enumeration) => Ok(integer_kind(first, last, limits, enumeration)),
-        None => any_kind(alloc, first, last, steps),
+    match enumeration(alloc, names.enumeration, steps)? {
+        Some(enumeration) => Ok(integer_kind(names, limits, enumeration)),
+        None => any_kind(alloc, names, steps),
     }
 }
 
 /// Returns a schema of objects.
-pub(crate) fn object_kind(alloc: Global, first: FirstNames, last: LastNames<'_>) -> SchemaKind
-    ensures { IsKindOf sorts.object_sort result first last.entry }
+pub(crate) fn object_kind(alloc: Global, names: KindNames<'_>) -> SchemaKind
+    ensures { IsKindOf sorts.object_sort result names.entry }
 {
-    let plain_first = first.plain;
+    let plain = names.plain;
     SchemaKind::Typed(SchemaType::Object(ObjectType {
-        properties: first.properties.unwrap_or(OrderedMap::new(alloc)),
-        required: first.required.unwrap_or(Vec::new(alloc)),
-        additional_properties: first.additional_properties,
-        min_properties: plain_first.min_properties,
-        max_properties: plain_first.max_properties,
+        properties: names.properties.unwrap_or(OrderedMap::new(alloc)),
+        required: plain.required.unwrap_or(Vec::new(alloc)),
+        additional_properties: names.additional_properties,
+        min_properties: plain.min_properties,
+        max_properties: plain.max_properties,
     }))
 }
 
 /// Returns a schema of arrays.
-pub(crate) fn array_kind(first: FirstNames, last: LastNames<'_>) -> SchemaKind
-    ensures { IsKindOf sorts.array_sort result first last.entry }
+pub(crate) fn array_kind(names: KindNames<'_>) -> SchemaKind
+    ensures { IsKindOf sorts.array_sort result names.entry }
 {
-    let plain_last = last.plain;
+    let plain = names.plain;
     SchemaKind::Typed(SchemaType::Array(ArrayType {
-        items: last.items,
-        min_items: plain_last.min_items,
-        max_items: plain_last.max_items,
-        unique_items: plain_last.unique_items.unwrap_or(false),
+        items: names.items,
+        min_items: plain.min_items,
+        max_items: plain.max_items,
+        unique_items: plain.unique_items.unwrap_or(false),
     }))
 }
 
 /// Returns a schema of no sort in particular. The only error is an allocation failure.
-pub(crate) fn any_kind(
-    alloc: Global,
-    first: FirstNames,
-    last: LastNames<'_>,
-    steps: &mut Steps,
-) -> Result<SchemaKind>
-    ensures ok { IfOk result (λ k. IsKindOf sorts.any_sort k first last.entry) }
+pub(crate) fn any_kind(alloc: Global, names: KindNames<'_>, steps: &mut Steps) -> Result<SchemaKind>
+    ensures ok { IfOk result (λ k. IsKindOf sorts.any_sort k names.entry) }
     ensures err { IfErr result IsMemory }
-    ensures count { RisesBy steps.old steps.new (entries_weight (trees_in last.entry.enumeration)) }
+    ensures count { RisesBy steps.old steps.new (entries_weight (trees_in names.entry.enumeration)) }
 {
-    let enumeration = kept(alloc, last.enumeration, steps)?;
-    Ok(SchemaKind::Any(any_of_names(alloc, first, last, enumeration)))
+    let enumeration = kept(alloc, names.enumeration, steps)?;
+    Ok(SchemaKind::Any(any_of_names(alloc, names, enumeration)))
 }

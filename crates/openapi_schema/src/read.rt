@@ -1,6 +1,6 @@
 //! Readers of schemas. The functions are mutually recursive, as schemas contain schemas: each call gets a smaller part
 //! of the JSON value in the end. A value is opened once, and passed on as its view.
-ghost use Rattle.std.specs.Prelude.{◌≡◌, ◌+◌, ◌*◌, ◌≤◌, Some, codes, IfOk};
+ghost use Rattle.std.specs.Prelude.{◌≡◌, ◌+◌, ◌*◌, ◌≤◌, Some, codes};
 ghost use Rattle.openapi_node.specs.Tree.{list, items_of, members_of, size_of, items_size, members_size, object};
 ghost use Rattle.openapi_node.specs.View.{shown};
 ghost use Rattle.openapi_tables.specs.Kind as kinds;
@@ -9,21 +9,22 @@ ghost use Rattle.openapi_tables.specs.Tables.{final_tables};
 ghost use Rattle.openapi_fields.specs.Forms.{list_form, map_form, optional_form};
 ghost use Rattle.openapi_fields.specs.Returned.{ReadAs, RowReadAs, Refuses, RisesBelow, RisesBy};
 ghost use Rattle.openapi_fields.specs.Reading.{PartReadAs};
-ghost use Rattle.openapi_schema.specs.KindNames.{first_rows, last_rows};
-ghost use Rattle.openapi_schema.specs.Kinds.{entries_weight, trees_in};
+ghost use Rattle.openapi_schema.specs.KindNames.{kind_forms};
+ghost use Rattle.openapi_schema.specs.Kinds.{entries_left};
 ghost use Rattle.openapi_schema.specs.RawSlots.{optional_rows};
-ghost use Rattle.openapi_schema.specs.Reading.{KindReadAs, first_optional, last_optional};
+ghost use Rattle.openapi_schema.specs.Reading.{KindReadAs};
 ghost use Rattle.openapi_schema.specs.Reading.{ref_form, inner_box_form, outer_box_form};
 ghost use Rattle.openapi_schema.specs.SchemaForms.{additional_form};
 
 use crate::boxes::in_additional;
 use crate::joined::{item_with, kind_with};
-use crate::kind_names::{FirstNames, KindNames, LastNames};
-use crate::plain_names::{read_plain_first, read_plain_last};
+use crate::kind_names::KindNames;
+use crate::plain_names::read_plain_names;
 use crate::presence::lent_entries;
 use crate::schema::{AdditionalProperties, Schema, SchemaKind};
 use openapi_fields::{
-    as_member, in_inner_box, in_outer_box, optional, present_view, push, put_read, read_reference,
+    as_member, from_joined, in_inner_box, in_outer_box, present_view, push, put_read,
+    read_reference,
 };
 use openapi_node::{Cause, Expected, Fault, Members, Node, OrderedMap, Result, Steps, View};
 use openapi_values::ReferenceOr;
@@ -104,59 +105,33 @@ pub(crate) fn read_kind(alloc: Global, members: &Members, steps: &mut Steps) -> 
     ensures reads { KindReadAs result (members_of members.now) }
     ensures count { RisesBy steps.old steps.new (3 * rows_weight optional_rows (members_of members.now)) }
 {
-    let first = read_first_names(alloc, members, steps)?;
-    kind_with(alloc, first, read_last_names(alloc, members, steps), steps)
+    kind_with(alloc, read_kind_names(alloc, members, steps), steps)
 }
 
-/// Reads the values of the first twelve names by which the kinds of schemas are distinguished.
+/// Reads the values under the kind names. The accesses that are left suffice for the entries of the enumeration.
 #[cycle(read)]
-#[tactic(auto, using(crate::proofs::PartRows::first_weight), unfolding(openapi_tables::specs::Members::checked_rows, openapi_tables::specs::Tables::any_rows))]
+#[tactic(auto, using(crate::proofs::NameRows::names_weight), unfolding(openapi_tables::specs::Members::checked_rows, openapi_tables::specs::Tables::any_rows))]
 #[inline(never)]
-fn read_first_names(alloc: Global, members: &Members, steps: &mut Steps) -> Result<FirstNames>
-    ensures reads { PartReadAs first_rows result kinds.a_schema_kind first_optional (members_of members.now) }
-    ensures count { RisesBy steps.old steps.new (3 * rows_weight first_optional (members_of members.now)) }
-{
-    let plain = read_plain_first(alloc, members, steps)?;
-    let properties = read_properties(alloc, members, steps)?;
-    let required = optional::<KindNames, _>(alloc, members, "required", steps)?;
-    let additional_properties = read_additional(alloc, members, steps)?;
-    Ok(FirstNames {
-        plain,
-        properties,
-        required,
-        additional_properties,
-    })
-}
-
-/// Reads the values of the last twelve names. The accesses that are left suffice for the entries of the enumeration.
-#[cycle(read)]
-#[tactic(auto, using(crate::proofs::PartRows::last_weight), unfolding(openapi_tables::specs::Members::checked_rows, openapi_tables::specs::Tables::any_rows))]
-#[inline(never)]
-fn read_last_names<'a>(
+fn read_kind_names<'a>(
     alloc: Global,
     members: &'a Members,
     steps: &mut Steps,
-) -> Result<LastNames<'a>>
-    ensures reads { PartReadAs last_rows result kinds.a_schema_kind last_optional (members_of members.now) }
-    ensures count { RisesBy steps.old steps.new (3 * rows_weight last_optional (members_of members.now)) }
-    ensures left { IfOk result (λ b. steps.new + 2 * entries_weight (trees_in b.enumeration) ≤ steps.old
-        + 3 * rows_weight last_optional (members_of members.now)) }
+) -> Result<KindNames<'a>>
+    ensures reads { PartReadAs kind_forms result kinds.a_schema_kind optional_rows (members_of members.now) }
+    ensures rises { steps.old ≤ steps.new }
+    ensures left { steps.new + 2 * entries_left result ≤ steps.old
+        + 3 * rows_weight optional_rows (members_of members.now) }
 {
-    let enumeration = lent_entries(alloc, members, steps)?;
-    let plain = read_plain_last(alloc, members, steps)?;
-    let items = read_inner_box(alloc, members, "items", steps)?;
-    let one_of = read_listed(alloc, members, "oneOf", steps)?;
-    let all_of = read_listed(alloc, members, "allOf", steps)?;
-    let any_of = read_listed(alloc, members, "anyOf", steps)?;
-    let not = read_outer_box(alloc, members, "not", steps)?;
-    Ok(LastNames {
-        plain,
-        items,
-        enumeration,
-        one_of,
-        all_of,
-        any_of,
-        not,
+    from_joined!(KindNames {
+        not: read_outer_box(alloc, members, "not", steps),
+        items: read_inner_box(alloc, members, "items", steps),
+        one_of: read_listed(alloc, members, "oneOf", steps),
+        all_of: read_listed(alloc, members, "allOf", steps),
+        any_of: read_listed(alloc, members, "anyOf", steps),
+        additional_properties: read_additional(alloc, members, steps),
+        properties: read_properties(alloc, members, steps),
+        enumeration: lent_entries(alloc, members, steps),
+        plain: read_plain_names(alloc, members, steps),
     })
 }
 

@@ -6,7 +6,7 @@ ghost use Rattle.openapi_fields.specs.Returned.{RisesBy};
 ghost use Rattle.openapi_schema.specs.Kinds.{IsKind, IsKindBy, entries_weight, trees_in};
 
 use crate::any_schema::AnySchema;
-use crate::kind_names::{FirstNames, LastNames, named_sort};
+use crate::kind_names::{KindNames, named_sort};
 use crate::kinds::{any_kind, array_kind, integer_or_any, object_kind, typed_or_any};
 use crate::schema::{Schema, SchemaKind};
 use openapi_node::{Result, Steps, Whole};
@@ -16,7 +16,7 @@ use std::alloc::Global;
 
 /// Returns the kind of a schema that has nothing but `not`.
 fn not_kind(alloc: Global, not: Option<Box<ReferenceOr<Schema>>>) -> SchemaKind
-    ensures { (first : FirstNames) (last : LastNames) → last.not ≡ not → IsKindBy sorts.not_sort result first last }
+    ensures { (names : KindNames) → names.not ≡ not → IsKindBy sorts.not_sort result names }
 {
     match not {
         Some(not) => SchemaKind::Not { not },
@@ -27,31 +27,30 @@ fn not_kind(alloc: Global, not: Option<Box<ReferenceOr<Schema>>>) -> SchemaKind
 /// Returns the kind of a schema by the values of the kind names. The only error is an allocation failure.
 pub(crate) fn schema_kind(
     alloc: Global,
-    first: FirstNames,
-    last: LastNames<'_>,
+    names: KindNames<'_>,
     steps: &mut Steps,
 ) -> Result<SchemaKind>
-    ensures reads { IfOk result (λ k. IsKind k first last.entry) }
+    ensures reads { IfOk result (λ k. IsKind k names.entry) }
     ensures err { IfErr result IsMemory }
-    ensures count { RisesBy steps.old steps.new (2 * entries_weight (trees_in last.entry.enumeration)) }
+    ensures count { RisesBy steps.old steps.new (2 * entries_weight (trees_in names.entry.enumeration)) }
 {
-    match named_sort(&first, &last) {
-        Sort::String => typed_or_any::<String>(alloc, first, last, steps),
-        Sort::Number => typed_or_any::<Whole>(alloc, first, last, steps),
-        Sort::Integer => integer_or_any(alloc, first, last, steps),
-        Sort::Boolean => typed_or_any::<bool>(alloc, first, last, steps),
-        Sort::Object => Ok(object_kind(alloc, first, last)),
-        Sort::Array => Ok(array_kind(first, last)),
+    match named_sort(&names) {
+        Sort::String => typed_or_any::<String>(alloc, names, steps),
+        Sort::Number => typed_or_any::<Whole>(alloc, names, steps),
+        Sort::Integer => integer_or_any(alloc, names, steps),
+        Sort::Boolean => typed_or_any::<bool>(alloc, names, steps),
+        Sort::Object => Ok(object_kind(alloc, names)),
+        Sort::Array => Ok(array_kind(names)),
         Sort::OneOf => Ok(SchemaKind::OneOf {
-            one_of: last.one_of.unwrap_or(Vec::new(alloc)),
+            one_of: names.one_of.unwrap_or(Vec::new(alloc)),
         }),
         Sort::AllOf => Ok(SchemaKind::AllOf {
-            all_of: last.all_of.unwrap_or(Vec::new(alloc)),
+            all_of: names.all_of.unwrap_or(Vec::new(alloc)),
         }),
         Sort::AnyOf => Ok(SchemaKind::AnyOf {
-            any_of: last.any_of.unwrap_or(Vec::new(alloc)),
+            any_of: names.any_of.unwrap_or(Vec::new(alloc)),
         }),
-        Sort::Not => Ok(not_kind(alloc, last.not)),
-        Sort::Any => any_kind(alloc, first, last, steps),
+        Sort::Not => Ok(not_kind(alloc, names.not)),
+        Sort::Any => any_kind(alloc, names, steps),
     }
 }

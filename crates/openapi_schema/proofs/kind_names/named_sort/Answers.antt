@@ -5,5 +5,5 @@ use Rattle.openapi_schema.proofs.kind_names.named_sort.Goals as goal
 pub returns : goal.returns
 returns c = λ ms rows.
     c.by_names.ensures (members_list ms)
-    (mask_read c.args.first.now c.args.last.now ms c.present_names.result.bits rows c.present_names.ensures)
-    (rw c.lent.ensures (type_in c.args.first.now c.args.last.now ms rows))
+    (mask_read c.args.names.now ms c.present_names.result.bits rows c.present_names.ensures)
+    (rw c.lent.ensures (type_in c.args.names.now ms rows))

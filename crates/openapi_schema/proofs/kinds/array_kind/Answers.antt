@@ -11,9 +11,9 @@ use Rattle.openapi_schema.proofs.kinds.array_kind.Goals as goal
 pub returns : goal.returns
 unfolding sort_slots kind_names any_rows sort_rows array_rows
 returns c =
-    let b = c.args.last in
+    let a = c.args.names in
     array_rows-kind _
     ∙ ap (λ rows. (array_sort, absent ∷ rows)) (array_rows-roll _
-    ∙ (λ i. optional_form (reference_form (λ s. schema_form s.value)) b.items ∷ optional_form size_form b.plain.min_items
-    ∷ optional_form size_form b.plain.max_items
-    ∷ (ap flag_form c.unwrap_or.ensures ∙ flag_slot b.plain.unique_items) i ∷ []))
+    ∙ (λ i. optional_form (reference_form (λ s. schema_form s.value)) a.items ∷ optional_form size_form a.plain.min_items
+    ∷ optional_form size_form a.plain.max_items
+    ∷ (ap flag_form c.unwrap_or.ensures ∙ flag_slot a.plain.unique_items) i ∷ []))

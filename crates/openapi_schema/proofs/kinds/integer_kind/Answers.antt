@@ -12,10 +12,10 @@ use Rattle.openapi_schema.proofs.kinds.integer_kind.Goals as goal
 pub returns : goal.returns
 unfolding sort_slots kind_names any_rows sort_rows
 returns c =
-    let a = c.args.first in
+    let a = c.args.names in
     integer_rows-kind _
     ∙ ap (λ rows. (integer_sort, absent ∷ rows)) (λ i.
-    format_slot _ integer_format_word integer_formats c.args.last.plain.format _ c.into.ensures i
+    format_slot _ integer_format_word integer_formats c.args.names.plain.format _ c.into.ensures i
     ∷ optional_form number_form (c.requires.multiple_of i)
     ∷ (ap flag_form c.unwrap_or.ensures ∙ flag_slot a.plain.exclusive_minimum) i
     ∷ (ap flag_form c.unwrap_or-2.ensures ∙ flag_slot a.plain.exclusive_maximum) i

@@ -15,16 +15,18 @@ use Rattle.openapi_fields.specs.References.{reference_in}
 use Rattle.openapi_fields.proofs.Below.{fails_above, refuses, size-positive, wrong_here, not_list, not_map}
 use Rattle.openapi_fields.proofs.Elements.{list_gives, every-more, each-more, item_leads, next_here}
 use Rattle.openapi_fields.proofs.Referring.{reads_reference}
+use Rattle.openapi_fields.proofs.Joining.{row_first, row_joined}
+use Rattle.openapi_schema.specs.PlainNames.{plain_rows}
 use Rattle.openapi_schema.specs.RawSlots.{optional_rows}
 use Rattle.openapi_schema.specs.Reading.{ref_form, inner_box_form, outer_box_form}
 use Rattle.openapi_schema.specs.SchemaForms.{additional_form, schema_form}
 use Rattle.openapi_schema.proofs.KindGives.{schema_weight-le}
-use Rattle.openapi_schema.proofs.PartRows.{first_whole, last_whole, last_weight}
+use Rattle.openapi_schema.proofs.NameRows.{first_holds, last_holds, names_weight, part_joined}
 use Rattle.openapi_fields.proofs.RecursiveReading.{all_so_far, map_read, next_refused, next_so_far, none_present}
 use Rattle.openapi_fields.proofs.RecursiveReading.{none_so_far, read_present}
 use Rattle.openapi_fields.proofs.EntryReading.{name_unread}
 use Rattle.openapi_schema.proofs.Refusals.{not_object_fails, not_flag_or_object}
-use Rattle.openapi_schema.proofs.SchemaReads.{entries_left-le, names_weight, none_referred, additional-any}
+use Rattle.openapi_schema.proofs.SchemaReads.{none_referred, additional-any}
 use Rattle.openapi_schema.proofs.read.+read.Goals as goal
 
 pub read_inner_box-returns-in-None : goal.read_inner_box-returns-in-None
@@ -181,63 +183,80 @@ pub read_boxed_ref-returns-clause-reads : goal.read_boxed_ref-returns-clause-rea
 read_boxed_ref-returns-clause-reads t c =
     c.in_outer_box.ensures schema_form (ref_to a_schema) (shown c.args.view.now) c.read_schema_ref.ensures.reads
 
-pub read_kind-returns-in_err-first-clause-count : goal.read_kind-returns-in_err-first-clause-count
-read_kind-returns-in_err-first-clause-count t c =
-    (omega (arith, c.in_err-first.ensures.count.0), omega (arith, names_weight (members_of c.args.members.now), c.in_err-first.ensures.count.1))
-
 pub read_kind-returns-clause-reads : goal.read_kind-returns-clause-reads
 read_kind-returns-clause-reads t c =
-    c.kind_with.ensures.reads (members_of c.args.members.now) c.in_ok-first.ensures.reads c.read_last_names.ensures.reads
+    c.kind_with.ensures.reads (members_of c.args.members.now) c.read_kind_names.ensures.reads
 
 pub read_kind-returns-clause-count : goal.read_kind-returns-clause-count
 read_kind-returns-clause-count t c = (
-  omega (arith, c.in_ok-first.ensures.count.0, c.read_last_names.ensures.count.0, c.kind_with.ensures.count.0),
-  omega (
-    arith,
-    names_weight (members_of c.args.members.now),
-    c.in_ok-first.ensures.count.1,
-    entries_left-le c.read_last_names.result c.read_last_names.new.steps _ c.read_last_names.ensures.count.1
-        c.read_last_names.ensures.left,
-    c.kind_with.ensures.count.1,
-  ),
+  omega (arith, c.read_kind_names.ensures.rises, c.kind_with.ensures.count.0),
+  omega (arith, c.read_kind_names.ensures.left, c.kind_with.ensures.count.1),
 )
 
-pub read_first_names-returns-clause-reads : goal.read_first_names-returns-clause-reads
-read_first_names-returns-clause-reads t c =
-    first_whole (record {
-      plain = c.in_ok-plain.plain;
-      properties = c.in_ok-properties.properties;
-      required = c.in_ok-required.required;
-      additional_properties = c.in_ok-additional_properties.additional_properties;
-    }) (members_of c.args.members.now) c.in_ok-plain.ensures.reads c.in_ok-properties.ensures.reads
-    c.in_ok-required.ensures.reads c.in_ok-additional_properties.ensures.reads
+pub read_kind_names-returns-in-Ok-from_joined-clause-reads : goal.read_kind_names-returns-in-Ok-from_joined-clause-reads
+unfolding optional_rows any_rows plain_rows
+read_kind_names-returns-in-Ok-from_joined-clause-reads t c =
+    let k = a_schema_kind in
+    let ms = members_of c.args.members.now in
+    let one = row_first _ _ k _ ms c.read_outer_box.ensures.reads in
+    let two = row_joined _ _ _ _ _ k _ _ ms c.from_joined-join.ensures one c.read_inner_box.ensures.reads in
+    let three = row_joined _ _ _ _ _ k _ _ ms c.from_joined-join-2.ensures two c.read_listed.ensures.reads in
+    let four = row_joined _ _ _ _ _ k _ _ ms c.from_joined-join-3.ensures three c.read_listed-2.ensures.reads in
+    let five = row_joined _ _ _ _ _ k _ _ ms c.from_joined-join-4.ensures four c.read_listed-3.ensures.reads in
+    let six = row_joined _ _ _ _ _ k _ _ ms c.from_joined-join-5.ensures five c.read_additional.ensures.reads in
+    let seven = row_joined _ _ _ _ _ k _ _ ms c.from_joined-join-6.ensures six c.read_properties.ensures.reads in
+    let eight = row_joined _ _ _ _ _ k _ _ ms c.from_joined-join-7.ensures seven c.lent_entries.ensures.reads in
+    let nine = part_joined _ _ _ _ _ k _ _ ms c.from_joined-join-8.ensures eight c.read_plain_names.ensures.reads in
+    let all = rw c.in-Ok-from_joined.is at nine in
+    (all.0, (all.1.0, (all.1.1.0, (all.1.1.1.0, (all.1.1.1.1.0, (all.1.1.1.1.1.0, (all.1.1.1.1.1.1.0, (all.1.1.1.1.1.1.1.1.1.1.1.1.1.1.1.1.1.0, (all.1.1.1.1.1.1.1.0, (all.1.1.1.1.1.1.1.1.1.1.1.1.1.1.1.1.1.1.0, (all.1.1.1.1.1.1.1.1.0, (all.1.1.1.1.1.1.1.1.1.0, (all.1.1.1.1.1.1.1.1.1.1.1.1.1.1.1.1.1.1.1.1.1.1.0, (all.1.1.1.1.1.1.1.1.1.1.0, (all.1.1.1.1.1.1.1.1.1.1.1.0, (all.1.1.1.1.1.1.1.1.1.1.1.1.0, (all.1.1.1.1.1.1.1.1.1.1.1.1.1.1.1.1.0, (all.1.1.1.1.1.1.1.1.1.1.1.1.1.0, (all.1.1.1.1.1.1.1.1.1.1.1.1.1.1.0, (all.1.1.1.1.1.1.1.1.1.1.1.1.1.1.1.0, (all.1.1.1.1.1.1.1.1.1.1.1.1.1.1.1.1.1.1.1.1.1.0, (all.1.1.1.1.1.1.1.1.1.1.1.1.1.1.1.1.1.1.1.1.0, (all.1.1.1.1.1.1.1.1.1.1.1.1.1.1.1.1.1.1.1.0, (all.1.1.1.1.1.1.1.1.1.1.1.1.1.1.1.1.1.1.1.1.1.1.1.0, tt))))))))))))))))))))))))
 
-pub read_last_names-returns-clause-reads : goal.read_last_names-returns-clause-reads
-read_last_names-returns-clause-reads t c =
-    last_whole (record {
-      plain = c.in_ok-plain.plain;
-      items = c.in_ok-items.items;
-      enumeration = c.in_ok-enumeration.enumeration;
-      one_of = c.in_ok-one_of.one_of;
-      all_of = c.in_ok-all_of.all_of;
-      any_of = c.in_ok-any_of.any_of;
-      not = c.in_ok-not.not;
-    }) (members_of c.args.members.now) c.in_ok-plain.ensures.reads c.in_ok-items.ensures.reads
-    c.in_ok-enumeration.ensures.reads c.in_ok-one_of.ensures.reads c.in_ok-all_of.ensures.reads
-    c.in_ok-any_of.ensures.reads c.in_ok-not.ensures.reads
+pub read_kind_names-returns-in-Err-from_joined-clause-reads : goal.read_kind_names-returns-in-Err-from_joined-clause-reads
+read_kind_names-returns-in-Err-from_joined-clause-reads t c =
+    let k = a_schema_kind in
+    let ms = members_of c.args.members.now in
+    let one = row_first _ _ k _ ms c.read_outer_box.ensures.reads in
+    let two = row_joined _ _ _ _ _ k _ _ ms c.from_joined-join.ensures one c.read_inner_box.ensures.reads in
+    let three = row_joined _ _ _ _ _ k _ _ ms c.from_joined-join-2.ensures two c.read_listed.ensures.reads in
+    let four = row_joined _ _ _ _ _ k _ _ ms c.from_joined-join-3.ensures three c.read_listed-2.ensures.reads in
+    let five = row_joined _ _ _ _ _ k _ _ ms c.from_joined-join-4.ensures four c.read_listed-3.ensures.reads in
+    let six = row_joined _ _ _ _ _ k _ _ ms c.from_joined-join-5.ensures five c.read_additional.ensures.reads in
+    let seven = row_joined _ _ _ _ _ k _ _ ms c.from_joined-join-6.ensures six c.read_properties.ensures.reads in
+    let eight = row_joined _ _ _ _ _ k _ _ ms c.from_joined-join-7.ensures seven c.lent_entries.ensures.reads in
+    let nine = part_joined _ _ _ _ _ k _ _ ms c.from_joined-join-8.ensures eight c.read_plain_names.ensures.reads in
+    rw c.in-Err-from_joined.is at nine
 
-pub read_last_names-returns-clause-left : goal.read_last_names-returns-clause-left
-read_last_names-returns-clause-left t c =
+pub read_kind_names-returns-in-Ok-from_joined-clause-left : goal.read_kind_names-returns-in-Ok-from_joined-clause-left
+read_kind_names-returns-in-Ok-from_joined-clause-left t c =
+    let left = rw c.in-Ok-from_joined.is at (first_holds _ _ _ _ c.from_joined-join-8.ensures
+    (last_holds _ _ _ _ c.from_joined-join-7.ensures c.lent_entries.ensures.left)) in
     omega (
       arith,
-      last_weight (members_of c.args.members.now),
-      c.in_ok-enumeration.ensures.left,
-      c.in_ok-plain.ensures.count.1,
-      c.in_ok-items.ensures.count.1,
-      c.in_ok-one_of.ensures.count.1,
-      c.in_ok-all_of.ensures.count.1,
-      c.in_ok-any_of.ensures.count.1,
-      c.in_ok-not.ensures.count.1,
+      names_weight (members_of c.args.members.now),
+      left,
+      c.read_outer_box.ensures.count.1,
+      c.read_inner_box.ensures.count.1,
+      c.read_listed.ensures.count.1,
+      c.read_listed-2.ensures.count.1,
+      c.read_listed-3.ensures.count.1,
+      c.read_additional.ensures.count.1,
+      c.read_properties.ensures.count.1,
+      c.read_plain_names.ensures.count.1,
+    )
+
+pub read_kind_names-returns-in-Err-from_joined-clause-left : goal.read_kind_names-returns-in-Err-from_joined-clause-left
+read_kind_names-returns-in-Err-from_joined-clause-left t c =
+    omega (
+      arith,
+      names_weight (members_of c.args.members.now),
+      c.lent_entries.ensures.count.1,
+      c.read_outer_box.ensures.count.1,
+      c.read_inner_box.ensures.count.1,
+      c.read_listed.ensures.count.1,
+      c.read_listed-2.ensures.count.1,
+      c.read_listed-3.ensures.count.1,
+      c.read_additional.ensures.count.1,
+      c.read_properties.ensures.count.1,
+      c.read_plain_names.ensures.count.1,
     )
 
 pub read_inner_box-read_boxed_schema_ref-requires : goal.read_inner_box-read_boxed_schema_ref-requires

@@ -22,11 +22,8 @@ decreases-read_boxed_ref l = view_left l.view.now 1
 abbrev pub decreases-read_kind : goal.decreases-read_kind
 decreases-read_kind l = members_left l.members.now 5
 
-abbrev pub decreases-read_first_names : goal.decreases-read_first_names
-decreases-read_first_names l = members_left l.members.now 4
-
-abbrev pub decreases-read_last_names : goal.decreases-read_last_names
-decreases-read_last_names l = members_left l.members.now 4
+abbrev pub decreases-read_kind_names : goal.decreases-read_kind_names
+decreases-read_kind_names l = members_left l.members.now 4
 
 abbrev pub decreases-read_inner_box : goal.decreases-read_inner_box
 decreases-read_inner_box l = members_left l.members.now 3

@@ -10,12 +10,12 @@ use Rattle.openapi_schema.proofs.schema_kind.not_kind.Goals as goal
 
 pub returns-in-Some : goal.returns-in-Some
 unfolding sort_slots kind_names any_rows sort_rows
-returns-in-Some c = λ a b e.
-    passes_by not_sort a b _ (λ ms rows. refl) (not_rows-kind c.in-Some.not
+returns-in-Some c = λ a e.
+    passes_by not_sort a _ (λ ms rows. refl) (not_rows-kind c.in-Some.not
     ∙ ap (λ f. (not_sort, f ∷ [])) (sym (ap (optional_form outer_box_form) (e ∙ c.in-Some.is))))
 
 pub returns-in-None : goal.returns-in-None
 unfolding optional_rows any_rows
-returns-in-None c = λ a b e ms rows s.
-    absurd (told_there outer_box_form (codes "not") (ref_to a_schema) ms b.not (e ∙ c.in-None.is)
+returns-in-None c = λ a e ms rows s.
+    absurd (told_there outer_box_form (codes "not") (ref_to a_schema) ms a.not (e ∙ c.in-None.is)
     rows.1.1.1.1.1.1.1.1.1.1.1.1.1.1.1.1.1.1.1.1.1.1.1.0 (not_told (members_list ms) s))

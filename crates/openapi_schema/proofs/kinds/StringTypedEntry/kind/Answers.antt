@@ -12,9 +12,8 @@ use Rattle.openapi_schema.proofs.kinds.StringTypedEntry.kind.Goals as goal
 pub returns : goal.returns
 unfolding sort_slots kind_names any_rows sort_rows string_rows
 returns c =
-    let a = c.args.first in
-    let b = c.args.last in
+    let a = c.args.names in
     string_rows-kind _
     ∙ ap (λ rows. (string_sort, absent ∷ rows)) (λ i.
-    format_slot _ string_format_word string_formats b.plain.format _ c.into.ensures i ∷ optional_form text_form a.plain.pattern
-    ∷ c.requires i ∷ optional_form size_form b.plain.min_length ∷ optional_form size_form b.plain.max_length ∷ [])
+    format_slot _ string_format_word string_formats a.plain.format _ c.into.ensures i ∷ optional_form text_form a.plain.pattern
+    ∷ c.requires i ∷ optional_form size_form a.plain.min_length ∷ optional_form size_form a.plain.max_length ∷ [])

@@ -12,10 +12,10 @@ use Rattle.openapi_schema.proofs.kinds.WholeTypedEntry.kind.Goals as goal
 pub returns : goal.returns
 unfolding sort_slots kind_names any_rows sort_rows
 returns c =
-    let a = c.args.first in
+    let a = c.args.names in
     number_rows-kind _
     ∙ ap (λ rows. (number_sort, absent ∷ rows)) (λ i.
-    format_slot _ number_format_word number_formats c.args.last.plain.format _ c.into.ensures i
+    format_slot _ number_format_word number_formats c.args.names.plain.format _ c.into.ensures i
     ∷ optional_form number_form a.plain.multiple_of
     ∷ (ap flag_form c.unwrap_or.ensures ∙ flag_slot a.plain.exclusive_minimum) i
     ∷ (ap flag_form c.unwrap_or-2.ensures ∙ flag_slot a.plain.exclusive_maximum) i

@@ -53,7 +53,9 @@ the prover can't read, or that breaks a rule of the language, is not refused. A 
 that was ended continues where it stopped. The last line is `N passed, M failed`, and counts mutations.
 
 Lines that are a comment count for no hash, in sources, specs and proofs. Nor do those that only state how a function is to be
-inlined: they are hints to the compiler that makes a program of what is proved. No proof sees either.
+inlined: they are hints to the compiler that makes a program of what is proved. No proof sees either. Nor do the ends of lines in
+a source, and its lifetimes. A lifetime may change how a goal is named, and what may be borrowed. It changes no value, and so not
+what a clause states.
 """
 import argparse
 import fcntl
@@ -80,6 +82,10 @@ LOWEST = ("openapi_json", "openapi_map", "openapi_node", "openapi_tables", "open
 UNSEEN = re.compile(r"\s*(?://.*|#\[(?:inline(?:\((?:never|always)\))?|cold)\])?\s*")
 # Likewise of a file of definitions or proofs.
 UNSEEN_IN_PROOFS = re.compile(r"\s*(?:--.*)?")
+# Lifetimes, alone or before other parameters, or of a reference.
+LIFETIMES = re.compile(r"<'\w+(?:, '\w+)*>|(?<=<)(?:'\w+, )+|(?<=&)'\w+ ")
+# The end of a line, as a character, where the same text in one line has nothing, with a comma that only such an end has before it.
+NO_SPACE = re.compile(r",?\0(?=[)\]}>])|(?<=[(\[{<])\0|\0(?=\.)|(?<=\{) | (?=\})")
 # A function or a loop.
 SHAPE = re.compile(r"\bfn \w+|\bfor [^{;]* in |\bwhile |\bloop \{")
 # How an item of a source begins, behind its attributes: what it is, and its name.
@@ -163,6 +169,11 @@ def words(text):
 
 def hash_of_texts(texts):
     return hashlib.sha256(repr(sorted(texts)).encode()).hexdigest()
+
+
+def as_hashed(text):
+    """Returns a source, or a part of one, as one line and without lifetimes."""
+    return NO_SPACE.sub("", re.sub(r"\n\s*", "\0", LIFETIMES.sub("", text))).replace("\0", " ")
 
 
 def lines_of(text):
@@ -338,8 +349,8 @@ class Sources:
         key = function and function.item
         if key not in self.rests:
             texts = self.of_function(function) if function else self.seen.items()
-            self.rests[key] = hash_of_texts(texts)
-        return hash_of_texts([(mutation.name, "\n".join([*mutation.lines, ""])), ("", self.rests[key])])
+            self.rests[key] = hash_of_texts([(file, as_hashed(text) if file.endswith(".rt") else text) for file, text in texts])
+        return hash_of_texts([(mutation.name, as_hashed("\n".join(mutation.lines))), ("", self.rests[key])])
 
 
 def logic_of(kit):

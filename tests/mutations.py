@@ -55,7 +55,7 @@ that was ended continues where it stopped. The last line is `N passed, M failed`
 Lines that are a comment count for no hash, in sources, specs and proofs. Nor do those that only state how a function is to be
 inlined: they are hints to the compiler that makes a program of what is proved. No proof sees either. Nor do the ends of lines in
 a source, and its lifetimes. A lifetime may change how a goal is named, and what may be borrowed. It changes no value, and so not
-what a clause states.
+what a clause states. A name that a file of definitions or proofs imports counts only if the file writes it.
 """
 import argparse
 import fcntl
@@ -82,6 +82,8 @@ LOWEST = ("openapi_json", "openapi_map", "openapi_node", "openapi_tables", "open
 UNSEEN = re.compile(r"\s*(?://.*|#\[(?:inline(?:\((?:never|always)\))?|cold)\])?\s*")
 # Likewise of a file of definitions or proofs.
 UNSEEN_IN_PROOFS = re.compile(r"\s*(?:--.*)?")
+# A line of such a file that imports names from a module.
+IMPORT = re.compile(r"use ([^{]+)\{(.*)\}")
 # Lifetimes, alone or before other parameters, or of a reference.
 LIFETIMES = re.compile(r"<'\w+(?:, '\w+)*>|(?<=<)(?:'\w+, )+|(?<=&)'\w+ ")
 # The end of a line, as a character, where the same text in one line has nothing, with a comma that only such an end has before it.
@@ -182,8 +184,18 @@ def lines_of(text):
 
 
 def seen_in_proofs(text):
-    """Returns what a proof may see of a file of definitions or proofs."""
-    return "\n".join(it for it in text.split("\n") if not UNSEEN_IN_PROOFS.fullmatch(it))
+    """Returns what a proof may see of a file of definitions or proofs. Of the names that it imports, these are those it writes."""
+    lines = [it for it in text.split("\n") if not UNSEEN_IN_PROOFS.fullmatch(it)]
+    imports = [it for it in map(IMPORT.fullmatch, lines) if it]
+    others = [it for it in lines if not IMPORT.fullmatch(it)]
+    written = "\n".join(others)
+    names = {f"{it[1]}{name}" for it in imports for name in it[2].split(", ") if is_met_in(name, written)}
+    return "\n".join((*sorted(names), *others))
+
+
+def is_met_in(name, text):
+    """Returns whether a text may write an imported name: for an operator, whether it has all of its symbols."""
+    return all(it in text for it in name.split(" as ")[-1].split("◌"))
 
 
 def cut(lines, indent):
@@ -213,8 +225,8 @@ def is_written(path, text):
     """Returns whether a text, if there is one, may write what a path of a `use` brings that is no plain word. It writes no operator
     of which it lacks a symbol."""
     operator = re.split(r"[. ]", path)[-1]
-    symbols = operator.split("◌") if "◌" in operator or operator == "[]" else []
-    return text is not None and ("{" in path or all(it in text for it in symbols))
+    is_word = "◌" not in operator and operator != "[]"
+    return text is not None and ("{" in path or is_word or is_met_in(operator, text))
 
 
 class Item:
@@ -336,7 +348,7 @@ class Sources:
         met, more = set(), {it for text in texts for it in self.named_by(text)}
         while more:
             met |= more
-            more = {it for file in more for it in self.named_by(self.files[file])} - met
+            more = {it for file in more for it in self.named_by(self.seen[file])} - met
         return [(it, self.seen[it]) for it in sorted(met) if it.startswith("specs/")]
 
     def named_by(self, text):

@@ -443,17 +443,24 @@ def owner_in(head):
     return ("Any" if of_any else found[3]) + (found[2] or "")
 
 
-class Function:
-    """A function whose body a mutation changes: its file, its impl or trait and name, its cycle, and the lines that it has."""
+def cycle_of(item):
+    """Returns the name of the cycle that a function is in, or an empty text."""
+    found = re.search(r"#\[cycle\((\w+)\)\]", item.text)
+    return found[1] if found else ""
 
-    def __init__(self, item):
+
+class Function:
+    """A function whose body a mutation changes: its file, its impl or trait and name, its cycle, whether that has no other function,
+    and the lines that it has. `others` are the other functions of the crate."""
+
+    def __init__(self, item, others):
         self.item, self.file, self.name, self.lines = item, item.file, item.name, item.lines
         head = re.sub(r"\s+", " ", item.block.opening) if item.block else ""
         self.owner = item.block and (item.block.name or owner_in(head)) or ""
         # The prover calls an impl by the name of its trait, followed by what the trait is of.
         self.more = r"\w*" if re.match(r"impl(?:<[^>]*>)? (?:\w+::)*\w+<.*> for ", head) else ""
-        cycle = re.search(r"#\[cycle\((\w+)\)\]", item.text)
-        self.cycle = cycle[1] if cycle else ""
+        self.cycle = cycle_of(item)
+        self.is_alone = all(cycle_of(it) != self.cycle for it in others)
         inside = self.file.removeprefix("src/").removesuffix(".rt").replace("/", "::")
         self.module = "" if inside in ("lib", "main") else inside
         self.key = self.file, self.owner, self.name
@@ -467,7 +474,8 @@ class Function:
 
     def is_told_of(self, remark):
         """Returns whether a remark of a check reports what is not proved of this function: it names a location in its body, in its
-        proof, or in that of its cycle at a goal of its own."""
+        proof, or in that of its cycle at a goal of its own. Goals of a cycle begin with the name of their function, unless the cycle
+        has no other."""
         path, line, text = remark.groups()
         if path == self.file:
             return int(line) in self.lines and text.startswith(("error", *UNPROVED))
@@ -478,7 +486,8 @@ class Function:
         # the folder of a cycle.
         own = rf"proofs/(\S*/)?{self.owner}{self.more}/" if self.owner else proofs
         if self.cycle:
-            return bool(re.match(rf"{own}\+{self.cycle}/", path)) and f"`{self.name}-" in text
+            is_own = self.is_alone or f"`{self.name}-" in text
+            return is_own and bool(re.match(rf"{own}\+{self.cycle}/", path))
         return bool(re.match(rf"{own}\+?{self.name}/", path))
 
 
@@ -519,7 +528,7 @@ def function_of(mutation, sources):
         found.add(sources.function_at(file, text[: text.index(old)].count("\n") + 1) if file.startswith("src/") else None)
         texts[file] = text.replace(old, new)
     item = found.pop() if len(found) == 1 and len(texts) == 1 else None
-    return Function(item) if item else None
+    return Function(item, [it for it in sources.items if it.kind == "fn" and it is not item]) if item else None
 
 
 # What the prover prints if it meets a limit of its own, which it meets wherever it checks the same.

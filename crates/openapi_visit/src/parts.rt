@@ -52,6 +52,18 @@ impl<P: Drop> Parts<P> {
             Err(error) => self.result = Err(error),
         }
     }
+
+    /// Adds the value of a map at a name. The path is what comes before the name.
+    fn named(&mut self, path: &str, name: &str, part: P) {
+        let path = format!(in self.alloc; "{path}{}", ReferenceToken(name));
+        self.entry(path, part);
+    }
+
+    /// Adds the value of a list at an index. The path is what comes before the index.
+    fn indexed(&mut self, path: &str, index: usize, part: P) {
+        let path = format!(in self.alloc; "{path}{index}");
+        self.entry(path, part);
+    }
 }
 
 /// Makes a part of a value. What comes before the name of the part is how it is held, as in the type of the value: in a
@@ -80,10 +92,7 @@ macro_rules! add_some {
 macro_rules! add_map {
     ($parts:ident, $path:literal, $values:expr, $($held:ident)+) => {
         for (name, value) in $values.iter() {
-            $parts.entry(
-                format!(in $parts.alloc; "{}{}", $path, ReferenceToken(name)),
-                part!(value, $($held)+),
-            );
+            $parts.named($path, name, part!(value, $($held)+));
         }
     };
 }
@@ -92,7 +101,7 @@ macro_rules! add_map {
 macro_rules! add_list {
     ($parts:ident, $path:literal, $values:expr, $($held:ident)+) => {
         for (index, value) in $values.iter().enumerate() {
-            $parts.entry(format!(in $parts.alloc; "{}{index}", $path), part!(value, $($held)+));
+            $parts.indexed($path, index, part!(value, $($held)+));
         }
     };
 }

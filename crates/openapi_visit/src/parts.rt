@@ -1,12 +1,13 @@
 //! What is inside each part.
 use crate::part::Part;
+use indexmap::IndexMap;
 use openapi_documents::{Components, Operation, PathItem};
 use openapi_map::OrderedMap;
 use openapi_media_types::{Content, MediaType, ParameterSchemaOrContent};
 use openapi_metadata::Example;
 use openapi_node::ReferenceToken;
 use openapi_schema::{AdditionalProperties, AnySchema, Schema, SchemaKind, Type};
-use openapi_values::ReferenceOr;
+use openapi_values::{ReferenceOr, StatusCode};
 use std::alloc::{AllocError, Global};
 
 /// The parts inside one part, each with its location, a JSON Pointer.
@@ -19,7 +20,8 @@ pub(crate) struct Parts<P> {
     pub result: Result<(), AllocError>,
 }
 
-/// These functions do not see what parts are, so that their proofs do not see all types of a document.
+/// These functions do not see what parts are, so that their proofs do not see all types of a document. A part is made of a
+/// value, and of the text of a reference.
 impl<P: Drop> Parts<P> {
     /// Creates an empty list of the parts of an object at a location.
     pub(crate) fn new(alloc: Global, location: String) -> Parts<P> {
@@ -64,99 +66,131 @@ impl<P: Drop> Parts<P> {
         let path = format!(in self.alloc; "{path}{index}");
         self.entry(path, part);
     }
+
+    /// Adds a value, or the reference in its place.
+    fn one<'a, T>(&mut self, path: &str, value: &'a ReferenceOr<T>)
+    where
+        P: From<&'a T> + From<&'a str>,
+    {
+        self.add(path, part_of(value));
+    }
+
+    /// Adds the value of a field that has one, or the reference in its place.
+    fn some<'a, T>(&mut self, path: &str, value: &'a Option<ReferenceOr<T>>)
+    where
+        P: From<&'a T> + From<&'a str>,
+    {
+        if let Some(value) = value {
+            self.one(path, value);
+        }
+    }
+
+    /// Adds each value of a map, or the reference in its place. The path is what comes before the names.
+    fn map<'a, T>(&mut self, path: &str, values: &'a OrderedMap<ReferenceOr<T>>)
+    where
+        P: From<&'a T> + From<&'a str>,
+    {
+        for (name, value) in values.iter() {
+            self.named(path, name, part_of(value));
+        }
+    }
+
+    /// Adds each value of a list, or the reference in its place.
+    fn list<'a, T>(&mut self, path: &str, values: &'a Vec<ReferenceOr<T>>)
+    where
+        P: From<&'a T> + From<&'a str>,
+    {
+        for (index, value) in values.iter().enumerate() {
+            self.indexed(path, index, part_of(value));
+        }
+    }
+
+    /// Adds each value of a map by status codes, or the reference in its place.
+    fn codes<'a, T>(&mut self, path: &str, values: &'a IndexMap<StatusCode, ReferenceOr<T>>)
+    where
+        P: From<&'a T> + From<&'a str>,
+    {
+        for (code, value) in values.iter() {
+            let path = format!(in self.alloc; "{path}{code}");
+            self.entry(path, part_of(value));
+        }
+    }
+
+    /// Adds the value of a field that has one and takes no reference.
+    fn some_item<'a, T>(&mut self, path: &str, value: &'a Option<T>)
+    where
+        P: From<&'a T>,
+    {
+        if let Some(value) = value {
+            self.add(path, P::from(value));
+        }
+    }
+
+    /// Adds each value of a map that takes no references. The path is what comes before the names.
+    fn items<'a, T>(&mut self, path: &str, values: &'a OrderedMap<T>)
+    where
+        P: From<&'a T>,
+    {
+        for (name, value) in values.iter() {
+            self.named(path, name, P::from(value));
+        }
+    }
 }
 
-/// Makes a part of a value. What comes before the name of the part is how it is held, as in the type of the value: in a
-/// `Box`, or by a `ReferenceOr`.
-macro_rules! part {
-    ($value:expr, Box $($held:ident)+) => { part!(&**$value, $($held)+) };
-    ($value:expr, ReferenceOr $kind:ident) => {
-        match $value {
-            ReferenceOr::Reference { reference } => Part::Reference(reference),
-            ReferenceOr::Item(item) => Part::$kind(item),
-        }
-    };
-    ($value:expr, $kind:ident) => { Part::$kind($value) };
-}
-
-/// Adds the value of a field that has one.
-macro_rules! add_some {
-    ($parts:ident, $path:literal, $value:expr, $($held:ident)+) => {
-        if let Some(value) = &$value {
-            $parts.add($path, part!(value, $($held)+));
-        }
-    };
-}
-
-/// Adds each value of a map. The path is what comes before the names.
-macro_rules! add_map {
-    ($parts:ident, $path:literal, $values:expr, $($held:ident)+) => {
-        for (name, value) in $values.iter() {
-            $parts.named($path, name, part!(value, $($held)+));
-        }
-    };
-}
-
-/// Adds each value of a list.
-macro_rules! add_list {
-    ($parts:ident, $path:literal, $values:expr, $($held:ident)+) => {
-        for (index, value) in $values.iter().enumerate() {
-            $parts.indexed($path, index, part!(value, $($held)+));
-        }
-    };
+/// Returns the part of a value, or of the reference in its place.
+fn part_of<'a, T, P: From<&'a T> + From<&'a str>>(value: &'a ReferenceOr<T>) -> P {
+    match value {
+        ReferenceOr::Reference { reference } => P::from(reference.as_str()),
+        ReferenceOr::Item(item) => P::from(item),
+    }
 }
 
 impl<'a> Parts<Part<'a>> {
     /// Adds the components of a document.
     fn components(&mut self, it: &'a Components) {
-        add_map!(self, "schemas/", it.schemas, ReferenceOr Schema);
-        add_map!(self, "responses/", it.responses, ReferenceOr Response);
-        add_map!(self, "parameters/", it.parameters, ReferenceOr Parameter);
-        add_map!(self, "examples/", it.examples, ReferenceOr Example);
-        add_map!(self, "requestBodies/", it.request_bodies, ReferenceOr RequestBody);
-        add_map!(self, "headers/", it.headers, ReferenceOr Header);
-        add_map!(self, "securitySchemes/", it.security_schemes, ReferenceOr SecurityScheme);
-        add_map!(self, "links/", it.links, ReferenceOr Link);
-        add_map!(self, "callbacks/", it.callbacks, ReferenceOr Callback);
+        self.map("schemas/", &it.schemas);
+        self.map("responses/", &it.responses);
+        self.map("parameters/", &it.parameters);
+        self.map("examples/", &it.examples);
+        self.map("requestBodies/", &it.request_bodies);
+        self.map("headers/", &it.headers);
+        self.map("securitySchemes/", &it.security_schemes);
+        self.map("links/", &it.links);
+        self.map("callbacks/", &it.callbacks);
     }
 
     /// Adds the parameters and the operations of a path item.
     fn path_item(&mut self, it: &'a PathItem) {
-        add_list!(self, "parameters/", it.parameters, ReferenceOr Parameter);
-        add_some!(self, "get", it.get, Operation);
-        add_some!(self, "put", it.put, Operation);
-        add_some!(self, "post", it.post, Operation);
-        add_some!(self, "delete", it.delete, Operation);
-        add_some!(self, "options", it.options, Operation);
-        add_some!(self, "head", it.head, Operation);
-        add_some!(self, "patch", it.patch, Operation);
-        add_some!(self, "trace", it.trace, Operation);
+        self.list("parameters/", &it.parameters);
+        self.some_item("get", &it.get);
+        self.some_item("put", &it.put);
+        self.some_item("post", &it.post);
+        self.some_item("delete", &it.delete);
+        self.some_item("options", &it.options);
+        self.some_item("head", &it.head);
+        self.some_item("patch", &it.patch);
+        self.some_item("trace", &it.trace);
     }
 
     /// Adds the parts of an operation.
     fn operation_fields(&mut self, it: &'a Operation) {
-        add_list!(self, "parameters/", it.parameters, ReferenceOr Parameter);
-        add_some!(self, "requestBody", it.request_body, ReferenceOr RequestBody);
-        add_some!(self, "responses/default", it.responses.default, ReferenceOr Response);
-        for (code, value) in it.responses.responses.iter() {
-            self.entry(
-                format!(in self.alloc; "responses/{code}"),
-                part!(value, ReferenceOr Response),
-            );
-        }
-        add_map!(self, "callbacks/", it.callbacks, ReferenceOr Callback);
+        self.list("parameters/", &it.parameters);
+        self.some("requestBody", &it.request_body);
+        self.some("responses/default", &it.responses.default);
+        self.codes("responses/", &it.responses.responses);
+        self.map("callbacks/", &it.callbacks);
     }
 
     /// Adds the media types of a body, a parameter or a header.
     fn content(&mut self, it: &'a Content) {
-        add_map!(self, "content/", it, MediaType);
+        self.items("content/", it);
     }
 
     /// Adds the parts of a media type.
     fn media_type(&mut self, it: &'a MediaType) {
-        add_some!(self, "schema", it.schema, ReferenceOr Schema);
-        add_map!(self, "examples/", it.examples, ReferenceOr Example);
-        add_map!(self, "encoding/", it.encoding, Encoding);
+        self.some("schema", &it.schema);
+        self.map("examples/", &it.examples);
+        self.items("encoding/", &it.encoding);
     }
 
     /// Adds the parts of a parameter or a header.
@@ -166,13 +200,10 @@ impl<'a> Parts<Part<'a>> {
         examples: &'a OrderedMap<ReferenceOr<Example>>,
     ) {
         match format {
-            ParameterSchemaOrContent::Schema(it) => self.add(
-                "schema",
-                part!(it, ReferenceOr Schema),
-            ),
+            ParameterSchemaOrContent::Schema(it) => self.one("schema", it),
             ParameterSchemaOrContent::Content(it) => self.content(it),
         }
-        add_map!(self, "examples/", examples, ReferenceOr Example);
+        self.map("examples/", examples);
     }
 
     /// Adds the schemas of the properties of an object.
@@ -181,9 +212,9 @@ impl<'a> Parts<Part<'a>> {
         properties: &'a OrderedMap<ReferenceOr<Box<Schema>>>,
         additional: &'a Option<AdditionalProperties>,
     ) {
-        add_map!(self, "properties/", properties, ReferenceOr Schema);
+        self.map("properties/", properties);
         if let Some(AdditionalProperties::Schema(it)) = additional {
-            self.add("additionalProperties", part!(it, Box ReferenceOr Schema));
+            self.one("additionalProperties", it);
         }
     }
 
@@ -193,14 +224,12 @@ impl<'a> Parts<Part<'a>> {
             SchemaKind::Typed(Type::Object(it)) => {
                 self.properties(&it.properties, &it.additional_properties)
             }
-            SchemaKind::Typed(Type::Array(it)) => {
-                add_some!(self, "items", it.items, ReferenceOr Schema);
-            }
+            SchemaKind::Typed(Type::Array(it)) => self.some("items", &it.items),
             SchemaKind::Typed(_) => {}
-            SchemaKind::OneOf { one_of } => add_list!(self, "oneOf/", one_of, ReferenceOr Schema),
-            SchemaKind::AllOf { all_of } => add_list!(self, "allOf/", all_of, ReferenceOr Schema),
-            SchemaKind::AnyOf { any_of } => add_list!(self, "anyOf/", any_of, ReferenceOr Schema),
-            SchemaKind::Not { not } => self.add("not", part!(not, Box ReferenceOr Schema)),
+            SchemaKind::OneOf { one_of } => self.list("oneOf/", one_of),
+            SchemaKind::AllOf { all_of } => self.list("allOf/", all_of),
+            SchemaKind::AnyOf { any_of } => self.list("anyOf/", any_of),
+            SchemaKind::Not { not } => self.one("not", not),
             SchemaKind::Any(it) => self.any_schema(it),
         }
     }
@@ -208,19 +237,21 @@ impl<'a> Parts<Part<'a>> {
     /// Adds the schemas inside a schema of no kind.
     fn any_schema(&mut self, it: &'a AnySchema) {
         self.properties(&it.properties, &it.additional_properties);
-        add_some!(self, "items", it.items, ReferenceOr Schema);
-        add_list!(self, "oneOf/", it.one_of, ReferenceOr Schema);
-        add_list!(self, "allOf/", it.all_of, ReferenceOr Schema);
-        add_list!(self, "anyOf/", it.any_of, ReferenceOr Schema);
-        add_some!(self, "not", it.not, Box ReferenceOr Schema);
+        self.some("items", &it.items);
+        self.list("oneOf/", &it.one_of);
+        self.list("allOf/", &it.all_of);
+        self.list("anyOf/", &it.any_of);
+        if let Some(it) = &it.not {
+            self.one("not", it);
+        }
     }
 
     /// Adds the parts of a part, in the order of its fields.
     pub(crate) fn inside(&mut self, part: Part<'a>) {
         match part {
             Part::Document(it) => {
-                add_map!(self, "paths/", it.paths.paths, ReferenceOr PathItem);
-                add_some!(self, "components", it.components, Components);
+                self.map("paths/", &it.paths.paths);
+                self.some_item("components", &it.components);
             }
             Part::Components(it) => self.components(it),
             Part::PathItem(it) => self.path_item(it),
@@ -231,16 +262,14 @@ impl<'a> Parts<Part<'a>> {
             }
             Part::RequestBody(it) => self.content(&it.content),
             Part::Response(it) => {
-                add_map!(self, "headers/", it.headers, ReferenceOr Header);
+                self.map("headers/", &it.headers);
                 self.content(&it.content);
-                add_map!(self, "links/", it.links, ReferenceOr Link);
+                self.map("links/", &it.links);
             }
             Part::Header(it) => self.described(&it.format, &it.examples),
             Part::MediaType(it) => self.media_type(it),
-            Part::Encoding(it) => add_map!(self, "headers/", it.headers, ReferenceOr Header),
-            Part::Callback(it) => {
-                add_map!(self, "", it.paths, PathItem);
-            }
+            Part::Encoding(it) => self.map("headers/", &it.headers),
+            Part::Callback(it) => self.items("", &it.paths),
             Part::Schema(it) => self.schema(it),
             Part::Example(_) | Part::Link(_) | Part::SecurityScheme(_) | Part::Reference(_) => {}
         }
